@@ -1,0 +1,4 @@
+pub mod LongestLaws
+pub mod PrefixLaws
+pub mod Reading
+pub mod RoundTrip

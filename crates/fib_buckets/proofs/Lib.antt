@@ -1,0 +1,4 @@
+pub mod Ranks
+pub mod Sixteen
+pub mod Runs
+pub mod Fair

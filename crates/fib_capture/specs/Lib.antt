@@ -1,0 +1,4 @@
+pub mod Captures
+pub mod FlowHash
+pub mod Spans
+pub mod Written

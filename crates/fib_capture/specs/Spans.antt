@@ -1,0 +1,40 @@
+-- Where the packets of a capture stand in its file.
+use Rattle.std.specs.Prelude.{ℕ, ◌+◌, ◌-◌, List, [], ◌∷◌, Option, Some, None, Result, Ok, Err, length, drop}
+use Rattle.fib_capture.specs.Captures.{packet_of, frames_of, header_of}
+use Rattle.fib_capture.specs.declared.packet.Packet.{Packet}
+use Rattle.fib_capture.specs.declared.packet.Packet.TheVariants as packets
+use Rattle.fib_capture.specs.declared.packet.CaptureError.{CaptureError}
+use Rattle.fib_capture.specs.declared.packet.Order.{Order}
+use Rattle.fib_capture.specs.declared.packet.Link.{Link}
+use Rattle.fib_capture.specs.declared.packet.Link.TheVariants.{Ethernet, Raw}
+
+-- a packet's first byte in the file and the number of its captured bytes, from its IPv4 header on. None where it is no flow
+abbrev pub Span : Type 0
+Span = Option (ℕ × ℕ)
+
+-- the number of a frame's bytes before its IPv4 header
+abbrev pub link_length : Link → ℕ
+link_length Ethernet = 14
+link_length Raw = 0
+
+abbrev pub span_of_packet : Packet → ℕ × ℕ → Span
+span_of_packet (packets.Flow addr hash) span = Some span
+span_of_packet packets.NotIpv4 span = None
+span_of_packet packets.BadHeader span = None
+
+-- the span of a frame whose captured bytes begin at a place of the file
+unfoldable pub span_of : Link → ℕ → List ℕ → Span
+span_of link start frame = span_of_packet (packet_of link frame) (start + link_length link, length frame - link_length link)
+
+-- the spans of records that begin at a place of the file: each is 16 bytes and its captured bytes
+unfoldable pub spans_from : Link → ℕ → List (List ℕ) → List Span
+spans_from link at [] = []
+spans_from link at (frame ∷ frames) = span_of link (at + 16) frame ∷ spans_from link (at + 16 + length frame) frames
+
+abbrev pub spans_after : List ℕ → Result (Order × Link) CaptureError → Result (List Span) CaptureError
+spans_after bytes (Err e) = Err e
+spans_after bytes (Ok h) = Ok (spans_from h.1 24 (frames_of h.0 (drop 24 bytes)))
+
+-- the spans of a file's packets in order, or why it is refused: as its capture is
+unfoldable pub spans_of : List ℕ → Result (List Span) CaptureError
+spans_of bytes = spans_after bytes (header_of bytes)

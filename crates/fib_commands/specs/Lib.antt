@@ -1,0 +1,6 @@
+pub mod Canonical
+pub mod Lines
+pub mod Names
+pub mod Paths
+pub use Rattle.fib_lines.specs.Lines as FileLines
+pub use Rattle.fib_lines.specs.Words

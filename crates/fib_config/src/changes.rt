@@ -1,0 +1,293 @@
+// The parts of edited tables, made anew.
+
+ghost use Rattle.std.specs.Prelude.{◌≡◌, ℕ, ◌+◌, ◌≤◌, ◌<◌, ◌++◌, [], ◌∷◌, OnOk, IfOk, map, filter, not, position, length, unwrap_or, All};
+ghost use Rattle.std.specs.List.{list_any};
+ghost use Rattle.fib_resolve.specs.Keys.{key_of, key_lt, same_key};
+ghost use Rattle.fib_resolve.specs.Tables.{has_name, interface_named, same_address, same_neighbor, is_route};
+ghost use Rattle.fib_resolve.specs.Edits.{number_of, with_state, set_neighbor, set_path, set_paths, kind_of, path_of, source_of, paths_at, set_route, without_route, lacks_key, without_paths, route_left, routes_without};
+
+use fib_addr::{Addr, Prefix};
+use fib_resolve::{
+    Address, Duplicate, FibSource, Interface, List, Name, Neighbor, Path, PathKind, PathSpec,
+    Route, SpecKind, Tables, keys,
+};
+use std::alloc::{AllocError, Global};
+
+pub fn interface_named(tables: &Tables, name: &Name) -> Option<usize>
+    ensures { result ≡ interface_named tables.now name.now }
+{
+    tables
+        .interfaces
+        .as_slice()
+        .iter()
+        .position(|i| i.name.is(name))
+}
+
+fn with_state(alloc: Global, name: &Name, up: bool, i: &Interface) -> Result<Interface, AllocError>
+    ensures { IfOk result (λ x. x ≡ with_state name.now up i.now) }
+{
+    Ok(Interface {
+        name: i.name.duplicate(alloc)?,
+        up: if i.name.is(name) { up } else { i.up },
+    })
+}
+
+pub fn with_states(
+    alloc: Global,
+    name: &Name,
+    up: bool,
+    interfaces: &[Interface],
+) -> Result<List<Interface>, AllocError>
+    ensures { IfOk result (λ x. x ≡ map (with_state name.now up) interfaces.now) }
+{
+    let mut out = List::new(alloc);
+    for i in interfaces {
+        out.push(with_state(alloc, name, up, i)?)?;
+    }
+    Ok(out)
+}
+
+/// The list with the path in its place.
+pub fn set_path(alloc: Global, p: Path, list: &[Path]) -> Result<List<Path>, AllocError>
+    ensures { IfOk result (λ x. x ≡ set_path p list.now) }
+{
+    let key = keys::key_of(&p);
+    let mut out = List::new(alloc);
+    let mut is_set = false;
+    for q in list {
+        let here = keys::key_of(q);
+        if is_set || keys::is_before(here, key) {
+            out.push(*q)?;
+        } else {
+            out.push(p)?;
+            is_set = true;
+            if !keys::is_same_key(here, key) {
+                out.push(*q)?;
+            }
+        }
+    }
+    if !is_set {
+        out.push(p)?;
+    }
+    Ok(out)
+}
+
+pub fn set_paths(alloc: Global, old: &[Path], paths: &[Path]) -> Result<List<Path>, AllocError>
+    ensures { IfOk result (λ x. x ≡ set_paths old.now paths.now) }
+{
+    let mut out = List::from_vec(Vec::from_slice(alloc, old)?);
+    for p in paths {
+        out = set_path(alloc, *p, out.as_slice())?;
+    }
+    Ok(out)
+}
+
+pub fn is_route(prefix: Prefix, source: FibSource, r: &Route) -> bool
+    ensures { result ≡ is_route prefix source r.now }
+{
+    r.prefix == prefix && keys::is_same_source(r.source, source)
+}
+
+pub fn paths_at<'a>(prefix: Prefix, source: FibSource, routes: &'a [Route]) -> &'a [Path]
+    ensures { result.now ≡ paths_at prefix source routes.now }
+{
+    for r in routes {
+        if is_route(prefix, source, r) {
+            return r.paths.as_slice();
+        }
+    }
+    &[]
+}
+
+/// The routes with this one in its place.
+pub fn set_route(alloc: Global, new: Route, routes: &[Route]) -> Result<List<Route>, AllocError>
+    ensures { IfOk result (λ x. x ≡ set_route new routes.now) }
+{
+    let (prefix, source) = (new.prefix, new.source);
+    let mut out = List::new(alloc);
+    let mut left = Some(new);
+    for r in routes {
+        if is_route(prefix, source, r) {
+            match left.take() {
+                Some(route) => out.push(route)?,
+                None => out.push(r.duplicate(alloc)?)?,
+            }
+        } else {
+            out.push(r.duplicate(alloc)?)?;
+        }
+    }
+    if let Some(route) = left {
+        out.push(route)?;
+    }
+    Ok(out)
+}
+
+/// The number of the interface with that name, where there is one.
+pub fn number_of(tables: &Tables, name: &Name) -> u32
+    requires { length tables.now.interfaces ≤ 256 }
+    ensures { result ≡ number_of tables.now name.now }
+{
+    interface_named(tables, name).unwrap_or(0) as u32
+}
+
+fn kind_of(tables: &Tables, kind: &SpecKind) -> PathKind
+    requires { length tables.now.interfaces ≤ 256 }
+    ensures { result ≡ kind_of tables.now kind.now }
+{
+    match kind {
+        SpecKind::Drop => PathKind::Drop,
+        SpecKind::Local => PathKind::Local,
+        SpecKind::Attached(name) => PathKind::Attached(number_of(tables, name)),
+        SpecKind::Hop(addr, name) => PathKind::Hop {
+            next_hop: *addr,
+            interface: number_of(tables, name),
+        },
+        SpecKind::Recursive(addr) => PathKind::Recursive(*addr),
+    }
+}
+
+fn path_of(tables: &Tables, spec: &PathSpec) -> Path
+    requires { length tables.now.interfaces ≤ 256 }
+    ensures { result ≡ path_of tables.now spec.now }
+{
+    Path {
+        kind: kind_of(tables, &spec.kind),
+        need: spec.need,
+        weight: spec.weight,
+        preference: spec.preference,
+    }
+}
+
+/// The paths that are written so.
+pub fn paths_of(alloc: Global, tables: &Tables, specs: &[PathSpec]) -> Result<Vec<Path>, AllocError>
+    requires { length tables.now.interfaces ≤ 256 }
+    ensures { IfOk result (λ v. v.items ≡ map (path_of tables.now) specs.now) }
+{
+    specs
+        .iter()
+        .map(|spec| path_of(tables, spec))
+        .collect(alloc)
+}
+
+pub fn source_of(api: bool) -> FibSource
+    ensures { result ≡ source_of api }
+{
+    if api { FibSource::Api } else { FibSource::Cli }
+}
+
+fn is_same_address(a: &Address, b: &Address) -> bool
+    ensures { result ≡ same_address a.now b.now }
+{
+    a.interface == b.interface && a.addr == b.addr && a.len == b.len
+}
+
+/// The addresses without one.
+pub fn without_address(
+    alloc: Global,
+    gone: &Address,
+    addresses: &[Address],
+) -> Result<List<Address>, AllocError>
+    ensures { IfOk result (λ x. x ≡ filter (λ a. not (same_address a gone.now)) addresses.now) }
+{
+    let kept: Vec<Address> = addresses
+        .iter()
+        .copied()
+        .filter(|a| !is_same_address(a, gone))
+        .collect(alloc)?;
+    Ok(List::from_vec(kept))
+}
+
+fn is_same_neighbor(m: &Neighbor, n: &Neighbor) -> bool
+    ensures { result ≡ same_neighbor m.now n.now }
+{
+    m.interface == n.interface && m.addr == n.addr
+}
+
+/// The neighbors with this one in its place.
+pub fn set_neighbor(
+    alloc: Global,
+    new: Neighbor,
+    neighbors: &[Neighbor],
+) -> Result<List<Neighbor>, AllocError>
+    ensures { IfOk result (λ x. x ≡ set_neighbor new neighbors.now) }
+{
+    let mut out = List::new(alloc);
+    let mut is_set = false;
+    for m in neighbors {
+        if !is_set && is_same_neighbor(m, &new) {
+            out.push(new)?;
+            is_set = true;
+        } else {
+            out.push(*m)?;
+        }
+    }
+    if !is_set {
+        out.push(new)?;
+    }
+    Ok(out)
+}
+
+/// The neighbors without that pair.
+pub fn without_neighbor(
+    alloc: Global,
+    interface: u32,
+    addr: Addr,
+    neighbors: &[Neighbor],
+) -> Result<List<Neighbor>, AllocError>
+    ensures { IfOk result (λ x. x ≡ filter (λ n. not (same_neighbor n (record { interface = interface; addr = addr; mac = 0 }))) neighbors.now) }
+{
+    let kept: Vec<Neighbor> = neighbors
+        .iter()
+        .copied()
+        .filter(|n| !(n.interface == interface && n.addr == addr))
+        .collect(alloc)?;
+    Ok(List::from_vec(kept))
+}
+
+/// The routes without that one.
+pub fn without_route(
+    alloc: Global,
+    prefix: Prefix,
+    source: FibSource,
+    routes: &[Route],
+) -> Result<List<Route>, AllocError>
+    ensures { IfOk result (λ x. x ≡ without_route prefix source routes.now) }
+{
+    let mut out = List::new(alloc);
+    for r in routes {
+        if !is_route(prefix, source, r) {
+            out.push(r.duplicate(alloc)?)?;
+        }
+    }
+    Ok(out)
+}
+
+fn is_same_key(p: &Path, q: &Path) -> bool
+    ensures { result ≡ same_key (key_of p.now) (key_of q.now) }
+{
+    keys::is_same_key(keys::key_of(p), keys::key_of(q))
+}
+
+pub fn has_key(paths: &[Path], p: &Path) -> bool
+    ensures { result ≡ list_any (λ q. same_key (key_of q) (key_of p.now)) paths.now }
+{
+    paths.iter().any(|q| is_same_key(q, p))
+}
+
+fn lacks_key(paths: &[Path], p: &Path) -> bool
+    ensures { result ≡ lacks_key paths.now p.now }
+{
+    !has_key(paths, p)
+}
+
+/// What is left of the list without the keys of the others.
+pub fn without_paths(alloc: Global, old: &[Path], gone: &[Path]) -> Result<List<Path>, AllocError>
+    ensures { IfOk result (λ x. x ≡ without_paths old.now gone.now) }
+{
+    let kept: Vec<Path> = old
+        .iter()
+        .copied()
+        .filter(|p| lacks_key(gone, p))
+        .collect(alloc)?;
+    Ok(List::from_vec(kept))
+}

@@ -1,0 +1,102 @@
+// The configuration.
+ghost use Rattle.std.specs.Prelude.{◌≡◌, ℕ, ◌≤◌, ◌<◌, ◌^◌, ◌-◌, OnOk, OnErr, IfOk, IfErr, None, Ok, length};
+ghost use Rattle.std.specs.List.{AllByRecursion};
+ghost use Rattle.fib_resolve.specs.Tables.{fresh, IsSound};
+ghost use Rattle.fib_resolve.specs.Edits.{edited};
+ghost use Rattle.fib_resolve.specs.Refusals.{refused, edited_in_turn};
+ghost use Rattle.fib_resolve.specs.Reachable.{IsWritten};
+ghost use Rattle.fib_config.specs.Config.{Tells, TellsStop};
+
+use crate::errors::{BatchError, EditError};
+use crate::{edits, reasons, sizes};
+use fib_resolve::{Duplicate, Edit, List, Refusal, Tables};
+use std::alloc::{AllocError, Global};
+use std::marker::Model;
+
+/// Tables that edits made, and the most objects that they may take.
+#[derive(Drop)]
+pub struct Config {
+    held: Tables,
+    most: u32,
+    alloc: Global,
+}
+
+impl Model for Config {
+    ghost use Rattle.fib_config.specs.Config.{Setup, IsFine};
+
+    ghost Value = { Setup };
+
+    ghost view = { λ c. record { tables = c.held; room = c.most } };
+
+    ghost invariant = { λ c. IsFine (record { tables = c.held; room = c.most }) };
+}
+
+impl Config {
+    /// Empty tables, which take 20 objects of that room.
+    pub fn new(alloc: Global, room: u32) -> Result<Config, AllocError>
+        requires least { 20 ≤ room }
+        requires most { room < 2 ^ 32 - 1 }
+        ensures { IfOk result (λ c. c ≡ record { tables = fresh; room = room }) }
+    {
+        Ok(Config {
+            held: Tables {
+                interfaces: List::new(alloc),
+                addresses: List::new(alloc),
+                neighbors: List::new(alloc),
+                routes: List::new(alloc),
+            },
+            most: room,
+            alloc,
+        })
+    }
+
+    /// The tables as they are.
+    pub fn tables(&self) -> &Tables
+        ensures value { result.now ≡ self.now.tables }
+        ensures sound { IsSound result.now }
+    {
+        &self.held
+    }
+
+    /// A configuration of the same tables and room.
+    pub fn copy(&self) -> Result<Config, AllocError>
+        ensures { IfOk result (λ c. c ≡ self.now) }
+    {
+        Ok(Config {
+            held: self.held.duplicate(self.alloc)?,
+            most: self.most,
+            alloc: self.alloc,
+        })
+    }
+
+    /// Makes the edit, or says why not. After a fault nothing has changed.
+    ///
+    /// Refused comes exactly where a reason applies, and with the first one that does; the last reason is that the edited tables
+    /// take more objects than there is room for.
+    pub fn edit(&mut self, edit: &Edit) -> Result<(), EditError>
+        requires { IsWritten edit.now }
+        ensures accepted { OnOk result (refused self.old.tables self.old.room edit.now ≡ None) }
+        ensures edited { OnOk result (self.new ≡ record { tables = edited self.old.tables edit.now; room = self.old.room }) }
+        ensures refused { IfErr result (Tells (refused self.old.tables self.old.room edit.now)) }
+        ensures err { OnErr result (self.new ≡ self.old) }
+    {
+        let next = edits::made(self.alloc, &self.held, self.most, edit)?;
+        self.held = next;
+        Ok(())
+    }
+
+    /// Makes the edits in turn, or says which is the first that is refused on the tables that those before it give, and why. After a
+    /// fault nothing has changed.
+    pub fn edit_all(&mut self, edits: &[Edit]) -> Result<(), BatchError>
+        requires written { AllByRecursion IsWritten edits.now }
+        requires few { length edits.now < 2 ^ 32 }
+        ensures made { OnOk result (edited_in_turn self.old.tables self.old.room edits.now ≡ Ok self.new.tables) }
+        ensures room { self.new.room ≡ self.old.room }
+        ensures refused { IfErr result (TellsStop (edited_in_turn self.old.tables self.old.room edits.now)) }
+        ensures err { OnErr result (self.new ≡ self.old) }
+    {
+        let next = edits::made_in_turn(self.alloc, &self.held, self.most, edits)?;
+        self.held = next;
+        Ok(())
+    }
+}

@@ -1,0 +1,18 @@
+//! The configuration of a router: its tables, and the edits that change them.
+//!
+//! An edit either gives the edited tables or is refused by the first reason that applies, and then nothing changes.
+#![tactic(auto)]
+
+mod bounds;
+mod changes;
+mod config;
+mod edits;
+mod errors;
+mod reasons;
+mod sizes;
+
+pub use config::Config;
+pub use errors::{BatchError, EditError};
+
+#[cfg(test)]
+mod tests;

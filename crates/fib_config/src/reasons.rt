@@ -1,0 +1,228 @@
+// Why an edit is refused.
+ghost use Rattle.std.specs.Prelude.{◌≡◌, ◌≤◌, [], ◌∷◌, IfOk, All, length, nat_lt};
+ghost use Rattle.std.specs.List.{list_any};
+ghost use Rattle.fib_resolve.specs.Keys.{kind_rank};
+ghost use Rattle.fib_resolve.specs.Tables.{IsSound, same_address, same_neighbor, connects_elsewhere, is_mixed, is_route};
+ghost use Rattle.fib_resolve.specs.Edits.{source_of};
+ghost use Rattle.fib_resolve.specs.Refusals.{unknown, names_unknown, some_unknown, has_address, connected_elsewhere, has_neighbor, has_route, lacks_a_key, when, reasons, first_reason};
+ghost use Rattle.fib_resolve.specs.Reachable.{IsWritten};
+
+use crate::changes;
+use fib_addr::{Addr, Prefix};
+use fib_resolve::{
+    Address, Edit, FibSource, Name, Neighbor, Path, PathSpec, Refusal, SpecKind, Tables,
+};
+use std::alloc::{AllocError, Global};
+
+fn is_unknown(tables: &Tables, name: &Name) -> bool
+    ensures { result ≡ unknown tables.now name.now }
+{
+    changes::interface_named(tables, name).is_none()
+}
+
+fn names_unknown(tables: &Tables, kind: &SpecKind) -> bool
+    ensures { result ≡ names_unknown tables.now kind.now }
+{
+    match kind {
+        SpecKind::Attached(name) | SpecKind::Hop(_, name) => is_unknown(tables, name),
+        _ => false,
+    }
+}
+
+fn some_unknown(tables: &Tables, specs: &[PathSpec]) -> bool
+    ensures { result ≡ some_unknown tables.now specs.now }
+{
+    specs.iter().any(|spec| names_unknown(tables, &spec.kind))
+}
+
+fn is_same_address(a: &Address, b: &Address) -> bool
+    ensures { result ≡ same_address a.now b.now }
+{
+    a.interface == b.interface && a.addr == b.addr && a.len == b.len
+}
+
+fn has_address(tables: &Tables, a: &Address) -> bool
+    ensures { result ≡ has_address tables.now a.now }
+{
+    tables
+        .addresses
+        .as_slice()
+        .iter()
+        .any(|b| is_same_address(b, a))
+}
+
+fn connects_elsewhere(a: &Address, b: &Address) -> bool
+    requires a { a.now.len ≤ 32 }
+    requires b { b.now.len ≤ 32 }
+    ensures { result ≡ connects_elsewhere a.now b.now }
+{
+    b.len < 32
+        && b.interface != a.interface
+        && Prefix::masked(b.addr, b.len) == Prefix::masked(a.addr, a.len)
+}
+
+fn connected_elsewhere(tables: &Tables, a: &Address) -> bool
+    requires a { a.now.len ≤ 32 }
+    requires all { All (λ b. b.len ≤ 32) tables.now.addresses }
+    ensures { result ≡ connected_elsewhere tables.now a.now }
+{
+    if a.len >= 32 {
+        return false;
+    }
+    for b in tables.addresses.as_slice() {
+        if connects_elsewhere(a, b) {
+            return true;
+        }
+    }
+    false
+}
+
+fn has_neighbor(tables: &Tables, interface: u32, addr: Addr) -> bool
+    ensures { result ≡ has_neighbor tables.now (record { interface = interface; addr = addr; mac = 0 }) }
+{
+    tables
+        .neighbors
+        .as_slice()
+        .iter()
+        .any(|n| n.interface == interface && n.addr == addr)
+}
+
+fn has_drop_or_local(paths: &[Path]) -> bool
+    ensures { result ≡ list_any (λ p. nat_lt (kind_rank p.kind) 2) paths.now }
+{
+    paths.iter().any(|p| p.kind.rank() < 2)
+}
+
+fn is_mixed(paths: &[Path]) -> bool
+    ensures { result ≡ is_mixed paths.now }
+{
+    paths.len() > 1 && has_drop_or_local(paths)
+}
+
+fn lacks_a_key(old: &[Path], paths: &[Path]) -> bool
+    ensures { result ≡ lacks_a_key old.now paths.now }
+{
+    paths.iter().any(|p| !changes::has_key(old, p))
+}
+
+fn has_route(tables: &Tables, prefix: Prefix, source: FibSource) -> bool
+    ensures { result ≡ list_any (is_route prefix source) tables.now.routes }
+{
+    tables
+        .routes
+        .as_slice()
+        .iter()
+        .any(|r| changes::is_route(prefix, source, r))
+}
+
+fn refused_address(tables: &Tables, a: &Address) -> Option<Refusal>
+    requires a { a.now.len ≤ 32 }
+    requires all { All (λ b. b.len ≤ 32) tables.now.addresses }
+    ensures { result ≡ first_reason (when (has_address tables.now a.now) Refusal.AddressThere ∷ when (connected_elsewhere tables.now a.now) Refusal.ConnectedElsewhere ∷ []) }
+{
+    if has_address(tables, a) {
+        Some(Refusal::AddressThere)
+    } else if connected_elsewhere(tables, a) {
+        Some(Refusal::ConnectedElsewhere)
+    } else {
+        None
+    }
+}
+
+/// Why the edit is refused, apart from the size.
+#[tactic(auto, using(crate::proofs::Made::short_addresses))]
+pub fn own_refusal(
+    alloc: Global,
+    tables: &Tables,
+    edit: &Edit,
+) -> Result<Option<Refusal>, AllocError>
+    requires sound { IsSound tables.now }
+    requires written { IsWritten edit.now }
+    ensures { IfOk result (λ o. o ≡ first_reason (reasons tables.now edit.now)) }
+{
+    match edit {
+        Edit::CreateInterface(name) => {
+            if !is_unknown(tables, name) {
+                Ok(Some(Refusal::InterfaceExists))
+            } else if tables.interfaces.as_slice().len() >= 256 {
+                Ok(Some(Refusal::TooManyInterfaces))
+            } else {
+                Ok(None)
+            }
+        }
+        Edit::SetState { name, .. } | Edit::SetNeighbor { name, .. } => {
+            if is_unknown(tables, name) {
+                Ok(Some(Refusal::NoSuchInterface))
+            } else {
+                Ok(None)
+            }
+        }
+        Edit::AddAddress { name, addr, len } => {
+            if is_unknown(tables, name) {
+                return Ok(Some(Refusal::NoSuchInterface));
+            }
+            let address = Address {
+                interface: changes::number_of(tables, name),
+                addr: *addr,
+                len: *len,
+            };
+            Ok(refused_address(tables, &address))
+        }
+        Edit::DelAddress { name, addr, len } => {
+            if is_unknown(tables, name) {
+                return Ok(Some(Refusal::NoSuchInterface));
+            }
+            let address = Address {
+                interface: changes::number_of(tables, name),
+                addr: *addr,
+                len: *len,
+            };
+            if !has_address(tables, &address) {
+                Ok(Some(Refusal::NoSuchAddress))
+            } else {
+                Ok(None)
+            }
+        }
+        Edit::DelNeighbor { name, addr } => {
+            if is_unknown(tables, name) {
+                Ok(Some(Refusal::NoSuchInterface))
+            } else if !has_neighbor(tables, changes::number_of(tables, name), *addr) {
+                Ok(Some(Refusal::NoSuchNeighbor))
+            } else {
+                Ok(None)
+            }
+        }
+        Edit::AddRoute { prefix, api, paths } => {
+            if some_unknown(tables, paths.as_slice()) {
+                return Ok(Some(Refusal::NoSuchInterface));
+            }
+            let source = changes::source_of(*api);
+            let new = changes::paths_of(alloc, tables, paths.as_slice())?;
+            let old = changes::paths_at(*prefix, source, tables.routes.as_slice());
+            let list = changes::set_paths(alloc, old, new.as_slice())?;
+            if is_mixed(list.as_slice()) {
+                Ok(Some(Refusal::MixedPaths))
+            } else if list.as_slice().len() > 16 {
+                Ok(Some(Refusal::TooManyPaths))
+            } else {
+                Ok(None)
+            }
+        }
+        Edit::DelRoute { prefix, api, paths } => {
+            if some_unknown(tables, paths.as_slice()) {
+                return Ok(Some(Refusal::NoSuchInterface));
+            }
+            let source = changes::source_of(*api);
+            if !has_route(tables, *prefix, source) {
+                return Ok(Some(Refusal::NoSuchRoute));
+            }
+            let gone = changes::paths_of(alloc, tables, paths.as_slice())?;
+            let old = changes::paths_at(*prefix, source, tables.routes.as_slice());
+            if lacks_a_key(old, gone.as_slice()) {
+                Ok(Some(Refusal::NoSuchPath))
+            } else {
+                Ok(None)
+            }
+        }
+    }
+}

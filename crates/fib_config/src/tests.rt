@@ -1,0 +1,65 @@
+// Each public call once, and the sizes that a router's first lines take.
+ghost use Rattle.std.specs.Prelude.{IfOk};
+ghost use Rattle.fib_resolve.specs.Reachable.{IsWritten};
+
+use super::*;
+use fib_addr::Addr;
+use fib_resolve::{Edit, List, Name, Refusal};
+use std::alloc::{AllocError, Global};
+use std::test::Fail;
+
+fn name(alloc: Global, text: &str) -> Result<Name, AllocError> {
+    Ok(Name::from_text(List::from_vec(text.as_bytes().to_vec(alloc)?)))
+}
+
+fn edit_of(alloc: Global, number: u32) -> Result<Edit, AllocError>
+    ensures { IfOk result IsWritten }
+{
+    match number {
+        0 => Ok(Edit::CreateInterface(name(alloc, "up0")?)),
+        1 => Ok(Edit::CreateInterface(name(alloc, "up1")?)),
+        2 => Ok(Edit::SetState {
+            name: name(alloc, "up0")?,
+            up: true,
+        }),
+        3 => Ok(Edit::SetState {
+            name: name(alloc, "up1")?,
+            up: true,
+        }),
+        4 => Ok(Edit::AddAddress {
+            name: name(alloc, "up0")?,
+            addr: Addr(0x0a01_0001),
+            len: 30,
+        }),
+        _ => Ok(Edit::AddAddress {
+            name: name(alloc, "up1")?,
+            addr: Addr(0x0a02_0001),
+            len: 30,
+        }),
+    }
+}
+
+#[test]
+fn two_links_of_thirty_objects(rt: HostRuntime) -> Result<(), Fail> {
+    let alloc = rt.alloc();
+    let mut config = Config::new(alloc, 32)?;
+    for number in 0..5 {
+        config.edit(&edit_of(alloc, number)?)?;
+    }
+    let sixth = edit_of(alloc, 5)?;
+    assert_eq!(rt;
+        config.edit(&sixth),
+        Err(EditError::Refused(Refusal::TooLarge))
+    );
+    let mut copy = config.copy()?;
+    assert_eq!(rt; copy.tables().interfaces.len(), 2);
+    assert_eq!(rt; copy.tables().addresses.len(), 1);
+    let edits = [edit_of(alloc, 3)?, sixth];
+    let refusal = Refusal::TooLarge;
+    assert_eq!(rt;
+        copy.edit_all(&edits),
+        Err(BatchError::Refused { place: 1, refusal })
+    );
+    assert_eq!(rt; copy.edit_all(&edits[..1]), Ok(()));
+    Ok(())
+}

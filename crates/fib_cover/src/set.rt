@@ -1,0 +1,145 @@
+// A set of prefixes.
+ghost use Rattle.std.specs.Prelude.{◌≡◌, ◌≢◌, ◌≤◌, ◌<◌, ℕ, [], ◌⊎◌, ◌↔◌, Contains, IsTrue, IfOk, OnOk, OnErr, filter, length};
+ghost use Rattle.std.specs.List.{All};
+ghost use Rattle.std.specs.BTreeMap.Range.{IsLeBy, range_contains};
+ghost use Rattle.fib_addr.specs.Prefixes.{Prefix as PrefixValue, IsPrefix};
+ghost use Rattle.fib_cover.specs.Covers.{IsAscending, IsLongestMatch, is_inside, prefix_cmp};
+
+use fib_addr::{Addr, Prefix};
+use std::alloc::{AllocError, Global};
+use std::collections::BTreeSet;
+use std::collections::btree_set::Range;
+use std::marker::Model;
+use std::ops::Bound;
+
+/// A set of prefixes. Contracts see it as the list of its members in order of bits, then length.
+#[derive(Drop)]
+pub struct PrefixSet {
+    members: BTreeSet<Prefix>,
+}
+
+impl Model for PrefixSet {
+    ghost use Rattle.std.specs.Prelude.{List};
+    ghost use Rattle.fib_addr.specs.Prefixes.{Prefix as PrefixValue};
+
+    ghost Value = { List PrefixValue };
+
+    ghost view = { λ s. s.members.keys };
+}
+
+impl PrefixSet {
+    /// The empty set, which takes no memory yet.
+    pub fn new(alloc: Global) -> PrefixSet
+        ensures { result ≡ [] }
+    {
+        PrefixSet {
+            members: BTreeSet::new(alloc),
+        }
+    }
+
+    /// Takes the prefix in; true exactly where it was no member. Where no memory is left the set stays as it was.
+    pub fn insert(&mut self, prefix: Prefix) -> Result<bool, AllocError>
+        ensures changed { IfOk result (λ added. IsTrue added ↔ (Contains self.old prefix → ⊥)) }
+        ensures members { OnOk result ((q : PrefixValue) → Contains self.new q ↔ Contains self.old q ⊎ (q ≡ prefix)) }
+        ensures err { OnErr result (self.new ≡ self.old) }
+        ensures ordered { IsAscending self.new }
+    {
+        let added = self.members.insert(prefix)?;
+        Ok(added)
+    }
+
+    /// Takes the prefix out; true exactly where it was a member. Takes no memory.
+    pub fn remove(&mut self, prefix: Prefix) -> bool
+        ensures changed { IsTrue result ↔ Contains self.old prefix }
+        ensures members { (q : PrefixValue) → Contains self.new q ↔ Contains self.old q × (q ≢ prefix) }
+        ensures ordered { IsAscending self.new }
+    {
+        self.members.remove(&prefix)
+    }
+
+    /// The number of members.
+    pub fn len(&self) -> usize
+        ensures len { result ≡ length self.now }
+        ensures ordered { IsAscending self.now }
+    {
+        self.members.len()
+    }
+
+    /// Whether there is no member.
+    pub fn is_empty(&self) -> bool
+        ensures { IsTrue result ↔ (self.now ≡ []) }
+    {
+        self.members.is_empty()
+    }
+
+    /// Whether the prefix is a member.
+    pub fn contains(&self, prefix: Prefix) -> bool
+        ensures { IsTrue result ↔ Contains self.now prefix }
+    {
+        self.members.contains(&prefix)
+    }
+
+    /// The longest member that contains the address; None exactly where no member does. At most one look-up a length.
+    pub fn best(&self, addr: Addr) -> Option<Prefix>
+        ensures { IsLongestMatch self.now 33 addr result }
+    {
+        longest(&self.members, addr, 33)
+    }
+
+    /// The longest member of a length below 32 that contains the address; None exactly where no such member does.
+    pub fn cover(&self, addr: Addr) -> Option<Prefix>
+        ensures { IsLongestMatch self.now 32 addr result }
+    {
+        longest(&self.members, addr, 32)
+    }
+
+    /// The members inside the prefix, in order: those at least as long whose first address is one of it. Costs what it yields.
+    ///
+    /// The clause's premises hold of each value of the type `Prefix`.
+    pub fn inside(&self, alloc: Global, prefix: Prefix) -> Result<Vec<Prefix>, AllocError>
+        ensures { IfOk result (λ v. IsPrefix prefix → All IsPrefix self.now → v.items ≡ filter (is_inside prefix) self.now) }
+    {
+        let last = Prefix::host(prefix.last());
+        between(alloc, &self.members, prefix, last)
+    }
+}
+
+/// The members from the first prefix to the last, in order.
+fn between(
+    alloc: Global,
+    members: &BTreeSet<Prefix>,
+    first: Prefix,
+    last: Prefix,
+) -> Result<Vec<Prefix>, AllocError>
+    requires { IsLeBy prefix_cmp first last }
+    ensures { IfOk result (λ v. v.items ≡ filter (range_contains prefix_cmp (Bound.Included first) (Bound.Included last)) members.now.keys) }
+{
+    gather(alloc, members.range(first..=last))
+}
+
+/// The prefixes that are left of a range.
+fn gather(alloc: Global, part: Range<'_, Prefix>) -> Result<Vec<Prefix>, AllocError>
+    ensures { IfOk result (λ v. v.items ≡ part.entry) }
+{
+    let mut out = Vec::new(alloc);
+    for prefix in part {
+        out.push(*prefix)?;
+    }
+    Ok(out)
+}
+
+/// The longest match below the limit: one look-up a length, from the longest on.
+fn longest(members: &BTreeSet<Prefix>, addr: Addr, limit: u8) -> Option<Prefix>
+    requires { limit ≤ 33 }
+    ensures { IsLongestMatch members.now.keys limit addr result }
+{
+    // Read so that the proof knows its range.
+    let _number = addr.0;
+    for len in (0..limit).rev() {
+        let prefix = Prefix::masked(addr, len);
+        if members.contains(&prefix) {
+            return Some(prefix);
+        }
+    }
+    None
+}

@@ -1,0 +1,4 @@
+pub mod Adjacencies
+pub mod Entries
+pub mod Order
+pub mod PathLists

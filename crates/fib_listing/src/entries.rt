@@ -1,0 +1,216 @@
+// The listing of entries.
+ghost use Rattle.std.specs.Prelude.{◌≡◌, ◌++◌, ◌||◌, OnOk, IfOk, flat_map, filter, map, codes, length, nat_lt};
+ghost use Rattle.std.specs.List.{list_any};
+ghost use Rattle.fib_addr.specs.Prefixes.{same_prefix};
+ghost use Rattle.fib_resolve.specs.Keys.{same_source};
+ghost use Rattle.fib_listing.specs.Order.{row_from, gap};
+ghost use Rattle.fib_listing.specs.Entries.{all_sources, source_text, has_source, sources_at, is_drop, cover_at, mark_text, marked_text, marked_from, sources_text, paths_text, entry_text, fib_text};
+
+use crate::order::prefixes_in_order;
+use fib_addr::{Prefix, put_prefix};
+use fib_oracle::Snapshot;
+use fib_print::put_path;
+use fib_resolve::keys::is_same_source;
+use fib_resolve::{FibSource, Pair, Path, PathKind};
+use std::alloc::{AllocError, Global};
+
+/// The sources, the best first.
+const ALL_SOURCES: [FibSource; 7] = [
+    FibSource::Special,
+    FibSource::Interface,
+    FibSource::Api,
+    FibSource::Cli,
+    FibSource::Adjacency,
+    FibSource::RecursiveResolution,
+    FibSource::DefaultRoute,
+];
+
+fn source_name(source: FibSource) -> &'static str
+    ensures { result.now ≡ source_text source }
+{
+    match source {
+        FibSource::Special => "special",
+        FibSource::Interface => "interface",
+        FibSource::Api => "api",
+        FibSource::Cli => "cli",
+        FibSource::Adjacency => "adjacency",
+        FibSource::RecursiveResolution => "recursive-resolution",
+        FibSource::DefaultRoute => "default-route",
+    }
+}
+
+fn has_source(pairs: &[Pair], e: Prefix, source: FibSource) -> bool
+    ensures { result ≡ has_source pairs.now e source }
+{
+    pairs
+        .iter()
+        .any(|x| x.prefix == e && is_same_source(x.source, source))
+}
+
+fn sources_at(
+    alloc: Global,
+    pairs: &[Pair],
+    e: Prefix,
+    among: &[FibSource],
+) -> Result<Vec<FibSource>, AllocError>
+    ensures { IfOk result (λ v. v.items ≡ filter (has_source pairs.now e) among.now) }
+{
+    let mut found = Vec::new(alloc);
+    for source in among {
+        if has_source(pairs, e, *source) {
+            found.push(*source)?;
+        }
+    }
+    Ok(found)
+}
+
+/// What stands before the text at that place.
+fn put_gap(out: &mut Vec<u8>, sep: &str, place: usize) -> Result<(), AllocError>
+    ensures { OnOk result (out.new.items ≡ out.old.items ++ gap sep.now place) }
+{
+    if place == 0 {
+        return Ok(());
+    }
+    out.extend_from_slice(sep.as_bytes())
+}
+
+fn put_names(out: &mut Vec<u8>, sources: &[FibSource]) -> Result<(), AllocError>
+    ensures { OnOk result (out.new.items ≡ out.old.items ++ row_from (codes "+") 0 (map source_text sources.now)) }
+{
+    for (k, source) in sources.iter().enumerate() {
+        put_gap(out, "+", k)?;
+        out.extend_from_slice(source_name(*source).as_bytes())?;
+    }
+    Ok(())
+}
+
+#[tactic(auto, unfolding(crate::specs::Entries::sources_text))]
+fn put_sources(
+    out: &mut Vec<u8>,
+    alloc: Global,
+    snapshot: &Snapshot<'_>,
+    e: Prefix,
+) -> Result<(), AllocError>
+    ensures { OnOk result (out.new.items ≡ out.old.items ++ sources_text snapshot.now e) }
+{
+    let sources = sources_at(alloc, snapshot.pairs(), e, &ALL_SOURCES)?;
+    put_names(out, &sources)
+}
+
+fn is_drop(kind: PathKind) -> bool
+    ensures { result ≡ is_drop kind }
+{
+    match kind {
+        PathKind::Drop => true,
+        _ => false,
+    }
+}
+
+fn cover_at(snapshot: &Snapshot<'_>, e: Prefix, kind: PathKind) -> Option<Prefix>
+    ensures { result ≡ cover_at snapshot.now e kind }
+{
+    match kind {
+        PathKind::Cover => Some(snapshot.cover(e.bits())),
+        _ => None,
+    }
+}
+
+fn mark_name(looped: bool, fine: bool) -> &'static str
+    ensures { result.now ≡ mark_text looped fine }
+{
+    if looped {
+        " looped"
+    } else if fine {
+        ""
+    } else {
+        " unresolved"
+    }
+}
+
+#[tactic(auto, unfolding(crate::specs::Entries::marked_text))]
+fn put_marked(
+    out: &mut Vec<u8>,
+    snapshot: &Snapshot<'_>,
+    e: Prefix,
+    place: usize,
+    path: &Path,
+) -> Result<(), AllocError>
+    ensures { OnOk result (out.new.items ≡ out.old.items ++ marked_text snapshot.now e place path.now) }
+{
+    put_path(
+        out,
+        snapshot.tables(),
+        path,
+        cover_at(snapshot, e, path.kind),
+    )?;
+    let fine = is_drop(path.kind) || snapshot.is_usable(e, place);
+    let mark = mark_name(snapshot.is_looped(e, place), fine);
+    out.extend_from_slice(mark.as_bytes())
+}
+
+fn put_marked_all(
+    out: &mut Vec<u8>,
+    snapshot: &Snapshot<'_>,
+    e: Prefix,
+    paths: &[Path],
+) -> Result<(), AllocError>
+    ensures { OnOk result (out.new.items ≡ out.old.items ++ marked_from snapshot.now e 0 paths.now) }
+{
+    for (place, path) in paths.iter().enumerate() {
+        put_gap(out, ", ", place)?;
+        put_marked(out, snapshot, e, place, path)?;
+    }
+    Ok(())
+}
+
+#[tactic(auto, unfolding(crate::specs::Entries::paths_text))]
+fn put_paths(out: &mut Vec<u8>, snapshot: &Snapshot<'_>, e: Prefix) -> Result<(), AllocError>
+    ensures { OnOk result (out.new.items ≡ out.old.items ++ paths_text snapshot.now e) }
+{
+    put_marked_all(out, snapshot, e, snapshot.chosen(e))
+}
+
+#[tactic(auto, unfolding(crate::specs::Entries::entry_text))]
+fn put_entry(
+    out: &mut Vec<u8>,
+    alloc: Global,
+    snapshot: &Snapshot<'_>,
+    e: Prefix,
+) -> Result<(), AllocError>
+    ensures { OnOk result (out.new.items ≡ out.old.items ++ entry_text snapshot.now e) }
+{
+    put_prefix(out, e)?;
+    out.extend_from_slice(b" ")?;
+    put_sources(out, alloc, snapshot, e)?;
+    out.extend_from_slice(b": ")?;
+    put_paths(out, snapshot, e)?;
+    out.extend_from_slice(b"\n")
+}
+
+fn put_all(
+    out: &mut Vec<u8>,
+    alloc: Global,
+    snapshot: &Snapshot<'_>,
+    entries: &[Prefix],
+) -> Result<(), AllocError>
+    ensures { OnOk result (out.new.items ≡ out.old.items ++ flat_map (entry_text snapshot.now) entries.now) }
+{
+    for e in entries {
+        put_entry(out, alloc, snapshot, *e)?;
+    }
+    Ok(())
+}
+
+/// Appends the text of `show ip fib`: a line for each effective entry, in order of bits, then of lengths, with the names of its
+/// sources from the best on and the paths of its chosen list, each with its mark.
+#[tactic(auto, unfolding(crate::specs::Entries::fib_text))]
+pub fn put_entries(
+    out: &mut Vec<u8>,
+    alloc: Global,
+    snapshot: &Snapshot<'_>,
+) -> Result<(), AllocError>
+    ensures { OnOk result (out.new.items ≡ out.old.items ++ fib_text snapshot.now) }
+{
+    let sorted = prefixes_in_order(alloc, snapshot.entries())?;
+    put_all(out, alloc, snapshot, &sorted)
+}

@@ -1,0 +1,16 @@
+//! The listings of a router's tables: `show ip fib`, `show fib path-lists` and `show adj`.
+//!
+//! Each is a text over a snapshot of the tables. Pairs, marks and forwarding are computed once, when the snapshot is made.
+#![tactic(auto)]
+
+mod adjacencies;
+mod entries;
+mod lists;
+mod order;
+
+pub use adjacencies::put_adjacencies;
+pub use entries::put_entries;
+pub use lists::put_path_lists;
+
+#[cfg(test)]
+mod tests;

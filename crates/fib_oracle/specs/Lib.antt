@@ -1,0 +1,6 @@
+pub mod Bases
+pub mod Places
+pub mod Rows
+pub mod Views
+pub mod Steps
+pub mod Snapshots

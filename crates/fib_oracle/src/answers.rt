@@ -1,0 +1,43 @@
+// Single answers over tables.
+ghost use Rattle.std.specs.Prelude.{◌≡◌, ◌^◌, ◌-◌, IfOk, min};
+ghost use Rattle.fib_resolve.specs.Forwarding.{usable_at};
+ghost use Rattle.fib_resolve.specs.Resolution.{resolve};
+ghost use Rattle.fib_resolve.specs.Sizes.{size};
+ghost use Rattle.fib_resolve.specs.Tables.{IsSound};
+
+use crate::snapshot::Snapshot;
+use fib_addr::{Addr, Prefix};
+use fib_resolve::{End, Tables};
+use std::alloc::{AllocError, Global};
+
+/// Where a packet for the address with that hash ends.
+pub fn resolve(alloc: Global, tables: &Tables, addr: Addr, hash: u32) -> Result<End, AllocError>
+    requires { IsSound tables.now }
+    ensures { IfOk result (λ end. end ≡ resolve tables.now addr hash) }
+{
+    let snapshot = Snapshot::new(alloc, tables)?;
+    snapshot.resolve(alloc, addr, hash)
+}
+
+/// How many objects the tables take, or 4,294,967,295 where that is more.
+pub fn size(alloc: Global, tables: &Tables) -> Result<u32, AllocError>
+    requires { IsSound tables.now }
+    ensures { IfOk result (λ n. n ≡ min (size tables.now) (2 ^ 32 - 1)) }
+{
+    let snapshot = Snapshot::new(alloc, tables)?;
+    snapshot.size(alloc)
+}
+
+/// Whether the path at that place of the prefix's chosen list is usable; false where there is none.
+pub fn usable(
+    alloc: Global,
+    tables: &Tables,
+    prefix: Prefix,
+    place: u32,
+) -> Result<bool, AllocError>
+    requires { IsSound tables.now }
+    ensures { IfOk result (λ b. b ≡ usable_at tables.now prefix place) }
+{
+    let snapshot = Snapshot::new(alloc, tables)?;
+    Ok(snapshot.is_usable(prefix, place as usize))
+}

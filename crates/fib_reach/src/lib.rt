@@ -1,0 +1,11 @@
+//! Finite directed graphs: whether a walk leads from one node to another, and the laws of walks and cycles.
+#![tactic(auto)]
+
+mod graph;
+pub mod laws;
+mod visit;
+
+pub use graph::Graph;
+
+#[cfg(test)]
+mod tests;

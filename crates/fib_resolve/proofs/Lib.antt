@@ -1,0 +1,16 @@
+pub mod Apart
+pub mod KeyOrder
+pub mod Entries
+pub mod PairLaws
+pub mod LoopTests
+pub mod Steady
+pub mod KeptEdges
+pub mod Taken
+pub mod FollowLimit
+pub mod Refused
+pub mod Sound
+pub mod OneList
+pub mod Answering
+pub mod Touching
+pub mod Covering
+pub mod TouchedEntries

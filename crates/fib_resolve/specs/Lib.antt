@@ -1,0 +1,12 @@
+pub mod Keys
+pub mod Pairs
+pub mod Loops
+pub mod Forwarding
+pub mod Buckets
+pub mod Resolution
+pub mod Sizes
+pub mod Tables
+pub mod Edits
+pub mod Refusals
+pub mod Reachable
+pub mod Touched

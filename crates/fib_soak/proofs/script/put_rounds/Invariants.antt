@@ -1,0 +1,10 @@
+use Rattle.std.proofs.Common.{◌≡◌, ◌++◌}
+use Rattle.fib_soak.specs.Draws.{repeated}
+use Rattle.fib_soak.specs.Scripts.{rounds, after_round, text_of}
+use Rattle.fib_soak.proofs.script.put_rounds.Given as goal
+
+abbrev pub invariant-loop : goal.invariant-loop
+invariant-loop l = record {
+  told : l.out.items ≡ l.initial.out.items ++ text_of (rounds l.counter l.initial.draws);
+  drawn : l.draws ≡ repeated after_round l.counter l.initial.draws;
+}
