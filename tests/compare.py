@@ -1,11 +1,12 @@
 #!/usr/bin/env python3
-"""Compares the program with a reference oracle, byte for byte, on generated command files.
+"""Judges the program's output by a reference oracle on generated command files and captures.
 
-    tests/compare.py PROGRAM ORACLE [--scripts N] [--lines N] [--first SEED]
+    tests/compare.py PROGRAM ORACLE [--scripts N] [--lines N] [--packets N] [--first SEED]
 
-PROGRAM is the built fib_tool; ORACLE is a Python program that knows `gen SEED --profile P -o DIR` (which writes a command
-file) and `expect COMMANDS` (which prints what the program must print). N command files of each profile are generated; lines
-that forward packets are left out. The first difference is shown and ends the run.
+PROGRAM is the built fib_tool; ORACLE is a Python program that knows `gen SEED --profile P -o DIR` (which writes a command file and a
+capture), `check --frozen COMMANDS CAPTURE OUTPUT` (which says whether a run whose workers forward by the tables at their round's
+opening may print that) and `expect COMMANDS CAPTURE` (which ends with the status that is due). N command files of each profile are generated, and each is run with 1, 3 and 8 workers, which must print
+the same. The first output that isn't allowed is shown and ends the run.
 """
 import argparse
 import pathlib
@@ -14,46 +15,50 @@ import sys
 import tempfile
 
 PROFILES = ["small", "recursive", "hostile", "batch", "need"]
+WORKERS = ["1", "3", "8"]
 
 
-def generated(oracle, seed, profile, lines, folder):
+def generated(asked, seed, profile, folder):
     subprocess.run(
-        [sys.executable, oracle, "gen", str(seed), "--profile", profile, "--lines", str(lines), "-o", folder],
+        [sys.executable, asked.oracle, "gen", str(seed), "--profile", profile, "--lines", str(asked.lines), "--packets", str(asked.packets), "-o", folder],
         check=True,
         stdout=subprocess.DEVNULL,
     )
-    files = [f for f in pathlib.Path(folder).iterdir() if f.suffix not in (".pcap", ".cap")]
-    commands = max(files, key=lambda f: f.name.startswith(("commands", "script", "c")))
-    text = commands.read_bytes()
-    kept = [line for line in text.split(b"\n") if not line.lstrip(b" \t").startswith(b"forward")]
-    commands.write_bytes(b"\n".join(kept))
-    return commands
+    return [str(pathlib.Path(folder) / name) for name in ("commands", "capture.pcap")]
+
+
+def failure(asked, files):
+    """Why the program's runs over these files are not allowed, or None."""
+    runs = [subprocess.run([asked.program, "--workers", n, *files], capture_output=True) for n in WORKERS]
+    if any(run.stdout != runs[0].stdout or run.returncode != runs[0].returncode for run in runs):
+        return "the number of workers changes the output"
+    if runs[0].returncode != 0:
+        wanted = subprocess.run([sys.executable, asked.oracle, "expect", *files], capture_output=True).returncode
+        return None if wanted == runs[0].returncode and not runs[0].stdout else f"status {runs[0].returncode}, and not {wanted}"
+    judged = subprocess.run([sys.executable, asked.oracle, "check", "--frozen", *files, "-"], input=runs[0].stdout, capture_output=True)
+    return None if judged.returncode == 0 else (judged.stdout + judged.stderr).decode(errors="replace")
 
 
 def main():
     parser = argparse.ArgumentParser()
     parser.add_argument("program")
     parser.add_argument("oracle")
-    parser.add_argument("--scripts", type=int, default=500)
+    parser.add_argument("--scripts", type=int, default=200)
     parser.add_argument("--lines", type=int, default=40)
+    parser.add_argument("--packets", type=int, default=40)
     parser.add_argument("--first", type=int, default=1)
     asked = parser.parse_args()
-    same = 0
     for profile in PROFILES:
         for seed in range(asked.first, asked.first + asked.scripts):
             with tempfile.TemporaryDirectory() as folder:
-                commands = generated(asked.oracle, seed, profile, asked.lines, folder)
-                want = subprocess.run([sys.executable, asked.oracle, "expect", str(commands)], capture_output=True)
-                got = subprocess.run([asked.program, str(commands)], capture_output=True)
-                if got.returncode != 0 or got.stdout != want.stdout:
-                    print(f"{profile} {seed}: status {got.returncode}")
-                    sys.stdout.write(commands.read_text(errors="replace"))
-                    print("--- wanted"); sys.stdout.write(want.stdout.decode(errors="replace"))
-                    print("--- printed"); sys.stdout.write(got.stdout.decode(errors="replace"))
+                files = generated(asked, seed, profile, folder)
+                why = failure(asked, files)
+                if why:
+                    print(f"{profile} {seed}: {why}")
+                    sys.stdout.write(pathlib.Path(files[0]).read_text(errors="replace"))
                     return 1
-                same += 1
-        print(f"{profile}: {asked.scripts} the same", flush=True)
-    print(f"{same} command files, no difference")
+        print(f"{profile}: {asked.scripts} allowed", flush=True)
+    print(f"{len(PROFILES) * asked.scripts} command files, each with {', '.join(WORKERS)} workers: all allowed")
     return 0
 
 

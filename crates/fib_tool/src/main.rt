@@ -1,4 +1,8 @@
-//! The command-line program: `fib_tool COMMANDS` runs a command file and prints its answers.
+//! The command-line program: it runs a command file, over a capture where one is named, and prints the answers.
+//!
+//! `fib_tool [--workers N] [--objects N] [--walk N] COMMANDS [CAPTURE]`
+//!
+//! `fib_tool [--workers N] [--objects N] [--walk N] --soak SEED`
 //!
 //! Its exit status is that of [`fib_main`]; words that the system cannot give count as a faulty command line.
 #![tactic(auto)]

@@ -3,7 +3,7 @@ ghost use Rattle.std.specs.Prelude.{◌≡◌, ◌++◌, ◌+◌, ◌<◌, ◌�
 ghost use Rattle.std.specs.List.{AllByRecursion};
 ghost use Rattle.fib_commands.specs.Lines.{IsWrittenLine};
 ghost use Rattle.fib_resolve.specs.Reachable.{IsWritten};
-ghost use Rattle.fib_turns.specs.Routers.{Fits, BatchFits, changed, with_batch, spoiled, with_edit};
+ghost use Rattle.fib_turns.specs.Routers.{Fits, BatchFits, changed, refusing, with_batch, spoiled, with_edit};
 ghost use Rattle.fib_turns.specs.Turns.{line_at, by_stop, commit_turn, spoiling, within};
 
 use crate::router::{Batch, Router};
@@ -36,15 +36,18 @@ fn commit<G: Gate>(
     number: u32,
 ) -> Result<(), AllocError>
     requires few { router.old.changes < 2 ^ 32 - 1 }
+    requires fewer { router.old.refused < 2 ^ 32 - 1 }
     requires fits { BatchFits number (Some batch.now) }
     requires short { number < 2 ^ 32 }
     requires alone { router.old.batch ≡ None }
     ensures few { OnOk result (router.new.changes ≤ router.old.changes + 1) }
+    ensures fewer { OnOk result (router.new.refused ≤ router.old.refused + 1) }
     ensures fits { OnOk result (router.new.batch ≡ None) }
     ensures router { OnOk result (router.new ≡ (commit_turn number router.old batch.now).0) }
     ensures text { OnOk result (out.new.items ≡ out.old.items ++ (commit_turn number router.old batch.now).1) }
 {
     if batch.spoiled {
+        router.refused += 1;
         return put_batch(out, number, BatchFault::Spoiled);
     }
     let next = router.changes + 1;
@@ -56,6 +59,7 @@ fn commit<G: Gate>(
             Ok(())
         }
         Err(BatchError::Refused { place, refusal }) => {
+            router.refused += 1;
             put_refusal(out, line_at(batch, place), refusal)
         }
         Err(BatchError::Memory) => Err(AllocError),
@@ -70,6 +74,7 @@ fn spoil(
     number: u32,
     text: &str,
 ) -> Result<(), AllocError>
+    requires fewer { router.old.refused < 2 ^ 32 - 1 }
     requires fits { BatchFits number (Some batch) }
     ensures fits { OnOk result (BatchFits (number + 1) router.new.batch) }
     ensures router { OnOk result (router.new ≡ (spoiling number router.old batch text.now).0) }
@@ -78,6 +83,7 @@ fn spoil(
     let mut batch = batch;
     batch.spoiled = true;
     router.batch = Some(batch);
+    router.refused += 1;
     put_message(out, number, text)
 }
 
@@ -92,6 +98,7 @@ pub fn within<G: Gate>(
 ) -> Result<(), AllocError>
     requires written { IfSome said IsWrittenLine }
     requires few { router.old.changes < number }
+    requires fewer { router.old.refused < number }
     requires fits { BatchFits number (Some batch) }
     requires alone { router.old.batch ≡ None }
     ensures router { OnOk result (router.new ≡ (within number router.old batch said).0) }

@@ -19,12 +19,15 @@ pub struct Batch {
     pub edits: List<Edit>,
 }
 
-/// A router between two lines: its tables, how many changes it has accepted, and the batch in which the next line stands.
+/// A router between two lines: its tables, how many changes it has accepted, how many lines it has refused, and the batch in which
+/// the next line stands.
 #[derive(Drop)]
 pub struct Router {
     pub config: Config,
     /// The version of the tables: the number of accepted changes, a batch counting as one.
     pub changes: u32,
+    /// The number of refused lines.
+    pub refused: u32,
     pub batch: Option<Batch>,
 }
 
@@ -38,6 +41,7 @@ impl Router {
         Ok(Router {
             config: Config::new(alloc, room)?,
             changes: 0,
+            refused: 0,
             batch: None,
         })
     }

@@ -17,17 +17,20 @@ fn a_change_and_a_batch_that_is_left(rt: HostRuntime) -> Result<(), Fail> {
         b"create interface eth0",
     )?;
     assert_eq!(rt; router.changes, 1);
-    run_line(alloc, &FreeGate, &mut router, &mut out, 2, b"begin")?;
+    let asked = run_line(alloc, &FreeGate, &mut router, &mut out, 2, b"forward 7")?;
+    assert_eq!(rt; asked, Some(7));
+    run_line(alloc, &FreeGate, &mut router, &mut out, 3, b"begin")?;
     run_line(
         alloc,
         &FreeGate,
         &mut router,
         &mut out,
-        3,
+        4,
         b"create interface eth1",
     )?;
     assert_eq!(rt; router.changes, 1);
-    finish(&router, &mut out)?;
-    assert_eq!(rt; out.as_slice(), b"line 2: batch not committed\n".as_slice());
+    finish(&mut router, &mut out)?;
+    assert_eq!(rt; router.refused, 1);
+    assert_eq!(rt; out.as_slice(), b"line 3: batch not committed\n".as_slice());
     Ok(())
 }

@@ -2,8 +2,8 @@
 ghost use Rattle.std.specs.Prelude.{◌≡◌, ◌++◌, ◌+◌, ◌<◌, ◌≤◌, ◌^◌, ◌-◌, OnOk, IfOk, IfSome, None, Some, codes, [], ◌∷◌};
 ghost use Rattle.fib_commands.specs.Lines.{line_of, IsWrittenLine};
 ghost use Rattle.fib_resolve.specs.Reachable.{IsWritten};
-ghost use Rattle.fib_turns.specs.Routers.{Fits, BatchFits, changed, with_batch, new_batch};
-ghost use Rattle.fib_turns.specs.Turns.{change_turn, by_refusal, lookup_text, alone, turn_of, turn_in, left_text};
+ghost use Rattle.fib_turns.specs.Routers.{Fits, BatchFits, changed, refusing, with_batch, new_batch};
+ghost use Rattle.fib_turns.specs.Turns.{change_turn, by_refusal, lookup_text, alone, turn_of, turn_in, asks, asks_in, end_turn};
 ghost use Rattle.fib_print.specs.Ends.{end_text};
 ghost use Rattle.fib_listing.specs.Entries.{fib_text};
 ghost use Rattle.fib_listing.specs.PathLists.{lists_text};
@@ -33,8 +33,10 @@ fn change<G: Gate>(
 ) -> Result<(), AllocError>
     requires written { IsWritten edit.now }
     requires few { router.old.changes < 2 ^ 32 - 1 }
+    requires fewer { router.old.refused < 2 ^ 32 - 1 }
     requires alone { router.old.batch ≡ None }
     ensures few { OnOk result (router.new.changes ≤ router.old.changes + 1) }
+    ensures fewer { OnOk result (router.new.refused ≤ router.old.refused + 1) }
     ensures alone { OnOk result (router.new.batch ≡ None) }
     ensures router { OnOk result (router.new ≡ (change_turn number router.old edit.now).0) }
     ensures text { OnOk result (out.new.items ≡ out.old.items ++ (change_turn number router.old edit.now).1) }
@@ -47,7 +49,10 @@ fn change<G: Gate>(
             gate.applied(next);
             Ok(())
         }
-        Err(EditError::Refused(refusal)) => put_refusal(out, number, refusal),
+        Err(EditError::Refused(refusal)) => {
+            router.refused += 1;
+            put_refusal(out, number, refusal)
+        }
         Err(EditError::Memory) => Err(AllocError),
     }
 }
@@ -100,7 +105,19 @@ fn show_adj(alloc: Global, tables: &Tables, out: &mut Vec<u8>) -> Result<(), All
     put_adjacencies(out, alloc, &snapshot)
 }
 
-/// A line outside a batch.
+/// Opens a batch at the line of that number.
+fn begin(alloc: Global, router: &mut Router, number: u32)
+    ensures { router.new ≡ with_batch router.old (Some (new_batch number)) }
+{
+    router.batch = Some(Batch {
+        begun: number,
+        spoiled: false,
+        lines: List::new(alloc),
+        edits: List::new(alloc),
+    });
+}
+
+/// A line outside a batch, and how many packets it asks for.
 fn alone<G: Gate>(
     alloc: Global,
     gate: &G,
@@ -108,34 +125,32 @@ fn alone<G: Gate>(
     out: &mut Vec<u8>,
     number: u32,
     line: Line,
-) -> Result<(), AllocError>
+) -> Result<Option<u32>, AllocError>
     requires written { IsWrittenLine line }
     requires least { 0 < number }
     requires few { router.old.changes < number }
+    requires fewer { router.old.refused < number }
     requires alone { router.old.batch ≡ None }
     ensures fits { OnOk result (Fits (number + 1) router.new) }
     ensures router { OnOk result (router.new ≡ (alone number router.old (Some line)).0) }
     ensures text { OnOk result (out.new.items ≡ out.old.items ++ (alone number router.old (Some line)).1) }
+    ensures asks { IfOk result (λ count. count ≡ asks_in None (Some line)) }
 {
     match line {
-        Line::Nothing => Ok(()),
-        Line::Change(edit) => change(gate, router, out, number, &edit),
-        Line::Lookup(addr, hash) => lookup(alloc, router.config.tables(), out, addr, hash),
-        Line::ShowFib => show_fib(alloc, router.config.tables(), out),
-        Line::ShowPathLists => show_path_lists(alloc, router.config.tables(), out),
-        Line::ShowAdj => show_adj(alloc, router.config.tables(), out),
-        Line::Forward(_) => put_message(out, number, "not yet"),
-        Line::Begin => {
-            router.batch = Some(Batch {
-                begun: number,
-                spoiled: false,
-                lines: List::new(alloc),
-                edits: List::new(alloc),
-            });
-            Ok(())
+        Line::Nothing => {}
+        Line::Change(edit) => change(gate, router, out, number, &edit)?,
+        Line::Lookup(addr, hash) => lookup(alloc, router.config.tables(), out, addr, hash)?,
+        Line::ShowFib => show_fib(alloc, router.config.tables(), out)?,
+        Line::ShowPathLists => show_path_lists(alloc, router.config.tables(), out)?,
+        Line::ShowAdj => show_adj(alloc, router.config.tables(), out)?,
+        Line::Forward(count) => return Ok(Some(count)),
+        Line::Begin => begin(alloc, router, number),
+        Line::Commit => {
+            router.refused += 1;
+            put_batch(out, number, BatchFault::NoBatch)?;
         }
-        Line::Commit => put_batch(out, number, BatchFault::NoBatch),
     }
+    Ok(None)
 }
 
 /// What a line says, or None where it is no line of the grammar.
@@ -152,9 +167,12 @@ fn said(alloc: Global, line: &[u8]) -> Result<Option<Line>, AllocError>
 
 /// Does what a line says, and appends what it prints. Lines are numbered from 1.
 ///
+/// Answers how many packets the line asks for: Some exactly at a line that forwards packets, outside a batch. It changes nothing and
+/// prints nothing.
+///
 /// The gate is told the version that a change would give before it is tried, and after it was accepted. Want of memory may leave the
 /// router between two states.
-#[tactic(auto, unfolding(crate::specs::Turns::turn_of))]
+#[tactic(auto, unfolding(crate::specs::Turns::turn_of, crate::specs::Turns::asks))]
 pub fn run_line<G: Gate>(
     alloc: Global,
     gate: &G,
@@ -162,30 +180,43 @@ pub fn run_line<G: Gate>(
     out: &mut Vec<u8>,
     number: u32,
     line: &[u8],
-) -> Result<(), AllocError>
+) -> Result<Option<u32>, AllocError>
     requires fits { Fits number router.old }
     requires least { 0 < number }
     requires most { number < 2 ^ 32 - 1 }
     ensures router { OnOk result (router.new ≡ (turn_of number router.old line.now).0) }
     ensures text { OnOk result (out.new.items ≡ out.old.items ++ (turn_of number router.old line.now).1) }
+    ensures asks { IfOk result (λ count. count ≡ asks router.old line.now) }
     ensures fits { OnOk result (Fits (number + 1) router.new) }
 {
     let said = said(alloc, line)?;
-    match router.batch.take() {
-        Some(batch) => within(gate, router, batch, out, number, said),
-        None => match said {
-            Some(line) => alone(alloc, gate, router, out, number, line),
-            None => put_message(out, number, "syntax"),
-        },
+    if let Some(batch) = router.batch.take() {
+        within(gate, router, batch, out, number, said)?;
+        return Ok(None);
+    }
+    match said {
+        Some(line) => alone(alloc, gate, router, out, number, line),
+        None => {
+            router.refused += 1;
+            put_message(out, number, "syntax")?;
+            Ok(None)
+        }
     }
 }
 
-/// Appends what the script's end prints: the `begin` of a batch that it leaves.
-pub fn finish(router: &Router, out: &mut Vec<u8>) -> Result<(), AllocError>
-    ensures { OnOk result (out.new.items ≡ out.old.items ++ left_text router.now.batch) }
+/// Appends what the script's end prints: the `begin` of a batch that it leaves is refused.
+#[tactic(auto, unfolding(crate::specs::Turns::end_turn))]
+pub fn finish(router: &mut Router, out: &mut Vec<u8>) -> Result<(), AllocError>
+    requires { router.old.refused < 2 ^ 32 - 1 }
+    ensures router { OnOk result (router.new ≡ (end_turn router.old).0) }
+    ensures text { OnOk result (out.new.items ≡ out.old.items ++ (end_turn router.old).1) }
 {
     match &router.batch {
-        Some(batch) => put_batch(out, batch.begun, BatchFault::NotCommitted),
+        Some(batch) => {
+            let begun = batch.begun;
+            router.refused += 1;
+            put_batch(out, begun, BatchFault::NotCommitted)
+        }
         None => Ok(()),
     }
 }

@@ -1,0 +1,13 @@
+pub mod Turning
+pub mod Histories
+pub mod Answering
+pub mod Outputs
+pub mod Counting
+pub mod Moves
+pub mod Spans
+pub mod Lining
+pub mod Writing
+pub mod Shares
+pub mod Crews
+pub mod Closing
+pub mod Quiet

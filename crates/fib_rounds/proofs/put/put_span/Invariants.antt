@@ -1,0 +1,8 @@
+use Rattle.std.proofs.Common.{◌≡◌, ◌++◌}
+use Rattle.fib_rounds.specs.Packets.{span, packets_text}
+use Rattle.fib_rounds.proofs.put.put_span.Given as goal
+
+-- what was printed, and then the lines that are left
+abbrev pub invariant-loop-at : goal.invariant-loop-at
+invariant-loop-at l =
+    l.text.items ++ packets_text l.tables l.at (span l.packets.packets l.at l.to) l.rest ≡ l.fn.text.items ++ packets_text l.tables l.from (span l.packets.packets l.from l.to) l.fn.results

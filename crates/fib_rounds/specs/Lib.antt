@@ -1,0 +1,10 @@
+pub mod Stages
+pub mod Packets
+pub mod Output
+pub mod Frozen
+pub mod Summaries
+pub mod Counts
+pub mod Crew
+pub mod Rounds
+pub mod Writes
+pub mod Quiet

@@ -1,0 +1,33 @@
+// The counts of a round that closes.
+ghost use Rattle.std.specs.Prelude.{◌≡◌, ◌+◌, ◌-◌, ◌<◌, ◌≤◌, ◌^◌, ℕ, length};
+ghost use Rattle.fib_rounds.specs.Summaries.{with_end, with_ends};
+ghost use Rattle.fib_rounds.specs.Counts.{IsSmall};
+
+use crate::summary::Summary;
+use fib_core::Record;
+use fib_resolve::End;
+
+// One more packet of that end.
+fn count_end(counts: &mut Summary, end: &End)
+    requires { IsSmall (2 ^ 64 - 2) counts.old }
+    ensures counts { counts.new ≡ with_end counts.old end.now }
+{
+    match end {
+        End::Drop => counts.drops += 1,
+        End::Receive => counts.receives += 1,
+        End::Glean(_) => counts.gleans += 1,
+        End::Hop { mac: None, .. } => counts.incompletes += 1,
+        End::Hop { mac: Some(_), .. } => counts.adjs += 1,
+    }
+}
+
+/// Counts the ends of these results.
+pub fn count_ends(counts: &mut Summary, results: &[Record])
+    requires small { (n : ℕ) × IsSmall n counts.old × (n + length results.now < 2 ^ 64 - 1) }
+    ensures counts { counts.new ≡ with_ends counts.old results.now }
+    ensures small { (n : ℕ) → IsSmall n counts.old → IsSmall (n + length results.now) counts.new }
+{
+    for answer in results {
+        count_end(counts, &answer.end);
+    }
+}

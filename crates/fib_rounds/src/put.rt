@@ -1,0 +1,66 @@
+// What a run writes.
+ghost use Rattle.std.specs.Prelude.{◌≡◌, ◌<◌, ◌≤◌, ◌+◌, ◌++◌, ℕ, length, OnOk, OnErr};
+ghost use Rattle.fib_outside.specs.Outside.{HasRisen, Appends};
+ghost use Rattle.fib_rounds.specs.Packets.{span, packets_text, last_text};
+ghost use Rattle.fib_rounds.specs.Writes.{AppendsSome};
+
+use fib_capture::{Capture, Packet};
+use fib_core::Record;
+use fib_outside::{Failed, Sink};
+use fib_print::{put_bad_header, put_cut, put_not_ipv4, put_packet};
+use fib_resolve::Tables;
+use std::alloc::AllocError;
+
+/// Writes all the bytes, in as many pieces as the sink takes them. Where a write fails, the first of them were written.
+pub fn put_all<K: Sink>(out: &mut K, bytes: &[u8]) -> Result<(), Failed>
+    ensures ok { OnOk result (Appends (K.written out.old) (K.written out.new) bytes.now) }
+    ensures err { OnErr result (AppendsSome (K.written out.old) (K.written out.new) bytes.now) }
+    ensures failed { OnErr result (HasRisen (K.faults out.old) (K.faults out.new)) }
+    ensures counted { K.faults out.old ≤ K.faults out.new }
+{
+    let mut at = 0;
+    'pieces: while at < bytes.len() {
+        at += out.write(&bytes[at..])?;
+    }
+    Ok(())
+}
+
+/// Appends a line for each packet from one place up to another; the flows print the results in turn.
+pub fn put_span(
+    text: &mut Vec<u8>,
+    tables: &Tables,
+    packets: &Capture,
+    from: u32,
+    to: u32,
+    results: &[Record],
+) -> Result<(), AllocError>
+    requires order { from ≤ to }
+    requires inside { to ≤ length packets.now.packets }
+    ensures { OnOk result (text.new.items ≡ text.old.items ++ packets_text tables.now from (span packets.now.packets from to) results.now) }
+{
+    let mut rest = results;
+    for at in from..to {
+        match packets.at(at) {
+            Packet::NotIpv4 => put_not_ipv4(text, at)?,
+            Packet::BadHeader => put_bad_header(text, at)?,
+            Packet::Flow { .. } => {
+                let [answer, others @ ..] = rest else {
+                    return Ok(());
+                };
+                put_packet(text, tables, at, answer)?;
+                rest = others;
+            }
+        }
+    }
+    Ok(())
+}
+
+/// Appends the last line, where the capture is cut inside a packet.
+pub fn put_last(text: &mut Vec<u8>, packets: &Capture) -> Result<(), AllocError>
+    ensures { OnOk result (text.new.items ≡ text.old.items ++ last_text packets.now.cut) }
+{
+    match packets.cut_at() {
+        Some(number) => put_cut(text, number),
+        None => Ok(()),
+    }
+}
