@@ -6,7 +6,7 @@
 ORACLE is a Python program that knows `gen SEED --profile P --lines N -o DIR` (which writes a command file and a capture), `expect
 COMMANDS` (which prints what the program must print) and `soak SEED`; its package `fibref` lies beside it. Each table is a generated
 command file without lines that forward packets, followed by lookups at addresses of its own routes and next hops, and a listing of
-its entries. Each case of rounds is a generated command file with its capture, run with 1 to 8 workers; where a round's lines change
+its entries. Each case of rounds is a generated command file with its capture, run with 1 to 6 workers; where a round's lines change
 the tables, its packets print the oracle's resolution over the tables at the round's opening. Files that are already in the crate's
 data and were not written here are kept, and their answers are made anew by the oracle too.
 
