@@ -142,7 +142,7 @@ fn add_hosts(out: &mut Vec<Prefix>, hops: &[Addr]) -> Result<(), AllocError>
 }
 
 // Every prefix that can be effective, with repeats.
-#[tactic(auto, using(fib_oracle::proofs::Sounds::short_addresses), unfolding(crate::specs::Bounds::candidates))]
+#[tactic(auto, using(fib_plain::proofs::Sounds::short_addresses), unfolding(crate::specs::Bounds::candidates))]
 fn candidates(alloc: Global, tables: &Tables, hops: &[Addr]) -> Result<Vec<Prefix>, AllocError>
     requires { IsSound tables.now }
     ensures { IfOk result (λ v. v.items ≡ candidates tables.now hops.now) }

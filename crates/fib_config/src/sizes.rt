@@ -16,6 +16,6 @@ pub fn is_too_large(alloc: Global, tables: &Tables, room: u32) -> Result<bool, A
     if bounds::size_bound(alloc, tables)? <= room as usize {
         return Ok(false);
     }
-    let size = fib_oracle::size(alloc, tables)?;
+    let size = fib_plain::size(alloc, tables)?;
     Ok(size > room)
 }

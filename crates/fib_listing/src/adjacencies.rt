@@ -4,7 +4,7 @@ ghost use Rattle.fib_resolve.specs.Resolution.{hop_end};
 ghost use Rattle.fib_listing.specs.Adjacencies.{adjacency_text, adjacencies_text};
 
 use crate::order::adjacencies_in_order;
-use fib_oracle::Snapshot;
+use fib_plain::Snapshot;
 use fib_print::put_end;
 use fib_resolve::{Adjacency, End, Tables};
 use std::alloc::{AllocError, Global};

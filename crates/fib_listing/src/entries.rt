@@ -8,7 +8,7 @@ ghost use Rattle.fib_listing.specs.Entries.{all_sources, source_text, has_source
 
 use crate::order::prefixes_in_order;
 use fib_addr::{Prefix, put_prefix};
-use fib_oracle::Snapshot;
+use fib_plain::Snapshot;
 use fib_print::put_path;
 use fib_resolve::keys::is_same_source;
 use fib_resolve::{FibSource, Pair, Path, PathKind};

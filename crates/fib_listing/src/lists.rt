@@ -8,7 +8,7 @@ ghost use Rattle.fib_listing.specs.Order.{row_from, gap, in_order, list_before, 
 ghost use Rattle.fib_listing.specs.PathLists.{same_list, list_of, path_lists, users, plain_text, list_text, lists_text};
 
 use crate::order::put_list;
-use fib_oracle::Snapshot;
+use fib_plain::Snapshot;
 use fib_print::put_path;
 use fib_resolve::keys::is_same_path;
 use fib_resolve::{Duplicate, List, Pair, Path, Tables};

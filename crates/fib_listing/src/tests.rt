@@ -3,7 +3,7 @@ ghost use Rattle.std.specs.Prelude.{◌≡◌, IfOk};
 ghost use Rattle.fib_resolve.specs.Tables.{fresh};
 
 use super::*;
-use fib_oracle::Snapshot;
+use fib_plain::Snapshot;
 use fib_resolve::{List, Tables};
 use std::alloc::Global;
 use std::test::Fail;

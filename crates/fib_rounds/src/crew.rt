@@ -8,7 +8,7 @@ ghost use Rattle.fib_rounds.specs.declared.crew.Station.{Station};
 use fib_addr::Addr;
 use fib_capture::{Capture, Packet};
 use fib_core::{Record, Version};
-use fib_oracle::Snapshot;
+use fib_plain::Snapshot;
 use fib_outside::Gate;
 use std::alloc::{AllocError, Global};
 use std::thread::{Threads, for_each_mut};

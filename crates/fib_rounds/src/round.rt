@@ -16,7 +16,7 @@ use crate::put::put_span;
 use crate::summary::Summary;
 use fib_capture::Capture;
 use fib_commands::Script;
-use fib_oracle::Snapshot;
+use fib_plain::Snapshot;
 use fib_outside::Gate;
 use fib_resolve::Tables;
 use fib_turns::{Router, finish};

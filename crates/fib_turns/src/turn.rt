@@ -16,7 +16,7 @@ use fib_addr::Addr;
 use fib_commands::{Line, LineError, read_line};
 use fib_config::EditError;
 use fib_listing::{put_adjacencies, put_entries, put_path_lists};
-use fib_oracle::{Snapshot, resolve};
+use fib_plain::{Snapshot, resolve};
 use fib_outside::Gate;
 use fib_print::{BatchFault, put_batch, put_end, put_message, put_refusal};
 use fib_resolve::{Edit, End, List, Tables};

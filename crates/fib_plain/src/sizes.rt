@@ -1,0 +1,128 @@
+// How many objects the tables take, counted.
+ghost use Rattle.std.specs.Prelude.{◌≡◌, ◌+◌, ◌^◌, ◌-◌, ◌++◌, ◌∷◌, IfOk, OnOk, map, flat_map, length, min, option_to_list};
+ghost use Rattle.std.specs.Set.{unique_keys, is_member};
+ghost use Rattle.fib_addr.specs.Prefixes.{same_prefix};
+ghost use Rattle.fib_addr.specs.Longest.{everything};
+ghost use Rattle.fib_resolve.specs.Pairs.{entries, chosen};
+ghost use Rattle.fib_resolve.specs.Sizes.{plies_of, plies, kind_adjacency, same_adjacency, adjacencies_of, adjacencies, size};
+ghost use Rattle.fib_plain.specs.Rows.{IsKnown};
+
+use crate::known::{self, Known};
+use crate::search;
+use fib_addr::{Addr, Prefix};
+use fib_resolve::{Adjacency, Path, PathKind};
+use std::alloc::{AllocError, Global};
+
+fn add_plies(out: &mut Vec<Prefix>, p: Prefix) -> Result<(), AllocError>
+    ensures { OnOk result (out.new.items ≡ out.old.items ++ plies_of p) }
+{
+    for k in 0..(p.len() + 3) / 4 {
+        out.push(Prefix::masked(p.bits(), 4 * k))?;
+    }
+    Ok(())
+}
+
+/// The plies, each once: that of all addresses, and those of the entries.
+#[tactic(auto, unfolding(fib_resolve::specs::Sizes::plies))]
+fn plies(alloc: Global, known: Known<'_>) -> Result<Vec<Prefix>, AllocError>
+    requires { IsKnown known }
+    ensures { IfOk result (λ v. v.items ≡ plies known.entry.tables.now) }
+{
+    let mut out = Vec::new(alloc);
+    out.push(Prefix::masked(Addr(0), 0))?;
+    for e in known.entries {
+        add_plies(&mut out, *e)?;
+    }
+    search::distinct(alloc, out.as_slice())
+}
+
+/// The Hop end of a path, if it has one.
+fn adjacency_of(e: Prefix, kind: PathKind) -> Option<Adjacency>
+    ensures { option_to_list result ≡ kind_adjacency e kind }
+{
+    match kind {
+        PathKind::Hop {
+            next_hop,
+            interface,
+        } => Some(Adjacency {
+            interface,
+            next_hop,
+        }),
+        PathKind::Attached(interface) if e.len() == 32 => Some(Adjacency {
+            interface,
+            next_hop: e.bits(),
+        }),
+        _ => None,
+    }
+}
+
+fn add_adjacencies(out: &mut Vec<Adjacency>, e: Prefix, paths: &[Path]) -> Result<(), AllocError>
+    ensures { OnOk result (out.new.items ≡ out.old.items ++ flat_map (λ p. kind_adjacency e p.kind) paths.now) }
+{
+    for p in paths {
+        if let Some(adjacency) = adjacency_of(e, p.kind) {
+            out.push(adjacency)?;
+        }
+    }
+    Ok(())
+}
+
+fn all_adjacencies(alloc: Global, known: Known<'_>) -> Result<Vec<Adjacency>, AllocError>
+    requires { IsKnown known }
+    ensures { IfOk result (λ v. v.items ≡ flat_map (adjacencies_of known.entry.tables.now) (entries known.entry.tables.now)) }
+{
+    let mut out = Vec::new(alloc);
+    for e in known.entries {
+        add_adjacencies(&mut out, *e, known::chosen(known, *e))?;
+    }
+    Ok(out)
+}
+
+fn is_same(x: &Adjacency, y: &Adjacency) -> bool
+    ensures { result ≡ same_adjacency x.now y.now }
+{
+    x == y
+}
+
+fn is_among(x: &Adjacency, all: &[Adjacency]) -> bool
+    ensures { result ≡ is_member same_adjacency all.now x.now }
+{
+    all.iter().any(|y| is_same(x, y))
+}
+
+fn distinct(alloc: Global, all: &[Adjacency]) -> Result<Vec<Adjacency>, AllocError>
+    ensures { IfOk result (λ v. v.items ≡ unique_keys same_adjacency all.now) }
+{
+    let mut out = Vec::new(alloc);
+    for i in 0..all.len() {
+        let x = &all[i];
+        if !is_among(x, &all[i + 1..]) {
+            out.push(*x)?;
+        }
+    }
+    Ok(out)
+}
+
+/// The Hop ends of all chosen lists, each once.
+#[tactic(auto, unfolding(fib_resolve::specs::Sizes::adjacencies))]
+pub fn adjacencies(alloc: Global, known: Known<'_>) -> Result<Vec<Adjacency>, AllocError>
+    requires { IsKnown known }
+    ensures { IfOk result (λ v. v.items ≡ adjacencies known.entry.tables.now) }
+{
+    let all = all_adjacencies(alloc, known)?;
+    distinct(alloc, all.as_slice())
+}
+
+/// The size of the tables, or 4,294,967,295 where it is greater.
+#[tactic(auto, unfolding(fib_resolve::specs::Sizes::size))]
+pub fn size(alloc: Global, known: Known<'_>) -> Result<u32, AllocError>
+    requires { IsKnown known }
+    ensures { IfOk result (λ n. n ≡ min (size known.entry.tables.now) (2 ^ 32 - 1)) }
+{
+    let plies = plies(alloc, known)?.len();
+    let adjacencies = adjacencies(alloc, known)?.len();
+    let total = plies
+        .saturating_add(known.entries.len())
+        .saturating_add(adjacencies);
+    Ok(total.min(u32::MAX as usize) as u32)
+}

@@ -1,0 +1,166 @@
+// Tables with all that is known of their entries, and the paths that are wanted.
+ghost use Rattle.std.specs.Prelude.{◌≡◌, ◌<◌, ◌≤◌, ◌++◌, ℕ, Some, IfOk, OnOk, map, filter, flat_map, fold, min, length, sum, slice_get, option_to_list};
+ghost use Rattle.fib_resolve.specs.Pairs.{chosen};
+ghost use Rattle.fib_resolve.specs.Loops.{looped_at};
+ghost use Rattle.fib_resolve.specs.Forwarding.{usable, usable_at};
+ghost use Rattle.fib_resolve.specs.Buckets.{least_preference, of_least_preference, used, spread, wanted, IsShort};
+ghost use Rattle.fib_plain.specs.Rows.{leads_of};
+ghost use Rattle.fib_plain.specs.Views.{IsView};
+
+use crate::known::{self, Known};
+use crate::leads::Lead;
+use crate::rounds;
+use fib_addr::Prefix;
+use fib_list::List;
+use fib_resolve::Path;
+use std::alloc::{AllocError, Global};
+
+/// Tables with all that is known of their entries.
+#[derive(Clone, Copy)]
+pub struct View<'a> {
+    pub known: Known<'a>,
+    pub rows: &'a [List<Lead>],
+    pub marks: &'a [bool],
+}
+
+/// What is known of the entry's paths, in their order.
+pub fn row<'a>(view: View<'a>, e: Prefix) -> &'a [Lead]
+    requires { IsView view }
+    ensures { result.now ≡ leads_of view.entry.known.tables.now e }
+{
+    match known::number_of(view.known, e) {
+        Some(k) => view.rows[k].as_slice(),
+        None => &[],
+    }
+}
+
+fn lead_at(row: &[Lead], place: usize) -> Option<Lead>
+    ensures { result ≡ slice_get row.now place }
+{
+    row.get(place).copied()
+}
+
+/// Whether the path at that place is there and usable.
+fn usable_at(view: View<'_>, e: Prefix, row: &[Lead], place: usize) -> bool
+    requires view { IsView view }
+    requires row { row.now ≡ leads_of view.known.tables.now e }
+    ensures { result ≡ usable_at view.entry.known.tables.now e place }
+{
+    match lead_at(row, place) {
+        Some(x) => rounds::usable_now(view.marks, &x),
+        None => false,
+    }
+}
+
+/// Whether the path at that place of the entry's chosen list is there and usable.
+pub fn is_usable(view: View<'_>, e: Prefix, place: usize) -> bool
+    requires { IsView view }
+    ensures { result ≡ usable_at view.entry.known.tables.now e place }
+{
+    usable_at(view, e, row(view, e), place)
+}
+
+/// Whether the path at that place of the entry's chosen list is there and looped.
+pub fn is_looped(view: View<'_>, e: Prefix, place: usize) -> bool
+    requires { IsView view }
+    ensures { result ≡ looped_at view.entry.known.tables.now e place }
+{
+    match lead_at(row(view, e), place) {
+        Some(x) => x.looped,
+        None => false,
+    }
+}
+
+/// Whether the path, which stands at that place, is usable.
+fn usable_path(view: View<'_>, e: Prefix, row: &[Lead], place: usize, p: &Path) -> bool
+    requires view { IsView view }
+    requires row { row.now ≡ leads_of view.known.tables.now e }
+    requires there { slice_get (chosen view.known.tables.now e) place ≡ Some p.now }
+    ensures { result ≡ usable view.entry.known.tables.now e p.now }
+{
+    let _path = *p;
+    usable_at(view, e, row, place)
+}
+
+/// The usable paths of the entry.
+fn usable_paths(alloc: Global, view: View<'_>, e: Prefix) -> Result<Vec<Path>, AllocError>
+    requires { IsView view }
+    ensures { IfOk result (λ v. v.items ≡ filter (usable view.entry.known.tables.now e) (chosen view.entry.known.tables.now e)) }
+{
+    let row = row(view, e);
+    let mut out = Vec::new(alloc);
+    for (i, p) in known::chosen(view.known, e).iter().enumerate() {
+        if usable_path(view, e, row, i, p) {
+            out.push(*p)?;
+        }
+    }
+    Ok(out)
+}
+
+fn least_preference(paths: &[Path]) -> u8
+    ensures { result ≡ least_preference paths.now }
+{
+    paths.iter().fold(255, |m, p| m.min(p.preference))
+}
+
+fn of_least_preference(alloc: Global, paths: &[Path]) -> Result<Vec<Path>, AllocError>
+    ensures { IfOk result (λ v. v.items ≡ of_least_preference paths.now) }
+{
+    let least = least_preference(paths);
+    paths
+        .iter()
+        .copied()
+        .filter(|p| p.preference == least)
+        .collect(alloc)
+}
+
+fn weights_of(alloc: Global, paths: &[Path]) -> Result<Vec<u8>, AllocError>
+    ensures { IfOk result (λ v. v.items ≡ map (λ p. p.weight) paths.now) }
+{
+    paths.iter().map(|p| p.weight).collect(alloc)
+}
+
+/// The path at that place, if there is one.
+pub fn at_place(paths: &[Path], j: usize) -> Option<Path>
+    ensures { result ≡ slice_get paths.now j }
+{
+    paths.get(j).copied()
+}
+
+fn add_place(out: &mut Vec<Path>, paths: &[Path], j: u8) -> Result<(), AllocError>
+    ensures { OnOk result (out.new.items ≡ out.old.items ++ option_to_list (slice_get paths.now j)) }
+{
+    if let Some(p) = at_place(paths, j as usize) {
+        out.push(p)?;
+    }
+    Ok(())
+}
+
+/// The path at each bucket.
+fn spread(alloc: Global, paths: &[Path]) -> Result<Vec<Path>, AllocError>
+    requires few { length paths.now ≤ 16 }
+    requires some { 0 < sum (map (λ p. p.weight) paths.now) }
+    ensures { IfOk result (λ v. v.items ≡ spread paths.now) }
+{
+    let weights = weights_of(alloc, paths)?;
+    let mut out = Vec::new(alloc);
+    let places = fib_buckets::share(weights.as_slice());
+    for j in &places {
+        add_place(&mut out, paths, *j)?;
+    }
+    Ok(out)
+}
+
+/// The sixteen wanted paths of the entry, or none where it doesn't forward.
+#[tactic(auto, unfolding(fib_resolve::specs::Buckets::wanted, fib_resolve::specs::Buckets::used))]
+pub fn wanted(alloc: Global, view: View<'_>, e: Prefix) -> Result<Vec<Path>, AllocError>
+    requires { IsView view }
+    ensures { IfOk result (λ v. v.items ≡ wanted view.entry.known.tables.now e) }
+{
+    let usable = usable_paths(alloc, view, e)?;
+    let used = of_least_preference(alloc, usable.as_slice())?;
+    if used.is_empty() {
+        return Ok(Vec::new(alloc));
+    }
+    spread(alloc, used.as_slice())
+}
