@@ -1,4 +1,3 @@
-pub mod Sounds
 pub mod Best
 pub mod Numbers
 pub mod Members

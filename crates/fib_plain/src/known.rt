@@ -98,7 +98,7 @@ pub fn is_derived(known: Known<'_>, e: Prefix) -> bool
     ensures { result ≡ is_derived known.entry.tables.now e }
 {
     match best_pair(known, e) {
-        Some(x) => x.source.rank() == 5,
+        Some(x) => x.source.is_derived(),
         None => false,
     }
 }

@@ -12,7 +12,7 @@ mod pairs;
 mod types;
 
 pub use fib_list::{Duplicate, List};
-pub use names::Name;
+pub use names::{Name, starts_with_letter};
 pub use pairs::{Adjacency, Pair};
 pub use types::{
     Address, Edit, End, FibSource, Interface, Need, Neighbor, Path, PathKind, PathSpec, Refusal,

@@ -1,11 +1,7 @@
 -- What stays true of the room that a search is given, and of its marks.
 use Rattle.std.specs.Prelude.{◌≡◌, ◌==◌, ℕ, ◌^◌, ◌<◌, ◌≤◌, ◌⊎◌, List, [], ◌∷◌, ◌++◌, length, Contains, slice_index}
 use Rattle.std.specs.List.{All, IsDistinct}
-use Rattle.fib_reach.specs.Graphs.{Edge}
-
--- each edge leads to a node
-abbrev pub IsClosed : List (List ℕ) → Type 0
-IsClosed g = (x y : ℕ) → Edge g x y → y < length g
+use Rattle.fib_reach.specs.Graphs.{IsClosed}
 
 -- the fields of a graph fit together
 pub record IsGraph (g : List (List ℕ)) (marks : List ℕ) (visit room : ℕ) : Type 0 where

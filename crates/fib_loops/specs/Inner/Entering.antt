@@ -6,10 +6,6 @@ use Rattle.fib_reach.specs.Graphs.{Edge, next_of}
 use Rattle.fib_loops.specs.declared.enter.Entering.{Entering}
 use Rattle.fib_loops.specs.declared.enter.Frame.{Frame}
 
--- each edge leads to a node
-abbrev pub IsClosed : List (List ℕ) → Type 0
-IsClosed g = (x y : ℕ) → Edge g x y → y < length g
-
 -- the graph has these nodes, and these edges
 abbrev pub Joins : List (List ℕ) → ℕ → List (ℕ × ℕ) → Type 0
 Joins g nodes edges = (length g ≡ nodes) × ((x y : ℕ) → Edge g x y ↔ Contains edges (x, y))

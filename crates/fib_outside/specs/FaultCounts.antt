@@ -8,18 +8,18 @@ abbrev pub raised : ℕ → ℕ
 raised n = if nat_lt n (2 ^ 64 - 1) then n + 1 else n
 
 -- how often the file of each part has failed
-pub record Counts : Type 0 where
+pub record FaultCounts : Type 0 where
   pub commands : ℕ
   pub capture : ℕ
 
-abbrev pub no_faults : Counts
+abbrev pub no_faults : FaultCounts
 no_faults = record { commands = 0; capture = 0 }
 
-abbrev pub count_of : Counts → Part → ℕ
+abbrev pub count_of : FaultCounts → Part → ℕ
 count_of counts Commands = counts.commands
 count_of counts Capture = counts.capture
 
 -- one more for this part, and as many as before for the other
-abbrev pub raised_for : Counts → Part → Counts
+abbrev pub raised_for : FaultCounts → Part → FaultCounts
 raised_for counts Commands = record { commands = raised counts.commands; capture = counts.capture }
 raised_for counts Capture = record { commands = counts.commands; capture = raised counts.capture }
