@@ -5,8 +5,8 @@ ghost use Rattle.fib_print.specs.Packets.{version_text, window_text, flow_text, 
 use crate::ends::put_end;
 use crate::text::{put_number, put_text};
 use fib_addr::put_addr;
-use fib_core::{Record, Version};
 use fib_resolve::Tables;
+use fib_results::{Record, Version};
 use std::alloc::{AllocError, Global};
 
 #[tactic(auto, unfolding(crate::specs::Packets::version_text))]

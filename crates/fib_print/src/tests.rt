@@ -1,8 +1,8 @@
 // Worked texts, of which no clause speaks by value.
 use super::*;
 use fib_addr::{Addr, Mac, Prefix};
-use fib_core::{Record, Version};
 use fib_resolve::{End, Interface, List, Name, Need, Path, PathKind, Refusal, Tables};
+use fib_results::{Record, Version};
 use std::alloc::{AllocError, Global};
 use std::test::Fail;
 

@@ -3,7 +3,7 @@ use Rattle.std.proofs.Common.{◌≡◌, ◌<◌, ◌≤◌, ◌+◌, ◌-◌, �
 use Rattle.std.specs.Prelude.{IfSome, min, if◌then◌else◌, ◌==◌}
 use Rattle.std.proofs.lemmas.List.{append_assoc, append-nil, drop-drop, length-drop}
 use Rattle.fib_resolve.specs.declared.types.Tables.{Tables}
-use Rattle.fib_core.specs.declared.record.Record.{Record}
+use Rattle.fib_results.specs.declared.record.Record.{Record}
 use Rattle.fib_capture.specs.Captures.{Capture}
 use Rattle.fib_capture.specs.declared.packet.Packet.{Packet}
 use Rattle.fib_turns.specs.declared.router.Router.{Router}

@@ -6,8 +6,8 @@ use Rattle.std.proofs.lemmas.List.{append_assoc, drop_more, drop_all}
 use Rattle.std.proofs.lemmas.List.Elements.{All-cons, All-nil}
 use Rattle.std.proofs.Math.Seq.{take-append_seam}
 use Rattle.fib_resolve.specs.declared.types.Tables.{Tables}
-use Rattle.fib_core.specs.declared.record.Record.{Record}
-use Rattle.fib_core.specs.Trails.{settled_answer}
+use Rattle.fib_results.specs.declared.record.Record.{Record}
+use Rattle.fib_results.specs.Trails.{settled_answer}
 use Rattle.fib_capture.specs.declared.packet.Packet.{Packet}
 use Rattle.fib_capture.specs.declared.packet.Packet.TheVariants.{Flow, NotIpv4, BadHeader}
 use Rattle.fib_rounds.specs.declared.crew.Station.{Station}

@@ -5,9 +5,9 @@ use Rattle.fib_resolve.specs.Resolution.{resolve}
 use Rattle.fib_resolve.specs.Tables.{fresh}
 use Rattle.fib_resolve.specs.declared.types.End.{End}
 use Rattle.fib_resolve.specs.declared.types.Tables.{Tables}
-use Rattle.fib_core.specs.declared.record.Record.{Record}
-use Rattle.fib_core.specs.declared.record.Version.{Version}
-use Rattle.fib_core.specs.Trails.{IsAt, version_at, settled_answer}
+use Rattle.fib_results.specs.declared.record.Record.{Record}
+use Rattle.fib_results.specs.declared.record.Version.{Version}
+use Rattle.fib_results.specs.Trails.{IsAt, version_at, settled_answer}
 use Rattle.fib_capture.specs.Captures.{Capture}
 use Rattle.fib_capture.specs.declared.packet.Packet.{Packet}
 use Rattle.fib_capture.specs.declared.packet.Packet.TheVariants.{Flow, NotIpv4, BadHeader}

@@ -5,8 +5,8 @@ use Rattle.std.proofs.lemmas.List.{drop_more, length-drop, length-take, append_a
 use Rattle.std.proofs.lemmas.Option.{slice_get_within, get_or_from_slice_get}
 use Rattle.std.proofs.Math.Seq.{take-add}
 use Rattle.fib_resolve.specs.declared.types.Tables.{Tables}
-use Rattle.fib_core.specs.declared.record.Record.{Record}
-use Rattle.fib_core.specs.Trails.{settled_answer}
+use Rattle.fib_results.specs.declared.record.Record.{Record}
+use Rattle.fib_results.specs.Trails.{settled_answer}
 use Rattle.fib_print.specs.Packets.{packet_text, not_ipv4_text, bad_header_text}
 use Rattle.fib_capture.specs.declared.packet.Packet.{Packet}
 use Rattle.fib_capture.specs.declared.packet.Packet.TheVariants.{Flow, NotIpv4, BadHeader}

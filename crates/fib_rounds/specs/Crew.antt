@@ -4,7 +4,7 @@ use Rattle.std.specs.List.{list_any}
 use Rattle.fib_resolve.specs.declared.types.Tables.{Tables}
 use Rattle.fib_capture.specs.declared.packet.Packet.{Packet}
 use Rattle.fib_rounds.specs.declared.crew.Station.{Station}
-use Rattle.fib_core.specs.declared.record.Record.{Record}
+use Rattle.fib_results.specs.declared.record.Record.{Record}
 use Rattle.fib_rounds.specs.Packets.{span, answers, packets_text}
 
 -- where the share of worker w of n begins, of the packets from one place up to another

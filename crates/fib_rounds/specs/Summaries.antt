@@ -4,7 +4,7 @@ use Rattle.fib_resolve.specs.Tables.{fresh}
 use Rattle.fib_resolve.specs.declared.types.Tables.{Tables}
 use Rattle.fib_resolve.specs.declared.types.End.{End}
 use Rattle.fib_resolve.specs.declared.types.End.TheVariants as ends
-use Rattle.fib_core.specs.declared.record.Record.{Record}
+use Rattle.fib_results.specs.declared.record.Record.{Record}
 use Rattle.fib_capture.specs.Captures.{Capture}
 use Rattle.fib_turns.specs.declared.router.Router.{Router}
 use Rattle.fib_turns.specs.Routers.{new_router}

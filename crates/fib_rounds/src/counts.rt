@@ -4,8 +4,8 @@ ghost use Rattle.fib_rounds.specs.Summaries.{with_end, with_ends};
 ghost use Rattle.fib_rounds.specs.Counts.{IsSmall};
 
 use crate::summary::Summary;
-use fib_core::Record;
 use fib_resolve::End;
+use fib_results::Record;
 
 // One more packet of that end.
 fn count_end(counts: &mut Summary, end: &End)

@@ -1,15 +1,15 @@
 // The workers of a round.
 ghost use Rattle.std.specs.Prelude.{◌≡◌, ◌<◌, ◌≤◌, ◌+◌, ◌-◌, ◌*◌, ◌/◌, ◌++◌, ℕ, All, length, IfOk, OnOk, slice_index_or};
-ghost use Rattle.fib_core.specs.Trails.{settled_answer};
+ghost use Rattle.fib_results.specs.Trails.{settled_answer};
 ghost use Rattle.fib_rounds.specs.Packets.{span, answers};
 ghost use Rattle.fib_rounds.specs.Crew.{MayForward, HasForwarded, IsCrew, share_start};
 ghost use Rattle.fib_rounds.specs.declared.crew.Station.{Station};
 
 use fib_addr::Addr;
 use fib_capture::{Capture, Packet};
-use fib_core::{Record, Version};
-use fib_plain::Snapshot;
 use fib_outside::Gate;
+use fib_plain::Snapshot;
+use fib_results::{Record, Version};
 use std::alloc::{AllocError, Global};
 use std::thread::{Threads, for_each_mut};
 

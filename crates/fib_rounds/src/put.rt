@@ -5,10 +5,10 @@ ghost use Rattle.fib_rounds.specs.Packets.{span, packets_text, last_text};
 ghost use Rattle.fib_rounds.specs.Writes.{AppendsSome};
 
 use fib_capture::{Capture, Packet};
-use fib_core::Record;
 use fib_outside::{Failed, Sink};
 use fib_print::{put_bad_header, put_cut, put_not_ipv4, put_packet};
 use fib_resolve::Tables;
+use fib_results::Record;
 use std::alloc::AllocError;
 
 /// Writes all the bytes, in as many pieces as the sink takes them. Where a write fails, the first of them were written.

@@ -1,6 +1,6 @@
 use Rattle.std.proofs.Common.{arith, ◌≡◌, ◌+◌, sym, ◌∙◌, ap, drop}
 use Rattle.std.specs.Prelude.{slice_index_or}
-use Rattle.fib_core.specs.declared.record.Record.{Record}
+use Rattle.fib_results.specs.declared.record.Record.{Record}
 use Rattle.fib_rounds.specs.declared.summary.Summary.{Summary}
 use Rattle.fib_rounds.specs.Counts.{IsSmall}
 use Rattle.fib_rounds.specs.Summaries.{with_end, with_ends}

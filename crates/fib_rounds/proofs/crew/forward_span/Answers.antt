@@ -1,7 +1,7 @@
 use Rattle.std.proofs.Common.{rules, arith, ◌≡◌, ◌++◌, ◌∷◌, [], ap, sym, ◌∙◌}
 use Rattle.std.specs.Prelude.{Some}
 use Rattle.std.proofs.lemmas.List.{append-nil}
-use Rattle.fib_core.specs.Trails.{settled_answer}
+use Rattle.fib_results.specs.Trails.{settled_answer}
 use Rattle.fib_rounds.proofs.Crews.{answers_none, answers_at_not_ipv4, answers_at_bad_header, answers_at_flow, one_more}
 use Rattle.fib_rounds.proofs.crew.forward_span.Goals as goal
 use Rattle.fib_rounds.proofs.crew.forward_span.Goals.{in-NotIpv4, in-BadHeader, in-Flow+in_ok-forward-in-Flow+in_ok-push-in-Flow}

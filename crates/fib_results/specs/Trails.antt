@@ -3,8 +3,8 @@ use Rattle.std.specs.Prelude.{◌≡◌, ◌≤◌, ◌<◌, ℕ, List, Option, 
 use Rattle.fib_resolve.specs.Resolution.{resolve, ends}
 use Rattle.fib_resolve.specs.declared.types.Tables.{Tables}
 use Rattle.fib_resolve.specs.declared.types.End.TheVariants as answers
-use Rattle.fib_core.specs.declared.record.Record.{Record}
-use Rattle.fib_core.specs.declared.record.Version.{Version}
+use Rattle.fib_results.specs.declared.record.Record.{Record}
+use Rattle.fib_results.specs.declared.record.Version.{Version}
 
 -- the version after that many changes, all of them settled
 abbrev pub version_at : ℕ → Version

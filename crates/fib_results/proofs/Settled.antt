@@ -3,10 +3,10 @@ use Rattle.std.proofs.Common.{arith, ◌≡◌, ◌≤◌, ◌<◌, ℕ, List, O
 use Rattle.std.specs.Prelude.{slice_get, Contains}
 use Rattle.fib_resolve.specs.Resolution.{Trip, way, resolve}
 use Rattle.fib_resolve.specs.declared.types.Tables.{Tables}
-use Rattle.fib_core.specs.declared.record.Record.{Record}
-use Rattle.fib_core.specs.declared.record.Version.{Version}
-use Rattle.fib_core.specs.Trails.{IsRecordOk, IsAt, AtLeast, version_at, settled_answer}
-use Rattle.fib_core.specs.Steady.{IsSteady, KeepsWay}
+use Rattle.fib_results.specs.declared.record.Record.{Record}
+use Rattle.fib_results.specs.declared.record.Version.{Version}
+use Rattle.fib_results.specs.Trails.{IsRecordOk, IsAt, AtLeast, version_at, settled_answer}
+use Rattle.fib_results.specs.Steady.{IsSteady, KeepsWay}
 
 some_is : (S T : Tables) (o : Option Tables) → o ≡ Some S → o ≡ Some T → S ≡ T
 some_is S T o p q = cc

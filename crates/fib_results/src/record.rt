@@ -1,6 +1,6 @@
 // What a pass answers.
 ghost use Rattle.std.specs.Prelude.{◌≡◌};
-ghost use Rattle.fib_core.specs.Trails.{version_at};
+ghost use Rattle.fib_results.specs.Trails.{version_at};
 
 use fib_addr::Addr;
 use fib_resolve::End;

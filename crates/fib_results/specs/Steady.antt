@@ -2,7 +2,7 @@
 use Rattle.std.specs.Prelude.{◌≡◌, ◌≤◌, ℕ, List, Option, Some, slice_get}
 use Rattle.fib_resolve.specs.Resolution.{Trip, way}
 use Rattle.fib_resolve.specs.declared.types.Tables.{Tables}
-use Rattle.fib_core.specs.declared.record.Record.{Record}
+use Rattle.fib_results.specs.declared.record.Record.{Record}
 
 -- the packet's way is that one in each version from lo's settled to hi's applied
 abbrev pub KeepsWay : List Tables → Record → Trip → Type 0

@@ -1,8 +1,8 @@
 // Laws of results, each the contract of a call without a body.
 ghost use Rattle.std.specs.Prelude.{◌≡◌, ◌<◌, ℕ, List, Some, length, slice_get};
 ghost use Rattle.fib_resolve.specs.declared.types.Tables.{Tables};
-ghost use Rattle.fib_core.specs.Trails.{IsRecordOk, settled_answer};
-ghost use Rattle.fib_core.specs.Steady.{IsSteady};
+ghost use Rattle.fib_results.specs.Trails.{IsRecordOk, settled_answer};
+ghost use Rattle.fib_results.specs.Steady.{IsSteady};
 
 /// Resolution over a version's tables is a right answer of a pass that saw that version alone.
 pub fn settled_answers_are_right()
