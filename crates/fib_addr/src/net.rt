@@ -68,10 +68,11 @@ impl Prefix {
         self.start
     }
 
-    /// Its length in bits, at most 32.
+    /// Its length in bits, at most 32. The clause `prefix` tells what holds of every value of this type.
     pub fn len(&self) -> u8
         ensures value { result ≡ self.now.len }
         ensures bound { result ≤ 32 }
+        ensures prefix { IsPrefix self.now }
     {
         self.length
     }

@@ -10,3 +10,4 @@ pub mod Edits
 pub mod Refusals
 pub mod Reachable
 pub mod Touched
+pub mod Aims
