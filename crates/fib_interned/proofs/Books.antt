@@ -1,10 +1,10 @@
 -- A number has the place where it stands: what is kept under it, with another number of users, and with one content more.
-use Rattle.std.proofs.Common.{arith, ◌≡◌, ◌≢◌, ℕ, ◌+◌, ◌-◌, ◌<◌, Bool, true, false, ◌==◌, List, [], ◌∷◌, ◌++◌, length, Option, Some, None, refl, sym, ◌∙◌, ap, subst, ◌⊎◌, inl, inr, cond, slice_get, slice_set, if◌then◌else◌, suc, zero, is_some}
-use Rattle.std.specs.Prelude.{Contains, IsSome}
+use Rattle.std.proofs.Common.{arith, ◌≡◌, ◌≢◌, ℕ, ◌+◌, ◌-◌, ◌<◌, true, false, ◌==◌, List, [], ◌∷◌, ◌++◌, length, Option, Some, None, refl, sym, ◌∙◌, ap, subst, ◌⊎◌, inl, inr, cond, slice_get, slice_set, if◌then◌else◌, is_some}
+use Rattle.std.specs.Prelude.{IsSome}
 use Rattle.std.proofs.lemmas.Bool.Decides.{Decides-eqb, eqb_tells}
 use Rattle.std.proofs.lemmas.Bool.{false≢true, cases_eq}
 use Rattle.fib_list.proofs.Lists.{either}
-use Rattle.fib_interned.specs.Interned.{Kept, kept_of, users_in, users_of, lowered, AreInterned, Takes, Gives}
+use Rattle.fib_interned.specs.Interned.{Kept, kept_of, users_in, lowered, AreInterned, Takes, Gives}
 use Rattle.fib_interned.specs.inner.Book.{IsBook, kept_at, kept_with}
 use Rattle.fib_interned.proofs.Finding.{some_is, none_some, get_or_at, find_only, find_none, find_place, get_push, get_push_old, get_push_new, get_set_there, get_set_other}
 

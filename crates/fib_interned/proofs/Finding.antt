@@ -1,7 +1,7 @@
 -- What is found in lists by a test, and by a place.
-use Rattle.std.proofs.Common.{arith, ◌≡◌, ◌≢◌, ℕ, zero, suc, ◌+◌, ◌-◌, ◌<◌, ◌≤◌, Bool, true, false, cond, List, [], ◌∷◌, ◌++◌, length, take, map, Option, Some, None, ◌⊎◌, inl, inr, refl, sym, ◌∙◌, ap, subst, is_some, slice_get, slice_index_or, slice_set}
-use Rattle.std.specs.Prelude.{find, IsSome, Contains}
-use Rattle.std.specs.List.{swap_remove, IsDistinct, AllByRecursion}
+use Rattle.std.proofs.Common.{arith, ◌≡◌, ◌≢◌, ℕ, zero, suc, ◌-◌, ◌<◌, ◌≤◌, Bool, true, List, [], ◌∷◌, ◌++◌, length, take, Some, None, ◌⊎◌, inl, inr, refl, sym, ◌∙◌, ap, subst, is_some, slice_get, slice_index_or, slice_set}
+use Rattle.std.specs.Prelude.{find, Contains}
+use Rattle.std.specs.List.{swap_remove, AllByRecursion}
 use Rattle.std.specs.Map.{lookup, lookup_key}
 use Rattle.std.proofs.lemmas.Bool.{false≢true, cases_eq}
 use Rattle.std.proofs.lemmas.Option.{slice_get_within, slice_get-get_or, get_or_from_slice_get}

@@ -1,5 +1,5 @@
 -- Where numbers stand once the content at a place is gone and the last one took its place.
-use Rattle.std.proofs.Common.{arith, ◌≡◌, ◌≢◌, ℕ, ◌-◌, ◌<◌, ◌≤◌, true, false, ◌==◌, List, length, Option, Some, None, refl, sym, ◌∙◌, ap, subst, inl, inr, cond, slice_get, get_or, if◌then◌else◌}
+use Rattle.std.proofs.Common.{arith, ◌≡◌, ◌≢◌, ℕ, ◌-◌, ◌<◌, ◌≤◌, true, ◌==◌, List, length, Option, Some, None, refl, sym, ◌∙◌, ap, subst, inl, inr, cond, slice_get, get_or, if◌then◌else◌}
 use Rattle.std.specs.List.{swap_remove}
 use Rattle.std.proofs.lemmas.Bool.Decides.{Decides-eqb, eqb_tells}
 use Rattle.std.proofs.lemmas.Bool.{cases_eq, cases_lt}

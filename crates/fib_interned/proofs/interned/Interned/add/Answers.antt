@@ -1,9 +1,8 @@
-use Rattle.std.proofs.Common.{◌≡◌, ◌+◌, ◌++◌, ◌∷◌, [], ℕ, ◌==◌, Bool, Option, Some, None, cond, length, map, nat_eq, sym, ap, ◌∙◌, subst}
+use Rattle.std.proofs.Common.{◌≡◌, ℕ, ◌==◌, Bool, Option, Some, cond, length, map, nat_eq, sym, ap, ◌∙◌, subst}
 use Rattle.std.specs.HashMap.{get}
-use Rattle.std.specs.List.{IsDistinct}
 use Rattle.indexmap.proofs.CallerLemmas.{insert_entry-new}
 use Rattle.fib_interned.specs.Interned.{kept_of, IsAbsent}
-use Rattle.fib_interned.specs.inner.Book.{IsBook, kept_with}
+use Rattle.fib_interned.specs.inner.Book.{IsBook}
 use Rattle.fib_interned.proofs.Books.{book_push, book_same, taken_new}
 use Rattle.fib_interned.proofs.Rows.{shown, map_push, length_map, absent_rows, rows_interned}
 use Rattle.fib_interned.proofs.interned.Interned.add.Goals as goal

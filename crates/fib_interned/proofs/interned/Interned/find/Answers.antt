@@ -1,4 +1,4 @@
-use Rattle.std.proofs.Common.{◌≡◌, map, nat_eq, true, Some, sym, ap, ◌∙◌, subst}
+use Rattle.std.proofs.Common.{map, nat_eq, sym, ap, ◌∙◌, subst}
 use Rattle.std.specs.Prelude.{IfNone}
 use Rattle.std.specs.HashMap.{get}
 use Rattle.fib_interned.specs.Interned.{kept_of, IsAbsent}

@@ -1,10 +1,10 @@
-use Rattle.std.proofs.Common.{◌≡◌, ◌≢◌, ◌<◌, ◌≤◌, ℕ, ◌-◌, length, map, List, Option, Some, None, true, ◌==◌, cond, slice_get, get_or, nat_eq, is_some, sym, ap, ◌∙◌, subst, refl, arith, inl, inr}
+use Rattle.std.proofs.Common.{◌≡◌, ◌≢◌, ◌<◌, ◌≤◌, ℕ, ◌-◌, length, map, List, Option, Some, None, ◌==◌, cond, slice_get, get_or, nat_eq, is_some, sym, ap, ◌∙◌, subst, refl, arith, inl, inr}
 use Rattle.std.specs.HashMap.{get}
-use Rattle.std.specs.List.{swap_remove, IsDistinct}
+use Rattle.std.specs.List.{swap_remove}
 use Rattle.std.proofs.lemmas.Bool.{cases_lt}
 use Rattle.std.proofs.lemmas.Option.{slice_get_within, slice_get-get_or}
 use Rattle.fib_interned.specs.declared.interned.Held.{Held}
-use Rattle.fib_interned.specs.Interned.{Kept, Gives, AreInterned}
+use Rattle.fib_interned.specs.Interned.{Kept, Gives}
 use Rattle.fib_interned.specs.inner.Book.{IsBook}
 use Rattle.fib_interned.proofs.Finding.{some_is, none_some, swapped_at, swapped_place}
 use Rattle.fib_interned.proofs.Books.{eqb_apart}

@@ -1,7 +1,7 @@
-use Rattle.std.proofs.Common.{◌≡◌, ◌<◌, ◌≤◌, ℕ, List, Option, Some, None, true, false, slice_get, sym, ap, ◌∙◌, subst, arith, refl}
+use Rattle.std.proofs.Common.{◌≡◌, sym, ap, ◌∙◌, subst, arith, refl}
 use Rattle.std.proofs.lemmas.Bool.{false≢true}
 use Rattle.std.proofs.lemmas.Option.{slice_get_within}
-use Rattle.fib_interned.specs.Interned.{Kept, kept_of, users_in, Gives}
+use Rattle.fib_interned.specs.Interned.{kept_of, users_in, Gives}
 use Rattle.fib_interned.proofs.Finding.{some_is}
 use Rattle.fib_interned.proofs.Books.{kept_there, kept_id, lowered_gone, lowered_some}
 use Rattle.fib_interned.proofs.interned.Interned.give.Goals as goal

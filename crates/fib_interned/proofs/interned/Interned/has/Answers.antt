@@ -1,8 +1,7 @@
-use Rattle.std.proofs.Common.{◌≡◌, nat_eq, map, Option, is_some, sym, ap, ◌∙◌, subst}
+use Rattle.std.proofs.Common.{nat_eq, map, is_some, sym, ap, ◌∙◌}
 use Rattle.std.specs.HashMap.{get}
 use Rattle.fib_interned.specs.Interned.{kept_of}
-use Rattle.fib_interned.specs.inner.Book.{kept_at}
-use Rattle.fib_interned.proofs.Books.{kept_by_place, has_place}
+use Rattle.fib_interned.proofs.Books.{has_place}
 use Rattle.fib_interned.proofs.Rows.{shown}
 use Rattle.fib_interned.proofs.interned.Interned.has.Goals as goal
 

@@ -1,5 +1,5 @@
-use Rattle.std.proofs.Common.{◌≡◌, slice_get, sym, ap, ◌∙◌, subst}
-use Rattle.fib_interned.specs.Interned.{kept_of, Takes}
+use Rattle.std.proofs.Common.{◌∙◌, subst}
+use Rattle.fib_interned.specs.Interned.{Takes}
 use Rattle.fib_interned.proofs.Books.{kept_id}
 use Rattle.fib_interned.proofs.interned.Interned.hold.Goals as goal
 

@@ -1,7 +1,6 @@
-use Rattle.std.proofs.Common.{◌≡◌, ◌-◌, map, slice_get, nat_eq, sym, ap, ◌∙◌, subst, arith}
+use Rattle.std.proofs.Common.{◌-◌, map, slice_get, nat_eq, sym, ap, ◌∙◌, subst, arith}
 use Rattle.std.specs.HashMap.{get}
 use Rattle.std.specs.List.{IsDistinct}
-use Rattle.fib_interned.specs.Interned.{AreInterned}
 use Rattle.fib_interned.specs.inner.Book.{IsBook}
 use Rattle.fib_interned.proofs.Books.{book_set, given_by}
 use Rattle.fib_interned.proofs.Rows.{shown, map_at, map_set, keys_set, rows_interned}
