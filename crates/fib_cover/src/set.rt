@@ -99,6 +99,14 @@ impl PrefixSet {
         longest(&self.members, addr, 32)
     }
 
+    /// The members, in order.
+    pub fn listed(&self, alloc: Global) -> Result<Vec<Prefix>, AllocError>
+        ensures listed { IfOk result (λ v. v.items ≡ self.now) }
+        ensures ordered { IsAscending self.now }
+    {
+        gather_all(alloc, &self.members)
+    }
+
     /// The members inside the prefix, in order: those at least as long whose first address is one of it. Costs what it yields.
     pub fn inside(&self, alloc: Global, prefix: Prefix) -> Result<Vec<Prefix>, AllocError>
         ensures { IfOk result (λ v. v.items ≡ filter (is_inside prefix) self.now) }
@@ -129,6 +137,19 @@ fn gather(alloc: Global, part: Range<'_, Prefix>) -> Result<Vec<Prefix>, AllocEr
     let mut out = Vec::new(alloc);
     for prefix in part {
         out.push(*prefix)?;
+    }
+    Ok(out)
+}
+
+/// The members of the set, in order.
+fn gather_all(alloc: Global, members: &BTreeSet<Prefix>) -> Result<Vec<Prefix>, AllocError>
+    ensures listed { IfOk result (λ v. v.items ≡ members.now.keys) }
+    ensures ordered { IsAscending members.now.keys }
+{
+    let _count = members.len();
+    let mut out = Vec::new(alloc);
+    for member in members.iter() {
+        out.push(*member)?;
     }
     Ok(out)
 }

@@ -11,3 +11,4 @@ pub mod Edits
 pub mod Refusals
 pub mod Reachable
 pub mod Touched
+pub mod Aims
