@@ -2,6 +2,7 @@ pub mod Best
 pub mod Numbers
 pub mod Members
 pub mod Edges
+pub mod Exits
 pub mod Leading
 pub mod Stability
 pub mod Viewing

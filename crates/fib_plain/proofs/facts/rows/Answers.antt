@@ -1,8 +1,8 @@
 use Rattle.std.proofs.Common.{arith, ◌∙◌, ap, length, get_or, List}
 use Rattle.fib_addr.specs.Prefixes.{Prefix}
-use Rattle.fib_plain.specs.Rows.{number_in}
+use Rattle.fib_plain.specs.Inner.Rows.{number_in}
 use Rattle.fib_plain.proofs.Numbers.{number_at}
-use Rattle.fib_plain.proofs.leads.rows.Goals as goal
+use Rattle.fib_plain.proofs.facts.rows.Goals as goal
 
 pub row-requires-clause-number : goal.row-requires-clause-number
 row-requires-clause-number c =

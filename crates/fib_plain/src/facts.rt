@@ -3,7 +3,7 @@ ghost use Rattle.std.specs.Prelude.{◌≡◌, ◌<◌, ℕ, Some, IfOk, map, ta
 ghost use Rattle.fib_resolve.specs.Pairs.{chosen, is_derived};
 ghost use Rattle.fib_resolve.specs.Loops.{looped_kind};
 ghost use Rattle.fib_resolve.specs.Forwarding.{is_up, up_of, kind_ends, is_attached_list, is_met, usable_by};
-ghost use Rattle.fib_plain.specs.Rows.{IsKnown, number_in, goal_number, graph_of, is_entry, lead_of, leads_of, rows_of};
+ghost use Rattle.fib_plain.specs.Inner.Rows.{IsKnown, number_in, goal_number, graph_of, is_entry, facts_of_path, facts_of, rows_of};
 
 use crate::known::{self, Known};
 use crate::loops;
@@ -15,7 +15,7 @@ use std::alloc::{AllocError, Global};
 
 /// What is known of a path of a chosen list.
 #[derive(Clone, Copy)]
-pub struct Lead {
+pub struct PathFacts {
     /// The number of the entry to which it leads.
     pub target: Option<u32>,
     /// Whether it is looped.
@@ -24,7 +24,8 @@ pub struct Lead {
     pub ready: bool,
 }
 
-fn is_up(tables: &Tables, i: u32) -> bool
+/// Whether the interface is there and up.
+pub fn is_up(tables: &Tables, i: u32) -> bool
     ensures { result ≡ is_up tables.now i }
 {
     match tables.interfaces.as_slice().get(i as usize) {
@@ -85,48 +86,48 @@ fn is_looped(graph: &mut Graph, known: Known<'_>, e: Prefix, number: u32, kind: 
     }
 }
 
-#[tactic(auto, unfolding(crate::specs::Rows::lead_of))]
-fn lead_for(graph: &mut Graph, known: Known<'_>, e: Prefix, number: u32, p: &Path) -> Lead
+#[tactic(auto, unfolding(crate::specs::Inner::Rows::facts_of_path))]
+fn facts_for(graph: &mut Graph, known: Known<'_>, e: Prefix, number: u32, p: &Path) -> PathFacts
     requires known { IsKnown known }
     requires graph { graph.old ≡ graph_of known.tables.now }
     requires number { number_in known.tables.now e ≡ Some number }
     ensures unchanged { graph.new ≡ graph.old }
-    ensures value { result ≡ lead_of known.entry.tables.now e p.now }
+    ensures value { result ≡ facts_of_path known.entry.tables.now e p.now }
 {
     let target = loops::goal_number(known, e, p.kind);
     let looped = is_looped(graph, known, e, number, p.kind);
     let ready = is_ready(known, e, p, looped, target);
-    Lead {
+    PathFacts {
         target,
         looped,
         ready,
     }
 }
 
-#[tactic(auto, unfolding(crate::specs::Rows::leads_of))]
+#[tactic(auto, unfolding(crate::specs::Inner::Rows::facts_of))]
 fn row(
     alloc: Global,
     graph: &mut Graph,
     known: Known<'_>,
     e: Prefix,
     number: u32,
-) -> Result<List<Lead>, AllocError>
+) -> Result<List<PathFacts>, AllocError>
     requires known { IsKnown known }
     requires graph { graph.old ≡ graph_of known.tables.now }
     requires number { number_in known.tables.now e ≡ Some number }
     ensures unchanged { graph.new ≡ graph.old }
-    ensures value { IfOk result (λ row. row ≡ leads_of known.entry.tables.now e) }
+    ensures value { IfOk result (λ row. row ≡ facts_of known.entry.tables.now e) }
 {
     let mut out = List::new(alloc);
     for p in known::chosen(known, e) {
-        out.push(lead_for(graph, known, e, number, p))?;
+        out.push(facts_for(graph, known, e, number, p))?;
     }
     Ok(out)
 }
 
 /// What is known of the paths of each entry. Each edge is searched once.
-#[tactic(auto, unfolding(crate::specs::Rows::rows_of))]
-pub fn rows(alloc: Global, known: Known<'_>) -> Result<Vec<List<Lead>>, AllocError>
+#[tactic(auto, unfolding(crate::specs::Inner::Rows::rows_of))]
+pub fn rows(alloc: Global, known: Known<'_>) -> Result<Vec<List<PathFacts>>, AllocError>
     requires { IsKnown known }
     ensures { IfOk result (λ v. v.items ≡ rows_of known.entry.tables.now) }
 {

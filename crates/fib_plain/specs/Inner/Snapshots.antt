@@ -6,11 +6,11 @@ use Rattle.fib_resolve.specs.Forwarding.{forwards}
 use Rattle.fib_resolve.specs.Tables.{IsSound}
 use Rattle.fib_resolve.specs.declared.pairs.Pair.{Pair}
 use Rattle.fib_resolve.specs.declared.types.Tables.{Tables}
-use Rattle.fib_plain.specs.Rows.{rows_of}
-use Rattle.fib_plain.specs.Places.{pair_at}
-use Rattle.fib_plain.specs.declared.leads.Lead.{Lead}
+use Rattle.fib_plain.specs.Inner.Rows.{rows_of}
+use Rattle.fib_plain.specs.Inner.Places.{pair_at}
+use Rattle.fib_plain.specs.declared.facts.PathFacts.{PathFacts}
 
-pub record IsSnapshot (S : Tables) (short_list : List Prefix) (pair_list : List Pair) (entry_list : List Prefix) (best_list : List (Option ℕ)) (row_list : List (List Lead)) (mark_list : List Bool) : Type 0 where
+pub record IsSnapshot (S : Tables) (short_list : List Prefix) (pair_list : List Pair) (entry_list : List Prefix) (best_list : List (Option ℕ)) (row_list : List (List PathFacts)) (mark_list : List Bool) : Type 0 where
   pub sound : IsSound S
   pub short_are : short_list ≡ short_prefixes S
   pub pairs_are : pair_list ≡ pairs S

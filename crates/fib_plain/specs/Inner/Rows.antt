@@ -11,8 +11,8 @@ use Rattle.fib_resolve.specs.declared.types.PathKind.{PathKind}
 use Rattle.fib_resolve.specs.declared.types.PathKind.TheVariants as kinds
 use Rattle.fib_resolve.specs.declared.types.Tables.{Tables}
 use Rattle.fib_plain.specs.declared.known.Known.{Known}
-use Rattle.fib_plain.specs.declared.leads.Lead.{Lead}
-use Rattle.fib_plain.specs.Places.{pair_at}
+use Rattle.fib_plain.specs.declared.facts.PathFacts.{PathFacts}
+use Rattle.fib_plain.specs.Inner.Places.{pair_at}
 
 -- the number of an entry
 unfoldable pub number_in : Tables → Prefix → Option ℕ
@@ -43,14 +43,14 @@ abbrev pub is_entry : Tables → Prefix → Bool
 is_entry S p = is_member same_prefix (entries S) p
 
 -- what is known of a path of an entry: ready where it is usable if its target forwards
-unfoldable pub lead_of : Tables → Prefix → Path → Lead
-lead_of S e p = record { target = goal_number S e p.kind; looped = looped_kind S e p.kind; ready = usable_by S (is_entry S) e p }
+unfoldable pub facts_of_path : Tables → Prefix → Path → PathFacts
+facts_of_path S e p = record { target = goal_number S e p.kind; looped = looped_kind S e p.kind; ready = usable_by S (is_entry S) e p }
 
-unfoldable pub leads_of : Tables → Prefix → List Lead
-leads_of S e = map (lead_of S e) (chosen S e)
+unfoldable pub facts_of : Tables → Prefix → List PathFacts
+facts_of S e = map (facts_of_path S e) (chosen S e)
 
-unfoldable pub rows_of : Tables → List (List Lead)
-rows_of S = map (leads_of S) (entries S)
+unfoldable pub rows_of : Tables → List (List PathFacts)
+rows_of S = map (facts_of S) (entries S)
 
 abbrev pub marked : Option Bool → Bool
 marked None = false
@@ -61,7 +61,7 @@ target_marked marks None = true
 target_marked marks (Some t) = marked (slice_get marks t)
 
 -- the path is usable where the marks say which entries forward
-abbrev pub usable_now : List Bool → Lead → Bool
+abbrev pub usable_now : List Bool → PathFacts → Bool
 usable_now marks x = x.ready && target_marked marks x.target
 
 -- what is kept beside tables is what they mean
