@@ -72,7 +72,8 @@ impl Config {
     /// Makes the edit, or says why not. After a fault nothing has changed.
     ///
     /// Refused comes exactly where a reason applies, and with the first one that does; the last reason is that the edited tables
-    /// take more objects than there is room for.
+    /// take more objects than there is room for. The edit is one that a line can write, as every edit that the reader of lines gives:
+    /// lengths of at most 32, weights of at least 1, needs with recursive paths alone, and at least one path where a route is added.
     pub fn edit(&mut self, edit: &Edit) -> Result<(), EditError>
         requires { IsWritten edit.now }
         ensures accepted { OnOk result (refused self.old.tables self.old.room edit.now ≡ None) }
@@ -86,7 +87,7 @@ impl Config {
     }
 
     /// Makes the edits in turn, or says which is the first that is refused on the tables that those before it give, and why. After a
-    /// fault nothing has changed.
+    /// fault nothing has changed. Each edit is one that a line can write, as for `edit`, and there are fewer than 2^32.
     pub fn edit_all(&mut self, edits: &[Edit]) -> Result<(), BatchError>
         requires written { AllByRecursion IsWritten edits.now }
         requires few { length edits.now < 2 ^ 32 }

@@ -5,14 +5,18 @@ ghost use Rattle.fib_resolve.specs.Reachable.{IsWritten};
 use super::*;
 use fib_addr::Addr;
 use fib_resolve::{Edit, List, Name, Refusal};
-use std::alloc::{AllocError, Global};
+use std::alloc::Global;
 use std::test::Fail;
 
-fn name(alloc: Global, text: &str) -> Result<Name, AllocError> {
-    Ok(Name::from_text(List::from_vec(text.as_bytes().to_vec(alloc)?)))
+fn name(alloc: Global, text: &str) -> Result<Name, Fail> {
+    if !Name::is_name(text.as_bytes()) {
+        return Err("no name".into());
+    }
+    let bytes = text.as_bytes().to_vec(alloc)?;
+    Ok(Name::from_text(List::from_vec(bytes)))
 }
 
-fn edit_of(alloc: Global, number: u32) -> Result<Edit, AllocError>
+fn edit_of(alloc: Global, number: u32) -> Result<Edit, Fail>
     ensures { IfOk result IsWritten }
 {
     match number {

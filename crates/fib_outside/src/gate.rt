@@ -1,6 +1,7 @@
 // What is told of a run as it goes on.
 
-/// It is told of each change and of each packet. It answers nothing, and no contract rests on it.
+/// It is told of each change and of each packet. A contract can say nothing of what a gate does when it is told: it may count, wait
+/// or do nothing. So no contract rests on one.
 pub trait Gate: Sync {
     /// Before the change of this number is made.
     fn changing(&self, change: u32);

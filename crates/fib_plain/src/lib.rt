@@ -7,10 +7,10 @@
 mod answers;
 mod base;
 mod effective;
-mod possible;
-mod known;
 mod facts;
+mod known;
 mod loops;
+mod possible;
 mod rounds;
 mod search;
 mod sizes;
@@ -21,3 +21,6 @@ mod ways;
 
 pub use answers::{ends, resolve, size, touched, usable};
 pub use snapshot::Snapshot;
+
+#[cfg(test)]
+mod tests;

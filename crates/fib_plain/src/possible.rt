@@ -74,7 +74,9 @@ fn exits(alloc: Global, view: View<'_>) -> Result<Vec<Exit>, AllocError>
 fn ends_of(alloc: Global, tables: &Tables, all: &[Exit]) -> Result<Vec<End>, AllocError>
     ensures { IfOk result (λ v. v.items ≡ filter_map (exit_end tables.now) all.now) }
 {
-    all.iter().filter_map(|x| exit_end(tables, x)).collect(alloc)
+    all.iter()
+        .filter_map(|x| exit_end(tables, x))
+        .collect(alloc)
 }
 
 /// Drop, and the ends of all usable paths that go on nowhere, with repeats.

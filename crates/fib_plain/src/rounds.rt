@@ -38,7 +38,11 @@ fn forwards_now(marks: &[bool], row: &[PathFacts]) -> bool
 }
 
 /// The marks of the next round.
-fn next_marks(alloc: Global, rows: &[List<PathFacts>], marks: &[bool]) -> Result<Vec<bool>, AllocError>
+fn next_marks(
+    alloc: Global,
+    rows: &[List<PathFacts>],
+    marks: &[bool],
+) -> Result<Vec<bool>, AllocError>
     ensures { IfOk result (λ v. v.items ≡ map (λ row. list_any (usable_now marks.now) row) rows.now) }
 {
     let mut out = Vec::new(alloc);
@@ -62,7 +66,11 @@ fn no_marks(alloc: Global, rows: &[List<PathFacts>]) -> Result<Vec<bool>, AllocE
 }
 
 /// A mark for each entry that forwards.
-pub fn marks(alloc: Global, tables: &Tables, rows: &[List<PathFacts>]) -> Result<Vec<bool>, AllocError>
+pub fn marks(
+    alloc: Global,
+    tables: &Tables,
+    rows: &[List<PathFacts>],
+) -> Result<Vec<bool>, AllocError>
     requires { rows.now ≡ rows_of tables.now }
     ensures { IfOk result (λ v. v.items ≡ map (forwards tables.now) (entries tables.now)) }
 {

@@ -12,8 +12,8 @@ ghost use Rattle.fib_plain.specs.Inner.Rows.{IsKnown};
 ghost use Rattle.fib_plain.specs.Inner.Views.{IsView};
 
 use crate::effective::{self, Base};
-use crate::known::{self, Known};
 use crate::facts::{self, PathFacts};
+use crate::known::{self, Known};
 use crate::view::{self, View};
 use crate::{base, possible, rounds, sizes, touching, ways};
 use fib_addr::{Addr, Mac, Prefix};

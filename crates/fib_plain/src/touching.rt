@@ -116,7 +116,11 @@ fn is_touched(before: View<'_>, after: View<'_>, e: Prefix) -> bool
 }
 
 /// The entries before and after, each once.
-fn all_entries(alloc: Global, before: &[Prefix], after: &[Prefix]) -> Result<Vec<Prefix>, AllocError>
+fn all_entries(
+    alloc: Global,
+    before: &[Prefix],
+    after: &[Prefix],
+) -> Result<Vec<Prefix>, AllocError>
     ensures { IfOk result (λ v. v.items ≡ unique_keys same_prefix (before.now ++ after.now)) }
 {
     let mut all = before.to_vec(alloc)?;
@@ -126,11 +130,7 @@ fn all_entries(alloc: Global, before: &[Prefix], after: &[Prefix]) -> Result<Vec
 
 /// The touched prefixes, each once.
 #[tactic(auto, unfolding(fib_resolve::specs::Touched::touched))]
-pub fn touched(
-    alloc: Global,
-    before: View<'_>,
-    after: View<'_>,
-) -> Result<Vec<Prefix>, AllocError>
+pub fn touched(alloc: Global, before: View<'_>, after: View<'_>) -> Result<Vec<Prefix>, AllocError>
     requires before { IsView before }
     requires after { IsView after }
     ensures { IfOk result (λ v. v.items ≡ touched before.entry.known.tables.now after.entry.known.tables.now) }

@@ -7,8 +7,8 @@ ghost use Rattle.fib_resolve.specs.Buckets.{least_preference, of_least_preferenc
 ghost use Rattle.fib_plain.specs.Inner.Rows.{facts_of};
 ghost use Rattle.fib_plain.specs.Inner.Views.{IsView};
 
-use crate::known::{self, Known};
 use crate::facts::PathFacts;
+use crate::known::{self, Known};
 use crate::rounds;
 use fib_addr::Prefix;
 use fib_list::List;

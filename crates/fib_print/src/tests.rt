@@ -3,14 +3,18 @@ use super::*;
 use fib_addr::{Addr, Mac, Prefix};
 use fib_resolve::{End, Interface, List, Name, Need, Path, PathKind, Refusal, Tables};
 use fib_results::{Record, Version};
-use std::alloc::{AllocError, Global};
+use std::alloc::Global;
 use std::test::Fail;
 
 /// Tables of one interface, eth0.
-fn tables(alloc: Global) -> Result<Tables, AllocError> {
+fn tables(alloc: Global) -> Result<Tables, Fail> {
+    let text = b"eth0";
+    if !Name::is_name(text) {
+        return Err("no name".into());
+    }
     let mut interfaces = List::new(alloc);
     interfaces.push(Interface {
-        name: Name::from_text(List::from_vec(b"eth0".to_vec(alloc)?)),
+        name: Name::from_text(List::from_vec(text.to_vec(alloc)?)),
         up: true,
     })?;
     Ok(Tables {

@@ -3,7 +3,7 @@
 use super::*;
 use fib_addr::{Addr, Prefix};
 use keys::{compare, compare_paths, is_before, is_same_key, is_same_path, is_same_source, key_of};
-use std::alloc::{AllocError, Global};
+use std::alloc::Global;
 use std::cmp::Ordering;
 use std::test::Fail;
 
@@ -16,8 +16,12 @@ fn path(kind: PathKind, weight: u8) -> Path {
     }
 }
 
-fn name(alloc: Global, text: &str) -> Result<Name, AllocError> {
-    Ok(Name::from_text(List::from_vec(text.as_bytes().to_vec(alloc)?)))
+fn name(alloc: Global, text: &str) -> Result<Name, Fail> {
+    if !Name::is_name(text.as_bytes()) {
+        return Err("no name".into());
+    }
+    let bytes = text.as_bytes().to_vec(alloc)?;
+    Ok(Name::from_text(List::from_vec(bytes)))
 }
 
 #[test]
@@ -71,4 +75,30 @@ fn copies_with_ample_memory(rt: HostRuntime) -> Result<(), Fail> {
     assert!(rt; interface.name.is(&name(alloc, "eth0")?));
     assert_eq!(rt; interface.name.as_bytes(), b"eth0".as_slice());
     Ok(())
+}
+
+#[test]
+fn laws_are_calls() {
+    laws::fresh_is_sound();
+    laws::edits_keep_sound();
+    laws::reachable_is_sound();
+    laws::one_list_a_source();
+    laws::chosen_lists_are_short();
+    laws::best_is_longest();
+    laws::cover_is_longest();
+    laws::prefixes_decide();
+    laws::attached_by_the_cover();
+    laws::looped_is_a_walk();
+    laws::kept_edges_are_acyclic();
+    laws::forwards_is_steady();
+    laws::forwarding_is_a_usable_path();
+    laws::looped_paths_are_not_wanted();
+    laws::entry_without_usable_path_drops();
+    laws::follow_is_steady();
+    laws::answers_are_possible_ends();
+    laws::listings_are_distinct();
+    laws::fresh_size_is_twenty();
+    laws::touched_is_listed();
+    laws::untouched_keeps_pairs();
+    laws::untouched_keeps_wanted();
 }

@@ -27,14 +27,12 @@ fn three_rounds_on_two_workers(rt: HostRuntime) -> Result<(), Fail> {
         objects: 64,
         walk: 64,
     };
-    let Ok(script) = Script::read(alloc, SCRIPT) else {
-        return Ok(());
-    };
+    let script = Script::read(alloc, SCRIPT).ok().ok_or("no script")?;
     let packets = Capture::of_flows(flows);
     let mut out = MemorySink::new(alloc, 1000, Vec::new(alloc))?;
-    let Ok(counts) = run(&rt, alloc, settings, &script, &packets, &mut out, &FreeGate) else {
-        return Ok(());
-    };
+    let counts = run(&rt, alloc, settings, &script, &packets, &mut out, &FreeGate)
+        .ok()
+        .ok_or("no run")?;
     assert_eq!(rt; out.bytes(), OUTPUT.as_bytes());
     assert_eq!(rt;
         (counts.accepted, counts.refused, counts.packets),
