@@ -3,12 +3,18 @@
 
     tests/tables.py ORACLE [CRATE]
 
-ORACLE is a Python program that knows `gen SEED --profile P --lines N -o DIR` (which writes a command file and a capture), `expect
-COMMANDS` (which prints what the program must print) and `soak SEED`; its package `fibref` lies beside it. Each table is a generated
-command file without lines that forward packets, followed by lookups at addresses of its own routes and next hops, and a listing of
-its entries. Each case of rounds is a generated command file with its capture, run with 1 to 6 workers; where a round's lines change
-the tables, its packets print the oracle's resolution over the tables at the round's opening. Files that are already in the crate's
-data and were not written here are kept, and their answers are made anew by the oracle too.
+ORACLE is the reference oracle: a Python model of the program that shares nothing with this repository and is no part of it. It is a
+command line that knows
+
+    gen SEED --profile P --lines N [--packets N] -o DIR   writes a command file and a capture
+    expect [--objects N] COMMANDS                         prints what the program must print
+    soak SEED                                             prints the four lines of a long run
+
+and its package `fibref` lies beside it. Each table is a generated command file without lines that forward packets, followed by
+lookups at addresses of its own routes and next hops, and a listing of its entries. Each case of rounds is a generated command file
+with its capture, run with 1 to 6 workers; where a round's lines change the tables, its packets print the oracle's resolution over
+the tables at the round's opening. The long files (a chain, a ring, a line of many paths) are written here too. All other files of
+the crate's data are kept, and their answers are made anew by the oracle.
 
 A line of the crate's `args` is the words of one run, joined by colons.
 """
@@ -25,6 +31,39 @@ PACKETS = 24
 FIRST_SEED = 2001
 LINES = 24
 LOOKUPS = 12
+LINK = ["create interface eth0", "set interface state eth0 up", "set interface ip address eth0 10.0.0.1/24"]
+
+
+def chain(number):
+    """The host of that number on a chain or a ring."""
+    return f"20.0.{number // 250}.{number % 250 + 1}"
+
+
+def chain_of(length):
+    """Recursive routes each by way of the next; the last over the link."""
+    routes = [f"ip route add {chain(k)}/32 via {chain(k + 1)}" for k in range(length - 1)]
+    asked = [f"lookup {chain(k)} {k}" for k in (0, length // 2, length - 1)]
+    return LINK + routes + [f"ip route add {chain(length - 1)}/32 via 10.0.0.7 eth0"] + asked
+
+
+def ring_of(length):
+    """Recursive routes each by way of the next, round in a ring, one of which has a way out too."""
+    routes = [f"ip route add {chain(k)}/32 via {chain((k + 1) % length)}" for k in range(length)]
+    asked = [f"lookup {chain(k)} 5" for k in (0, 1, length - 1)]
+    return LINK + routes + [f"ip route add {chain(0)}/32 via 10.0.0.7 eth0"] + asked
+
+
+def worked():
+    """Long or odd files, by their names."""
+    shares = "ip route add 20.0.0.0/8 via 10.0.0.7 eth0 via 10.0.0.8 eth0 via 10.0.0.9 eth0"
+    many = "ip route add 20.0.0.0/8" + 10_000 * " via 10.0.0.7"
+    return {
+        "chain_of_a_thousand.fib": chain_of(1_000),
+        "ring_of_five_hundred.fib": ring_of(500),
+        "ten_thousand_times_one_path.fib": LINK + [many, "lookup 20.1.1.1 5", "show fib path-lists"],
+        "three_shares_of_hops.fib": LINK + [shares] + [f"lookup 20.1.1.1 {h}" for h in (5, 6, 10, 11)],
+        "byte_zero.fib": LINK + ["lookup 10.0.0.7 5", "lookup 10.0.0.7 5\0"],
+    }
 
 
 def run(oracle, *words):
@@ -109,12 +148,13 @@ def rounds(oracle, crate):
 
 def expected(oracle, crate, words):
     names = [word for word in words.split(":") if not word.startswith("--")]
+    options = [word for word in words.split(":") if word.startswith("--objects")]
     if not names:
         return run(oracle, "soak", words.removeprefix("--soak="))
     files = [crate / "data" / name for name in names]
     if len(files) == 2:
         return rounds_text(files[0].read_bytes(), files[1].read_bytes())
-    return run(oracle, "expect", *files)
+    return run(oracle, "expect", *options, *files)
 
 
 def main():
@@ -122,6 +162,9 @@ def main():
     sys.path.insert(0, str(pathlib.Path(oracle).resolve().parent))
     crate = pathlib.Path(sys.argv[2] if len(sys.argv) > 2 else "crates/fib_cases")
     runs = [words for words in (crate / "args").read_text().split() if not re.match(r"table_|--workers=\d:rounds_", words)]
+    for name, lines in worked().items():
+        (crate / "data" / name).write_text("\n".join(lines) + "\n")
+        runs += [] if name in runs else [name]
     for profile, count in PROFILES.items():
         for seed in range(FIRST_SEED, FIRST_SEED + count):
             name = f"table_{profile}_{seed}.fib"
