@@ -1,0 +1,4 @@
+pub mod Backed
+pub mod Counts
+pub mod Stale
+pub mod Stores
