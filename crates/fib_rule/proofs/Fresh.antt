@@ -1,0 +1,47 @@
+-- The rule holds of a fresh table, whatever the names.
+use Rattle.std.proofs.Common.{◌≡◌, ◌≤◌, ◌<◌, ◌+◌, ◌*◌, ℕ, zero, suc, [], ◌∷◌, refl, sym, subst, arith}
+use Rattle.std.specs.Prelude.{replicate, None}
+use mathlib.Core.Option.{some, some-injective, some-ne-none}
+use lib.ListN.{get_elem?}
+use Rattle.fib_resolve.proofs.Sound.{sound_fresh}
+use Rattle.fib_lawful.specs.State.{Control, Worker, View, control, worker, note, spent, first_control}
+use Rattle.fib_lawful.specs.Frame.{both, Fits, Rule}
+use Rattle.fib_lawful.specs.Lawful.{lawful}
+use Rattle.fib_lawful.proofs.Begins.{begins_lawful}
+use Rattle.fib_steady.specs.Names.{Names}
+use Rattle.fib_rule.specs.Part.{SteadyControl, steady, Steady}
+
+no_names : Names
+no_names = record { depth = λ x. 0; value = λ x. 0; balance = λ e. None }
+
+fresh_control : (objects workers : ℕ) → SteadyControl no_names (first_control objects workers)
+fresh_control objects workers = record { sound = (sound_fresh, tt); promised = λ lt. absurd (omega (arith, lt)); home = tt }
+
+control_worker : (c : Control) (w : Worker) → control c ≡ worker w → ⊥
+control_worker c w e = cc
+
+control_note : (c : Control) (n : Rattle.fib_results.specs.declared.record.Version.Version) → control c ≡ note n → ⊥
+control_note c n e = cc
+
+pub fresh_steady : (objects workers : ℕ) → 0 < objects → workers ≤ 8 → Steady objects (replicate (16 + 16 * objects) 0) (control (first_control objects workers) ∷ [])
+fresh_steady objects workers any few = (no_names, from_rule (begins_lawful objects workers any few).rule)
+  where
+    from_rule : Rule (lawful objects) (replicate (16 + 16 * objects) 0) (control (first_control objects workers) ∷ []) → Rule (both (lawful objects) (steady no_names)) (replicate (16 + 16 * objects) 0) (control (first_control objects workers) ∷ [])
+    from_rule s = (
+      s.0,
+      s.1,
+      record {
+        size = s.2.size;
+        desk = s.2.desk;
+        here = (s.2.here, subst (SteadyControl no_names) (s.2.fits 0 (control (first_control objects workers)) refl).1 (fresh_control objects workers));
+        fits = by_view;
+      },
+    )
+      where
+        by_view : (seat : ℕ) (v : View) → get_elem? (control (first_control objects workers) ∷ []) seat ≡ some v → Fits (both (lawful objects) (steady no_names)) (replicate (16 + 16 * objects) 0) s.0 s.1 seat v
+        by_view seat (control d) at = s.2.fits seat (control d) at
+        by_view zero (worker w) at = absurd (control_worker (first_control objects workers) w (some-injective (control (first_control objects workers)) (worker w) at))
+        by_view (suc seat) (worker w) at = absurd (some-ne-none (worker w) (sym at))
+        by_view zero (note n) at = absurd (control_note (first_control objects workers) n (some-injective (control (first_control objects workers)) (note n) at))
+        by_view (suc seat) (note n) at = absurd (some-ne-none (note n) (sym at))
+        by_view seat spent at = tt
