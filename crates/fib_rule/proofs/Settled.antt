@@ -6,15 +6,13 @@ use Rattle.fib_resolve.specs.Pairs.{entries}
 use Rattle.fib_resolve.specs.Tables.{IsSound}
 use Rattle.fib_resolve.specs.declared.types.Tables.{Tables}
 use Rattle.fib_core.specs.Union.{Union}
-use Rattle.fib_core.specs.StandsFor.{Thing, StandsFor}
-use Rattle.fib_lawful.specs.State.{Control}
-use Rattle.fib_lawful.specs.May.{MaySettle}
+use Rattle.fib_core.specs.StandsFor.{Thing, StandsFor, Stands}
+use Rattle.fib_steady.specs.Names.{Names}
 use Rattle.fib_steady.specs.Promise.{IsPromised}
 use Rattle.fib_steady.specs.Undisturbed.{since}
 use Rattle.fib_steady.proofs.Lists.{from_place}
 use Rattle.fib_steady.proofs.Events.{asks_less}
-use Rattle.fib_rule.specs.Named.{names_of}
-use Rattle.fib_rule.specs.Part.{MaySettleSteadily, MayBeginSteadily}
+use Rattle.fib_rule.proofs.Named.{names_of}
 use Rattle.fib_rule.proofs.Stands.{stands_promised}
 
 same_place : (n : ℕ) → n ≤ n
@@ -28,10 +26,6 @@ pub stands_since : (H : List Tables) (k : ℕ) (S : Tables) → slice_get H k �
     → IsPromised (since H k) (names_of names S) u
 stands_since H k S at u names quiet stands fine objects long = asks_less (S ∷ []) (since H k) (alone_in H k S at) (names_of names S) u (stands_promised u names S quiet stands fine objects long)
 
--- settling
-pub settle_steadily : (c : Control) (objects : ℕ) → length c.union.cells ≡ 16 * objects → MaySettle c.union c.log → MaySettleSteadily c
-settle_steadily c objects long may = (names_of may.names may.tables, stands_since c.log.history c.log.version.applied may.tables may.held c.union may.names may.quiet may.stands may.prefixes objects long)
-
--- the first change
-pub begin_steadily : (c : Control) (objects : ℕ) (S T : Tables) (names : Thing → ℕ) → length c.union.cells ≡ 16 * objects → slice_get c.log.history c.log.version.settled ≡ Some S → c.union.retired ≡ [] → StandsFor c.union.cells names S → ((q : Prefix) → Contains (entries S) q → IsPrefix q) → IsSound T → MayBeginSteadily c T
-begin_steadily c objects S T names long at quiet stands fine sound = (sound, λ z. (names_of names S, stands_since c.log.history c.log.version.settled S at c.union names quiet stands fine objects long))
+-- the cells stand for the tables of a version: the promise holds from that version on
+pub stands_at : (H : List Tables) (k : ℕ) (S : Tables) → slice_get H k ≡ Some S → (u : Union) (objects : ℕ) → length u.cells ≡ 16 * objects → Stands u S → (n : Names) × IsPromised (since H k) n u
+stands_at H k S at u objects long may = (names_of may.names S, stands_since H k S at u may.names may.quiet may.stands may.prefixes objects long)

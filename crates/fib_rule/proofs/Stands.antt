@@ -43,7 +43,7 @@ use Rattle.fib_steady.specs.Aims.{Aim, path_aim, kind_aim, aim}
 use Rattle.fib_steady.specs.Names.{Names, IsChild, IsWalked}
 use Rattle.fib_steady.specs.Promise.{IsEndWord, IsAimed, IsRight, KeepsBuckets, IsPromised}
 use Rattle.fib_steady.proofs.Ways.{Leads, leads, best_is_entry}
-use Rattle.fib_rule.specs.Named.{ply_at, depth_of, path_of, names_of}
+use Rattle.fib_rule.proofs.Named.{ply_at, depth_of, path_of, names_of}
 
 -- a test that one member alone passes finds it
 found_one : {X : Type 0} (test : X → Bool) (xs : List X) (x : X) → Contains xs x → test x ≡ true → ((y : X) → Contains xs y → test y ≡ true → y ≡ x) → find test xs ≡ Some x

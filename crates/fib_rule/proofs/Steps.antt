@@ -15,14 +15,14 @@ use Rattle.fib_results.specs.Versions.{unpacked}
 use Rattle.fib_lawful.specs.State.{Control, Worker, View, control, worker, note, spent, started, learned, lo_at, hopped, stopped, claimed, told, stored_union, put, looked, with_log, begun, settled, picking}
 use Rattle.fib_lawful.specs.Frame.{Parts, both, Fits, Rule}
 use Rattle.fib_lawful.specs.Lawful.{IsTold, AimsOnce, OfControl, OfWorker, lawful}
-use Rattle.fib_lawful.specs.May.{MayStore, IsFilling}
+use Rattle.fib_lawful.specs.May.{MayStoreLawfully, IsFilling}
 use Rattle.fib_lawful.proofs.Framing.{WorkerOwes, ControlOwes, SendOwes, HomeOwes}
 use Rattle.fib_results.proofs.Versions.{unpacked_packed}
 use Rattle.fib_steady.specs.Names.{Names}
 use Rattle.fib_steady.specs.Promise.{IsPromised}
 use Rattle.fib_steady.specs.Undisturbed.{since, IsUndisturbed, IsSteadyTrail}
 use Rattle.fib_steady.proofs.Events.{undisturbed_loads, undisturbed_renames, undisturbed_first, undisturbed_stores, undisturbed_begins, promised_begins, promised_scans, finishes_steady, steady_begins, quiet_steady}
-use Rattle.fib_rule.specs.Part.{versions, IsBegun, AreSteady, SteadyControl, SteadyWorker, steady}
+use Rattle.fib_rule.specs.Steady.{versions, IsBegun, AreSteady, SteadyControl, SteadyWorker, steady}
 
 -- the two regimes
 pub begun_or_not : (n : ℕ) → (n ≡ 0) ⊎ (0 < n)
@@ -39,7 +39,7 @@ grown : (H : List Tables) (T : Tables) (ts : List Trail) → AreSteady H ts → 
 grown H T ts all = each-weaker (IsSteadyTrail H) (IsSteadyTrail (H ++ T ∷ [])) (λ t one. steady_begins H T t one) ts all
 
 -- a version with applied 0
-zero_version : (v : Version) → v.settled ≤ v.applied → v.applied ≡ 0 → v ≡ version_at 0
+pub zero_version : (v : Version) → v.settled ≤ v.applied → v.applied ≡ 0 → v ≡ version_at 0
 zero_version v le z = let e : v.settled ≡ 0 = omega arith in λ i. record { settled = e i; applied = z i }
 
 -- a finished trail is steady
@@ -140,7 +140,7 @@ module _ (objects : ℕ) (words : List ℕ) (views : List View) (n : Names) wher
       ((o.0, h.1), (o.1, record { undisturbed = f.1.undisturbed; current = f.1.current; done = f.1.done; past = f.1.past }), (λ u g. (o.2 u g.0, g.1)), λ v m. (o.3 v m.0, tt))
 
   -- 5: a cell is stored
-  pub puts_owes : (c : Control) (k w : ℕ) (words' : List ℕ) → MayStore c.objects c.union c.log c.desk.out k w → (IsBegun c.log → IsPromised (versions c.log) n (stored_union c k w)) → ControlOwes (lawful objects) words views words' c (put c k w) → ControlOwes (both (lawful objects) (steady n)) words views words' c (put c k w)
+  pub puts_owes : (c : Control) (k w : ℕ) (words' : List ℕ) → MayStoreLawfully c.objects c.union c.log c.desk.out k w → (IsBegun c.log → IsPromised (versions c.log) n (stored_union c k w)) → ControlOwes (lawful objects) words views words' c (put c k w) → ControlOwes (both (lawful objects) (steady n)) words views words' c (put c k w)
   puts_owes c k w words' may after owes h =
       let o = owes h.0 in (
         (o.0, record { sound = h.1.sound; promised = after; home = h.1.home }),
@@ -231,38 +231,3 @@ module _ (objects : ℕ) (words : List ℕ) (views : List View) (n : Names) wher
   -- 11: a note is joined into a worker's seat
   pub tells_owes : (v : Worker) (m : Version) (c : Control) → SteadyWorker n c v → SteadyWorker n c (told v m)
   tells_owes v m c f = record { undisturbed = f.undisturbed; current = f.current; done = f.done; past = f.past }
-
--- the parts of a rule may be changed where each follows
-pub rule_follows : (P Q : Parts) (words : List ℕ) (views : List View) → (s : Rule P words views) → (P.of_control words s.0 → Q.of_control words s.0)
-    → (P.of_control words s.0 → (w : Worker) → P.of_worker words s.0 w → Q.of_worker words s.0 w) → ((v : Version) → P.of_note words s.0 v → Q.of_note words s.0 v) → Rule Q words views
-rule_follows P Q words views s control_too worker_too note_too = (
-  s.0,
-  s.1,
-  record {
-    size = s.2.size;
-    desk = s.2.desk;
-    here = control_too s.2.here;
-    fits = λ seat v at. by_view seat v (s.2.fits seat v at);
-  },
-)
-  where
-    by_view : (seat : ℕ) (v : View) → Fits P words s.0 s.1 seat v → Fits Q words s.0 s.1 seat v
-    by_view seat (control d) f = f
-    by_view seat (worker w) f = (f.0, worker_too s.2.here w f.1)
-    by_view seat (note v) f = note_too v f
-    by_view seat spent f = tt
-
--- names are free: the rule holds for any for which the promise does
-pub renames : (objects : ℕ) (words : List ℕ) (views : List View) (n m : Names) → (s : Rule (both (lawful objects) (steady n)) words views) → (IsBegun s.0.log → IsPromised (versions s.0.log) m s.0.union) → Rule (both (lawful objects) (steady m)) words views
-renames objects words views n m s also = rule_follows (both (lawful objects) (steady n)) (both (lawful objects) (steady m)) words views s
-    (λ h. (h.0, record { sound = h.1.sound; promised = also; home = h.1.home }))
-    (λ h w f. (f.0, record { undisturbed = λ lt. carried h w f lt w.trail refl; current = f.1.current; done = f.1.done; past = f.1.past }))
-    (λ v k. k)
-  where
-    carried : OfControl objects words s.0 × SteadyControl n s.0 → (w : Worker) → OfWorker objects words s.0 w × SteadyWorker n s.0 w → IsBegun s.0.log → (t : List Load) → w.trail ≡ t → IsUndisturbed s.0.log.history m.balance s.0.union.cells w.lo.settled w.trail
-    carried h w f lt [] is = subst (IsUndisturbed s.0.log.history m.balance s.0.union.cells w.lo.settled) (sym is) (λ a b trip follows alike. tt)
-    carried h w f lt (l ∷ t) is =
-        let long = h.0.log.long in
-        let order = h.0.log.order in
-        let version : Version = s.0.log.version in
-        undisturbed_renames s.0.log.history version.settled h.1.sound (omega arith) n s.0.union (h.1.promised lt) m (also lt) w.lo.settled w.trail (subst (AimsOnce s.0.union.cells s.0.log w.lo) is f.0.aimed).low.last.settled (f.1.undisturbed lt)

@@ -11,7 +11,11 @@ use Rattle.fib_core.specs.Union.{Retired, Union, AnyOf, Goes, retire_if, stored,
 use Rattle.fib_core.proofs.Numbers.{goes_of, target_of}
 use Rattle.fib_core.proofs.Unions.{retire_needed}
 use Rattle.fib_steady.specs.Names.{IsWalked}
-use Rattle.fib_steady.specs.Backed.{LeadsNow, AreBacked, IsBacked, AreNewest, IsBackedStore}
+use Rattle.fib_steady.specs.Backed.{LeadsNow, AreBacked, IsBacked, AreNewest}
+
+-- a store that replaces an edge to a ply is into the root, or into an object to which another cell leads
+abbrev pub IsBackedStore : Union → ℕ → Type 0
+IsBackedStore u k = (c : ℕ) → decoded (slice_index u.cells k) ≡ words.ToPly c → owner k ≢ 0 → (j : ℕ) × (j ≢ k) × (decoded (slice_index u.cells j) ≡ words.ToPly (owner k))
 
 backed-map : (P Q : ℕ → Type 0) → ((y : ℕ) → P y → Q y) → (rs : List Retired) → AreBacked P rs → AreBacked Q rs
 backed-map P Q f [] h = tt

@@ -19,7 +19,7 @@ use Rattle.fib_core.proofs.Unions.{goes_stored}
 use Rattle.fib_core.proofs.Walks.{adjacency_stored}
 use Rattle.fib_steady.specs.Aims.{Aim, ends, on, IsLasting, WantsAlike}
 use Rattle.fib_steady.specs.Names.{Names, IsChild, IsWalked}
-use Rattle.fib_steady.specs.May.{IsLoose, IsServing, Puts, MayPut}
+use Rattle.fib_steady.specs.Loose.{IsLoose}
 use Rattle.fib_steady.specs.Promise.{IsEndWord, IsAimed, KeepsBuckets, IsRight, IsPromised}
 
 -- the store is into none of an adjacency into which the union leads
@@ -140,35 +140,3 @@ aside_stored J n u keep fresh k w other none unnamed plain ok =
     unwalked : IsWalked u (owner k) → ⊥
     unwalked (inl is) = other is
     unwalked (inr (y, (j, v, from, is, g))) = none j v g (target_of v (words.ToPly (owner k)) is)
-
--- what freed objects are cleared by keeps what every call asks
-pub cleared_serves : (J : List Tables) (n : Names) (u : Union) (held : ℕ → Bool) (keep : Bool) (fresh : List Mark) (k : ℕ) → owner k ≢ 0 → ((j v : ℕ) → Goes u j v → target v ≡ owner k → ⊥) → (held (owner k) ≡ true → ⊥)
-    → IsServing J n u held → IsServing J n (stored keep fresh u k 0) held
-cleared_serves J n u held keep fresh k other none free ok = record {
-  promised = aside_stored J n u keep fresh k 0 other none (λ e lasting is. free (ok.balances e (owner k) lasting is)) (λ c is. drop_no_ply c (sym decoded-zero ∙ is)) ok.promised;
-  balances = ok.balances;
-}
-  where
-    drop_no_ply : (c : ℕ) → words.Drop ≡ words.ToPly c → ⊥
-    drop_no_ply c e = cc
-
--- a put into a bucket
-pub bucket_may_put : (J : List Tables) (n : Names) (u : Union) (keep : Bool) (fresh : List Mark) (k w : ℕ) → IsBeside u k → (IsWalked u (owner k) → ⊥) → ((c : ℕ) → decoded w ≡ words.ToPly c → ⊥)
-    → IsPromised J n u → (slice_index u.cells k ≡ w) ⊎ IsLoose J n.balance k → MayPut J n u keep fresh k w
-bucket_may_put J n u keep fresh k w beside apart none ok (inl same) = inl same
-bucket_may_put J n u keep fresh k w beside apart none ok (inr loose) = inr (λ z puts. by_case z puts)
-  where
-    drop_no_ply : (c : ℕ) → words.Drop ≡ words.ToPly c → ⊥
-    drop_no_ply c e = cc
-
-    by_case : (z : ℕ) → Puts u k w z → IsPromised J n (stored keep fresh u k z)
-    by_case z (inl is) = bucket_stored J n u keep fresh k z beside loose apart (λ c e. none c (ap decoded (sym is) ∙ e)) ok
-    by_case z (inr closes) = bucket_stored J n u keep fresh k z beside loose apart (λ c e. drop_no_ply c (sym decoded-zero ∙ ap decoded (sym closes.0) ∙ e)) ok
-
--- a put into a ply, whose edge closes no cycle
-pub ply_may_put : (J : List Tables) (n : Names) (u : Union) (keep : Bool) (fresh : List Mark) (k w : ℕ) → (goes w ≡ true → Leads (Edge u) (target w) (owner k) → ⊥) → IsPromised J n (stored keep fresh u k w) → MayPut J n u keep fresh k w
-ply_may_put J n u keep fresh k w calm after = inr (λ z puts. by_case z puts)
-  where
-    by_case : (z : ℕ) → Puts u k w z → IsPromised J n (stored keep fresh u k z)
-    by_case z (inl is) = subst (λ (i : ℕ). IsPromised J n (stored keep fresh u k i)) (sym is) after
-    by_case z (inr closes) = absurd (calm closes.1 closes.2)

@@ -1,4 +1,5 @@
--- A retired edge from a ply to another outlives no edge into its own ply.
+-- A retired edge from a ply to another outlives no edge into its own ply: retirements leave in their order, so where the ply's own edge was
+-- retired later, it is there longer.
 use Rattle.std.specs.Prelude.{◌≡◌, ◌≢◌, ◌⊎◌, ℕ, false, List, [], ◌∷◌, slice_index}
 use Rattle.std.specs.List.{AllByRecursion}
 use Rattle.fib_core.specs.declared.word.Word.TheVariants as words
@@ -11,10 +12,13 @@ use Rattle.fib_core.specs.Union.{Retired, Union}
 abbrev pub LeadsNow : List ℕ → ℕ → Type 0
 LeadsNow cells y = (k : ℕ) × (decoded (slice_index cells k) ≡ words.ToPly y)
 
--- the newest first: each edge to a ply that was retired from another object than the root has an edge into its object that P has or that was retired later
+-- the newest first: each edge to a ply that was retired from another object than the root has an edge into its object that P has or that was
+-- retired later
 abbrev pub AreBacked : (ℕ → Type 0) → List Retired → Type 0
 AreBacked P [] = Unit {0}
-AreBacked P (r ∷ rs) = ((c : ℕ) → decoded r.word ≡ words.ToPly c → owner r.cell ≢ 0 → P (owner r.cell)) × AreBacked (λ y. P y ⊎ (decoded r.word ≡ words.ToPly y)) rs
+AreBacked P (r ∷ rs) =
+    ((c : ℕ) → decoded r.word ≡ words.ToPly c → owner r.cell ≢ 0 → P (owner r.cell))
+    × AreBacked (λ y. P y ⊎ (decoded r.word ≡ words.ToPly y)) rs
 
 abbrev pub IsBacked : Union → Type 0
 IsBacked u = AreBacked (LeadsNow u.cells) u.retired
@@ -24,10 +28,6 @@ abbrev pub AreNewest : List Retired → List Retired → Type 0
 AreNewest [] rs = Unit {0}
 AreNewest (q ∷ qs) [] = ⊥
 AreNewest (q ∷ qs) (r ∷ rs) = (q.cell ≡ r.cell) × (q.word ≡ r.word) × AreNewest qs rs
-
--- a store that replaces an edge to a ply is into the root, or into an object to which another cell leads
-abbrev pub IsBackedStore : Union → ℕ → Type 0
-IsBackedStore u k = (c : ℕ) → decoded (slice_index u.cells k) ≡ words.ToPly c → owner k ≢ 0 → (j : ℕ) × (j ≢ k) × (decoded (slice_index u.cells j) ≡ words.ToPly (owner k))
 
 -- the mark of an older retirement is ahead of a newer one's
 abbrev pub IsAhead : Mark → Mark → Type 0
