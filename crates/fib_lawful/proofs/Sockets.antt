@@ -44,11 +44,11 @@ module _ (P Q : Parts) (words : List ℕ) (views : List View) where
       ((p.0, q.0), (λ u g. (p.1 u g.0, q.1 u g.0 g.1)), λ n m. (p.2 n m.0, q.2 n m.0 m.1))
 
   -- the parts below still hold
-  fits_below : (c : Control) (seat_of : ℕ → ℕ) (seat : ℕ) (v : View) → Fits (both P Q) words c seat_of seat v → Fits P words c seat_of seat v
+  pub fits_below : (c : Control) (seat_of : ℕ → ℕ) (seat : ℕ) (v : View) → Fits (both P Q) words c seat_of seat v → Fits P words c seat_of seat v
   fits_below c seat_of seat (control d) f = f
   fits_below c seat_of seat (worker w) f = (f.0, f.1.0)
   fits_below c seat_of seat (note n) f = f.0
   fits_below c seat_of seat spent f = tt
 
-  pub rule_below : Rule (both P Q) words views → Rule P words views
+  unfoldable pub rule_below : Rule (both P Q) words views → Rule P words views
   rule_below s = (s.0, s.1, record { size = s.2.size; desk = s.2.desk; here = s.2.here.0; fits = λ seat v at. fits_below s.0 s.1 seat v (s.2.fits seat v at) })

@@ -180,5 +180,5 @@ module _ (objects : ℕ) (words : List ℕ) (views : List View) (id : ℕ) (s : 
   }
 
   -- what the parts below say alone
-  pub lawful_rule : Rule (lawful objects) words views
+  unfoldable pub lawful_rule : Rule (lawful objects) words views
   lawful_rule = rule_below (lawful objects) (steady s.names) words views (rule_below (both (lawful objects) (steady s.names)) hangs words views s.holds.rule)
