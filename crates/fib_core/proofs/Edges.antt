@@ -1,5 +1,5 @@
 -- The union over words is the union of edges between objects: the same edges, and the same stores and looks.
-use Rattle.std.proofs.Common.{◌≡◌, ◌<◌, ◌&&◌, inl, inr, Bool, true, false, true≢false, cond, not, ℕ, zero, suc, List, [], ◌∷◌, map, filter, Option, Some, None, refl, sym, ap, ◌∙◌, arith}
+use Rattle.std.proofs.Common.{◌≡◌, ◌&&◌, inl, inr, Bool, true, false, cond, not, ℕ, zero, suc, List, [], ◌∷◌, map, filter, Option, Some, None, refl, sym, ap, ◌∙◌, arith}
 use Rattle.std.specs.Prelude.{Contains, slice_index, slice_set, if◌then◌else◌}
 use Rattle.std.proofs.lemmas.List.{map-set}
 use Rattle.fib_reach.specs.Walks.{IsAcyclic}

@@ -63,7 +63,7 @@ module _ (n : ℕ) where
     plies = λ k w j v g is q e. absurd (no_goes k w g);
     shallow = no_walk;
     root = λ s lt. inr (drop_at (16 * 0 + s));
-    formed = λ k w s g lt. absurd (no_goes k w g)
+    formed = λ k w s g lt. absurd (no_goes k w g);
   }
 
   fresh_calm : IsAcyclic (Edge (record { cells = replicate n 0; retired = [] }))
@@ -119,17 +119,17 @@ begins_lawful objects workers any few =
             log = record { packed = zeros (16 + 16 * objects) 0 ∙ zero_version; fits = omega arith; order = omega arith; long = refl; first = refl };
             settled = λ k S now held. (let k0 : k ≡ 0 = ap (λ v. v.applied) (sym now) in let S0 : S ≡ fresh = some_is S fresh (sym held ∙ ap (slice_get (fresh ∷ [])) k0) in record {
               answers = λ a h f. fresh_walk (16 * objects) a h ∙ sym (ap (λ T. resolve T a h) S0 ∙ fresh_drops a h);
-              quiet = λ lt. refl
+              quiet = λ lt. refl;
             });
             ends = fresh_ends (16 * objects) (IsEndOf (fresh ∷ []) 0 0);
             home = tt;
-            spare = omega arith
+            spare = omega arith;
           };
-          fits = λ seat v at. (let e = alone (control c) v seat at in subst (Fits (lawful objects) ws c (λ m. 0) seat) e.1 (e.0, refl))
+          fits = λ seat v at. (let e = alone (control c) v seat at in subst (Fits (lawful objects) ws c (λ m. 0) seat) e.1 (e.0, refl));
         },
       );
       claims = record { all = zeros (16 + 16 * objects) 9; each = λ m. sym (ap (λ k. if nat_lt m k then 1 else 0) (zeros (16 + 16 * objects) 9) ∙ none m) };
-      seats = λ m. sym (ap one_if (falses 8 m))
+      seats = λ m. sym (ap one_if (falses 8 m));
     }
   where
     none : (m : ℕ) → ◌≡◌ {A = ℕ} (if nat_lt m 0 then 1 else 0) 0

@@ -47,7 +47,7 @@ times_append n (x ∷ xs) ys = let t = times_append n xs ys in more (if eqb x n 
 pub claims_kept : (words words' : List ℕ) (views : List View) (id : ℕ) (v w : View) → get_elem? views id ≡ some v → claims_in w ≡ claims_in v → slice_index words' 9 ≡ slice_index words 9 → IsClaimed words views → IsClaimed words' (slice_set views id w)
 claims_kept words words' views id v w at same word c = record {
   all = word ∙ c.all ∙ sym (total_same count_in views id v w at (ap length same));
-  each = λ n. total_same (times_in n) views id v w at (ap (times n) same) ∙ c.each n ∙ ap (λ m. if nat_lt n m then 1 else 0) (sym word)
+  each = λ n. total_same (times_in n) views id v w at (ap (times n) same) ∙ c.each n ∙ ap (λ m. if nat_lt n m then 1 else 0) (sym word);
 }
 
 -- a split: the new seat or note has no claim
@@ -56,7 +56,7 @@ claims_split words views id v w s at same none c =
     let d = claims_kept words words views id v w at same refl c in
     record {
       all = d.all ∙ sym (total_end count_in (slice_set views id w) s ∙ nothing (total count_in (slice_set views id w)) (count_in s) (ap length none));
-      each = λ n. total_end (times_in n) (slice_set views id w) s ∙ nothing (total (times_in n) (slice_set views id w)) (times_in n s) (ap (times n) none) ∙ d.each n
+      each = λ n. total_end (times_in n) (slice_set views id w) s ∙ nothing (total (times_in n) (slice_set views id w)) (times_in n s) (ap (times n) none) ∙ d.each n;
     }
   where
     nothing : (a b : ℕ) → b ≡ 0 → a + b ≡ a
@@ -68,7 +68,7 @@ claims_joined words views id other v w u at there same c = record {
   all = c.all ∙ sym (moved (total count_in (slice_set (slice_set views id w) other spent)) (total count_in (slice_set views id w)) (total count_in views) (count_in v) (count_in w) (count_in u)
       (total_set count_in (slice_set views id w) other u spent there) (total_set count_in views id v w at) (ap length same ∙ length-append (claims_in v) (claims_in u)));
   each = λ n. moved (total (times_in n) (slice_set (slice_set views id w) other spent)) (total (times_in n) (slice_set views id w)) (total (times_in n) views) (times_in n v) (times_in n w) (times_in n u)
-      (total_set (times_in n) (slice_set views id w) other u spent there) (total_set (times_in n) views id v w at) (ap (times n) same ∙ times_append n (claims_in v) (claims_in u)) ∙ c.each n
+      (total_set (times_in n) (slice_set views id w) other u spent there) (total_set (times_in n) views id v w at) (ap (times n) same ∙ times_append n (claims_in v) (claims_in u)) ∙ c.each n;
 }
   where
     moved : (a b c v w u : ℕ) → a + u ≡ b + 0 → b + v ≡ c + w → w ≡ v + u → a ≡ c
@@ -82,10 +82,11 @@ claims_drawn words views id v room at c =
     record {
       all = now ∙ more (total count_in (slice_set views id w)) (length v.claims) (total count_in views) (length (v.claims ++ slice_index words 9 ∷ [])) (slice_index words 9) (total_set count_in views id (worker v) w at) (length-append v.claims (slice_index words 9 ∷ [])) c.all;
       each = λ n. each n (total (times_in n) (slice_set views id w)) (times n v.claims) (total (times_in n) views) (times n (v.claims ++ slice_index words 9 ∷ [])) (slice_index words 9) (total_set (times_in n) views id (worker v) w at) (times_append n v.claims (slice_index words 9 ∷ [])) (c.each n)
-          ∙ ap (λ m. if nat_lt n m then 1 else 0) (sym now)
+          ∙ ap (λ m. if nat_lt n m then 1 else 0) (sym now);
     }
   where
     more : (a b c d w : ℕ) → a + b ≡ c + d → d ≡ b + 1 → w ≡ c → w + 1 ≡ a
     more a b c d w x y z = omega arith
+
     each : (n a b c d w : ℕ) → a + b ≡ c + d → d ≡ b + ((if eqb w n then 1 else 0) + 0) → c ≡ (if nat_lt n w then 1 else 0) → a ≡ (if nat_lt n (w + 1) then 1 else 0)
     each n a b c d w x y z = grind (arith, nat_tests)

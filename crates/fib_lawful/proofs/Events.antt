@@ -78,7 +78,7 @@ module _ (objects : ℕ) (words : List ℕ) (views : List View) where
           aimed = f.aimed;
           done = subst (λ x. AreLawful c.log.history (finished v.lo v.trail (Some x))) (sym now) (finished_right c.union.cells c.log v.lo v.trail fits h.log.order f.aimed (visits_once c.union v.number v.pass v.trail h.acyclic f.walk.walked));
           past = f.past;
-          few_claims = f.few_claims
+          few_claims = f.few_claims;
         },
         λ u g. g,
         λ n m. m,
@@ -112,7 +112,7 @@ module _ (objects : ℕ) (words : List ℕ) (views : List View) where
       aimed = aimed_next c.union.cells c.log v.lo v.knows v.trail k (slice_index words (16 + k)) (aimed_start objects c.union c.log v.knows h.any h.copied.long h.within h.acyclic h.settled f.told) (h.copied.same k (subst (λ m. k < 16 * m) f.known lt)) h.ends f.aimed;
       done = tt;
       past = f.past;
-      few_claims = f.few_claims
+      few_claims = f.few_claims;
     },
     (λ u g. g),
     λ n m. m,
@@ -142,8 +142,7 @@ module _ (objects : ℕ) (words : List ℕ) (views : List View) where
   pub puts_owes : (c : Control) (k w : ℕ) → MayStoreLawfully c.objects c.union c.log c.desk.out k w → ControlOwes (lawful objects) words views (slice_set words (16 + k) w) c (put c k w)
   puts_owes c k w may h =
       let small : k < 16 * objects = subst (λ m. k < 16 * m) h.known may.inside in
-      let room : k < length c.union.cells = subst (λ m. k < m) (sym h.copied.long) small in
-      (
+      let room : k < length c.union.cells = subst (λ m. k < m) (sym h.copied.long) small in (
         record {
           known = h.known;
           any = h.any;
@@ -159,7 +158,7 @@ module _ (objects : ℕ) (words : List ℕ) (views : List View) where
               may.during;
           ends = all_ends_stored (IsEndOf c.log.history c.log.version.settled c.log.version.applied) c.union k w room may.whole (λ e. (may.edge e).apart) may.end h.ends;
           home = h.home;
-          spare = h.spare
+          spare = h.spare;
         },
         (λ u below away pass f. record {
           known = f.known;
@@ -174,7 +173,7 @@ module _ (objects : ℕ) (words : List ℕ) (views : List View) where
               may.during;
           done = f.done;
           past = f.past;
-          few_claims = f.few_claims
+          few_claims = f.few_claims;
         }),
         λ n m. m,
       )
@@ -195,7 +194,7 @@ module _ (objects : ℕ) (words : List ℕ) (views : List View) where
           settled = settled_begun c.union c.log S h.log.order;
           ends = ends_begun c.union.cells c.log S h.ends;
           home = all_grow c.log.history S c.home h.home;
-          spare = h.spare
+          spare = h.spare;
         },
         (λ u below away pass f. record {
           known = f.known;
@@ -207,7 +206,7 @@ module _ (objects : ℕ) (words : List ℕ) (views : List View) where
           aimed = aims_begun c.union.cells c.log S u.lo u.trail h.log.order f.aimed;
           done = all_grow c.log.history S (finished u.lo u.trail u.hi) f.done;
           past = all_grow c.log.history S u.past f.past;
-          few_claims = f.few_claims
+          few_claims = f.few_claims;
         }),
         λ n m. told_later c.log.version (begun c.log S).version n (begun_later c.log S) m,
       )
@@ -215,8 +214,7 @@ module _ (objects : ℕ) (words : List ℕ) (views : List View) where
   -- 6: the version is settled
   pub settles_owes : (c : Control) (w : ℕ) → w ≡ packed (settled c.log).version → MaySettle c.union c.log → ControlOwes (lawful objects) words views (slice_set words 0 w) c (with_log c (settled c.log))
   settles_owes c w is may h =
-      let size = h.copied.size in
-      (
+      let size = h.copied.size in (
         record {
           known = h.known;
           any = h.any;
@@ -229,7 +227,7 @@ module _ (objects : ℕ) (words : List ℕ) (views : List View) where
           settled = settled_now c.union c.log may.tables may.held may.stands.quiet (walk_resolved c.union objects may.stands.names may.tables may.stands.stands may.sound may.stands.prefixes h.any h.copied.long (λ k v g e. h.within.edges k v (g, inl e)) h.acyclic);
           ends = settled_ends c.union.cells may.stands.names may.tables c.log.history c.log.version.applied objects may.stands.stands may.held h.copied.long;
           home = h.home;
-          spare = h.spare
+          spare = h.spare;
         },
         (λ u below away pass f. record {
           known = f.known;
@@ -241,7 +239,7 @@ module _ (objects : ℕ) (words : List ℕ) (views : List View) where
           aimed = aims_settled c.union.cells c.log u.lo u.trail h.log.order f.aimed;
           done = f.done;
           past = f.past;
-          few_claims = f.few_claims
+          few_claims = f.few_claims;
         }),
         λ n m. told_later c.log.version (settled c.log).version n (settled_later c.log h.log.order) m,
       )
@@ -261,7 +259,7 @@ module _ (objects : ℕ) (words : List ℕ) (views : List View) where
       settled = settled-scanned c.union n (slice_index words (n + 1)) c.log h.settled;
       ends = h.ends;
       home = h.home;
-      spare = h.spare
+      spare = h.spare;
     },
     (λ u below away pass f. record { known = f.known; number = f.number; walk = record { odd = f.walk.odd; walked = walks u pass f.walk }; whole = f.whole; proper = f.proper; told = f.told; aimed = f.aimed; done = f.done; past = f.past; few_claims = f.few_claims }),
     λ n m. m,
@@ -271,8 +269,8 @@ module _ (objects : ℕ) (words : List ℕ) (views : List View) where
       walks u pass f = ⊎_elim
           (λ (none : u.trail ≡ []). subst (Walked (Usable (scanned c.union n (slice_index words (n + 1))) u.number u.pass)) (sym none) tt)
           (λ (odd : u.pass % 2 ≡ 1). walked-map (Usable c.union u.number u.pass) (Usable (scanned c.union n (slice_index words (n + 1))) u.number u.pass)
-              (λ i w going led ok. usable-scanned c.union n (slice_index words (n + 1)) u.number u.pass i w (λ e. let same : u.pass ≡ slice_index words (n + 1) = sym pass ∙ ap (λ m. slice_index words (m + 1)) e in (same, ap is_even (sym same) ∙ odd_not_even u.pass odd)) ok)
-              u.trail f.walked)
+          (λ i w going led ok. usable-scanned c.union n (slice_index words (n + 1)) u.number u.pass i w (λ e. let same : u.pass ≡ slice_index words (n + 1) = sym pass ∙ ap (λ m. slice_index words (m + 1)) e in (same, ap is_even (sym same) ∙ odd_not_even u.pass odd)) ok)
+          u.trail f.walked)
           f.odd
 
   -- 7: a pass word is loaded to pick its number
@@ -299,7 +297,6 @@ module _ (objects : ℕ) (words : List ℕ) (views : List View) where
     (λ u g. record { known = g.known; number = g.number; walk = g.walk; whole = g.whole; proper = g.proper; told = g.told; aimed = g.aimed; done = g.done; past = g.past; few_claims = g.few_claims }),
     λ n m. m,
   )
-
     where
       fewer : (a b d o o' : ℕ) → a ≡ b + d → o + 1 ≡ o' → d < 4294967296 → b + o' * 4294967296 < 1152921504606846976 + 34359738368 → a + o * 4294967296 < 1152921504606846976 + 34359738368
       fewer a b d o o' x y z w = omega arith

@@ -54,7 +54,7 @@ module _ (P : Parts) (words : List ℕ) (views : List View) where
           desk = record { outs = s.2.desk.outs; count = s.2.desk.count; same = λ n lt home. same n lt (λ e. true≢false (sym away ∙ subst (λ m. slice_index_or c.desk.out m false ≡ false) e home)) ∙ s.2.desk.same n lt home };
           here = o.0;
           fits = each_set (Fits P words' s.0 s.1) views id (worker w) (others f o.2 o.3)
-              (record { below = subst (λ n. n < 8) (sym number) f.below; mine = ap s.1 number ∙ f.mine; away = ap (λ n. slice_index_or c.desk.out n false) number ∙ f.away; holds = ap (λ n. slice_index words' (n + 1)) number ∙ pass f.holds (omega arith) }, o.1)
+              (record { below = subst (λ n. n < 8) (sym number) f.below; mine = ap s.1 number ∙ f.mine; away = ap (λ n. slice_index_or c.desk.out n false) number ∙ f.away; holds = ap (λ n. slice_index words' (n + 1)) number ∙ pass f.holds (omega arith) }, o.1);
         },
       )
     where
@@ -86,7 +86,7 @@ module _ (P : Parts) (words : List ℕ) (views : List View) where
           size = subst (λ n. 16 ≤ n) (sym long) k.1.1.size;
           desk = record { outs = ap length outs ∙ desk.outs; count = ap length rests ∙ desk.count; same = λ n lt home. same n lt ∙ desk.same n lt (ap (λ l. slice_index_or l n false) (sym outs) ∙ home) ∙ ap (λ l. slice_index l n) (sym rests) };
           here = o.0;
-          fits = each_set (Fits P words' d k.1.0) views id (control d) (others k.1.0 k.1.1 k.0 o.1 o.2) (k.0, refl)
+          fits = each_set (Fits P words' d k.1.0) views id (control d) (others k.1.0 k.1.1 k.0 o.1 o.2) (k.0, refl);
         },
       )
     where
@@ -110,7 +110,7 @@ module _ (P : Parts) (words : List ℕ) (views : List View) where
           fits = λ j u e. ⊎_elim
               (λ (old : get_elem? (slice_set views id (control c)) j ≡ some u). each_set (Fits P words c k.1.0) views id (control c) (λ i w ne g. k.1.1.fits i w g) (k.0, refl) j u old)
               (λ (new : (j ≡ length (slice_set views id (control c))) × (note n ≡ u)). subst (Fits P words c k.1.0 j) new.1 (owes k.1.1.here))
-              (at_end (slice_set views id (control c)) (note n) u j e)
+              (at_end (slice_set views id (control c)) (note n) u j e);
         },
       )
 
@@ -130,9 +130,9 @@ module _ (P : Parts) (words : List ℕ) (views : List View) where
           here = s.2.here;
           fits = each_set (Fits P words s.0 s.1) (slice_set views id (worker w)) other spent
               (λ j u ne e. each_set (Fits P words s.0 s.1) views id (worker w) (λ i x ne' e'. s.2.fits i x e')
-                  (record { below = subst (λ m. m < 8) (sym number) g.0.below; mine = ap s.1 number ∙ g.0.mine; away = ap (λ m. slice_index_or c.desk.out m false) number ∙ g.0.away; holds = ap (λ m. slice_index words (m + 1)) number ∙ g.0.holds ∙ sym pass }, owes s.0 g.1 (s.2.fits other (note n) before))
-                  j u e)
-              tt
+              (record { below = subst (λ m. m < 8) (sym number) g.0.below; mine = ap s.1 number ∙ g.0.mine; away = ap (λ m. slice_index_or c.desk.out m false) number ∙ g.0.away; holds = ap (λ m. slice_index words (m + 1)) number ∙ g.0.holds ∙ sym pass }, owes s.0 g.1 (s.2.fits other (note n) before))
+              j u e)
+              tt;
         },
       )
 
@@ -158,19 +158,21 @@ module _ (P : Parts) (words : List ℕ) (views : List View) where
           fits = λ j u e. ⊎_elim
               (λ (old : get_elem? (slice_set views id (control (sent c))) j ≡ some u). each_set (Fits P words (sent c) (seats k.1.0)) views id (control (sent c)) (others k.1.0 k.1.1 k.0 o.2 o.3) (k.0, refl) j u old)
               (λ (new : (j ≡ length (slice_set views id (control (sent c)))) × (worker (new_worker c) ≡ u)). subst (Fits P words (sent c) (seats k.1.0) j) new.1 (fresh k.1.0 room (desk.same c.desk.picked small there) j new.0, o.1))
-              (at_end (slice_set views id (control (sent c))) (worker (new_worker c)) u j e)
+              (at_end (slice_set views id (control (sent c))) (worker (new_worker c)) u j e);
         },
       )
     where
       seats : (ℕ → ℕ) → ℕ → ℕ
       seats seat_of m = cond (eqb m c.desk.picked) (length (slice_set views id (control (sent c)))) (seat_of m)
+
       fresh : (seat_of : ℕ → ℕ) → c.desk.picked < length c.desk.out → slice_index words (c.desk.picked + 1) ≡ slice_index c.desk.rests c.desk.picked → (j : ℕ) → j ≡ length (slice_set views id (control (sent c))) → IsSeated words (sent c).desk (seats seat_of) j (new_worker c).number (new_worker c).pass
       fresh seat_of room same j e = record {
         below = small;
         mine = ap (λ b. cond b (length (slice_set views id (control (sent c)))) (seat_of c.desk.picked)) (eq-eqb c.desk.picked c.desk.picked refl) ∙ sym e;
         away = get_or-set_same c.desk.out c.desk.picked true false room;
-        holds = same
+        holds = same;
       }
+
       others : (seat_of : ℕ → ℕ) → IsKept P words views c seat_of → id ≡ 0 → ((u : Worker) → P.of_worker words c u → P.of_worker words (sent c) u) → ((n : Version) → P.of_note words c n → P.of_note words (sent c) n) → (j : ℕ) (u : View) → j ≢ id → get_elem? views j ≡ some u → Fits P words (sent c) (seats seat_of) j u
       others seat_of k z more notes j (control e) ne h = absurd (ne ((k.fits j (control e) h).0 ∙ sym z))
       others seat_of k z more notes j (worker u) ne h =
@@ -204,12 +206,12 @@ module _ (P : Parts) (words : List ℕ) (views : List View) where
             count = length-set c.desk.rests v.number v.pass ∙ desk.count;
             same = λ n lt home. dite (ℕ_discrete n v.number)
                 (λ e. subst (λ m. slice_index words (m + 1) ≡ slice_index (slice_set c.desk.rests v.number v.pass) m) (sym e) (f.0.holds ∙ sym (get_or-set_same c.desk.rests v.number v.pass 0 (omega arith))))
-                (λ ne. desk.same n lt (sym (get_or-set_other c.desk.out v.number n false false ne) ∙ home) ∙ sym (get_or-set_other c.desk.rests v.number n v.pass 0 ne))
+                (λ ne. desk.same n lt (sym (get_or-set_other c.desk.out v.number n false false ne) ∙ home) ∙ sym (get_or-set_other c.desk.rests v.number n v.pass 0 ne));
           };
           here = o.0;
           fits = each_set (Fits P words (taken_home c v) k.1.0) (slice_set views id (control (taken_home c v))) other spent
               (λ j u ne e. each_here k.1.0 k.1.1 k.0 f.0.mine o.1 o.2 j u ne e)
-              tt
+              tt;
         },
       )
     where

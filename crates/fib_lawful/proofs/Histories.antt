@@ -1,5 +1,5 @@
 -- Results stay right as the history grows, and a finished pass has a right result.
-use Rattle.std.proofs.Common.{◌≡◌, ℕ, zero, suc, ◌+◌, ◌*◌, ◌/◌, ◌%◌, ◌^◌, ◌<◌, ◌≤◌, ◌⊎◌, inl, inr, ⊎_elim, List, [], ◌∷◌, ◌++◌, length, refl, sym, ap, ◌∙◌, subst, arith, length-append}
+use Rattle.std.proofs.Common.{◌≡◌, ℕ, zero, suc, ◌<◌, ◌≤◌, ◌⊎◌, inl, inr, ⊎_elim, List, [], ◌∷◌, ◌++◌, length, refl, sym, ap, ◌∙◌, subst, arith, length-append}
 use Rattle.std.specs.Prelude.{Some, slice_get}
 use Rattle.std.proofs.lemmas.Option.{slice_get_within}
 use Rattle.fib_reach.specs.Walks.{AllDiffer}
@@ -13,7 +13,6 @@ use Rattle.fib_results.specs.Trails.{AtLeast, IsSpanned, IsRecordOk}
 use Rattle.fib_core.specs.Walk.{Place, ply, balance, adjacency, ended, end_at, Heads}
 use Rattle.fib_core.specs.Trails.{Load, visited, place, Follows, Trail, result_of, trail_at, finished, AreLawful, IsEndOf}
 use Rattle.fib_core.proofs.Walks.{arrives_once}
-use Rattle.fib_results.specs.Versions.{packed, unpacked}
 use Rattle.fib_lawful.specs.State.{Log, greater}
 use Rattle.fib_lawful.specs.Lawful.{IsTold, IsEndSince, IsAimed, AimsOnce}
 
@@ -54,7 +53,7 @@ ok_grows H S r o = record {
   high = o.high;
   inside = (let a = o.inside in let n = length-append H (S ∷ []) in omega arith);
   quiet = λ k T at held. o.quiet k T at (sym (get_front H (S ∷ []) k (subst (λ n. n < length H) (ap (λ v. v.applied) at.hi) o.inside)) ∙ held);
-  wide = λ apart. ⊎_elim (λ (d : r.end ≡ answers.Drop). inl d) (λ (s : IsSpanned H r). inr (record { version = s.version; tables = s.tables; from = s.from; to = s.to; held = get_more H S s.tables s.version s.held; end = s.end })) (o.wide apart)
+  wide = λ apart. ⊎_elim (λ (d : r.end ≡ answers.Drop). inl d) (λ (s : IsSpanned H r). inr (record { version = s.version; tables = s.tables; from = s.from; to = s.to; held = get_more H S s.tables s.version s.held; end = s.end })) (o.wide apart);
 }
 
 pub all_grow : (H : List Tables) (S : Tables) (ts : List Trail) → AreLawful H ts → AreLawful (H ++ S ∷ []) ts
@@ -105,7 +104,7 @@ module _ (cells : List ℕ) (l : Log) (lo : Version) (t : List Load) (fits : l.v
         high = order;
         inside = fits;
         quiet = λ k S at held. arrives_once cells a h 0 (aimed.right a h k S f at.lo at.hi held).0 (place t) (end_at (place t)) (resolve S a h) (is ∙ ap ended (sym (ap end_at is))) (aimed.right a h k S f at.lo at.hi held).1;
-        wide = λ apart. since_spanned r refl refl (subst (IsEndSince l lo.settled) (sym (ap end_at is)) (subst (Heads (IsEndSince l lo.settled) cells) is (aimed.heads a h f)))
+        wide = λ apart. since_spanned r refl refl (subst (IsEndSince l lo.settled) (sym (ap end_at is)) (subst (Heads (IsEndSince l lo.settled) cells) is (aimed.heads a h f)));
       }
 
   trail_right : (q : Place) → place t ≡ q → AllDiffer (visited t) → AreLawful l.history (trail_at q (record { lo = lo; loads = t; hi = l.version }))

@@ -37,9 +37,9 @@ module _ (P : Parts) (words : List ℕ) (views : List View) (id : ℕ) (s : Hold
       → WorkerOwes P words views (slice_set words (v.number + 1) p) v w → After (slice_set words (v.number + 1) p) (slice_set views id (worker w))
   passes v w p at number pass claims owes = record {
     rule = (
-      let r = worker_acts P words views (slice_set words (v.number + 1) p) id v w s.rule at (length-set words (v.number + 1) p)
-          (λ j lt ne. get_or-set_other words (v.number + 1) (j + 1) p 0 (λ e. ne (omega arith))) number (λ was room. get_or-set_same words (v.number + 1) p 0 room ∙ sym pass) owes in
-      (s.rule.0, r.0, r.1));
+        let r = worker_acts P words views (slice_set words (v.number + 1) p) id v w s.rule at (length-set words (v.number + 1) p)
+        (λ j lt ne. get_or-set_other words (v.number + 1) (j + 1) p 0 (λ e. ne (omega arith))) number (λ was room. get_or-set_same words (v.number + 1) p 0 room ∙ sym pass) owes in
+        (s.rule.0, r.0, r.1));
     claims = claims_kept words (slice_set words (v.number + 1) p) views id (worker v) (worker w) at claims (pass_apart v at p) s.claims;
     seats = seats_kept views id (worker v) (worker w) s.rule.0.desk.out at (λ m. ap (λ n. one_if (eqb n m)) number) s.seats;
   }
@@ -78,9 +78,9 @@ module _ (P : Parts) (words : List ℕ) (views : List View) (id : ℕ) (s : Hold
       let below = (s.rule.2.fits id (worker v) at).0.below in
       record {
         rule = (
-          let r = worker_acts P words views (slice_set words 9 n) id v (claimed v (slice_index words 9)) s.rule at (length-set words 9 n)
-              (λ j lt ne. get_or-set_other words 9 (j + 1) n 0 (omega arith)) refl (λ was lt. get_or-set_other words 9 (v.number + 1) n 0 (omega arith) ∙ was) owes in
-          (s.rule.0, r.0, r.1));
+            let r = worker_acts P words views (slice_set words 9 n) id v (claimed v (slice_index words 9)) s.rule at (length-set words 9 n)
+            (λ j lt ne. get_or-set_other words 9 (j + 1) n 0 (omega arith)) refl (λ was lt. get_or-set_other words 9 (v.number + 1) n 0 (omega arith) ∙ was) owes in
+            (s.rule.0, r.0, r.1));
         claims = claims_drawn words views id v (omega arith) at s.claims;
         seats = seats_kept views id (worker v) (worker (claimed v (slice_index words 9))) s.rule.0.desk.out at (λ m. refl) s.seats;
       }
@@ -148,9 +148,9 @@ module _ (P : Parts) (words : List ℕ) (views : List View) (id : ℕ) (s : Hold
   homes other c v at apart there owes =
       let k = own P words views id c s.rule at in
       let before : HasView views other (worker v) = ⊎_elim
-          (λ (x : (other ≡ id) × (control (taken_home c v) ≡ worker v)). absurd (apart x.0))
-          (λ (x : (other ≢ id) × HasView views other (worker v)). x.1)
-          (at_set views id other (control (taken_home c v)) (worker v) there) in
+      (λ (x : (other ≡ id) × (control (taken_home c v) ≡ worker v)). absurd (apart x.0))
+      (λ (x : (other ≢ id) × HasView views other (worker v)). x.1)
+      (at_set views id other (control (taken_home c v)) (worker v) there) in
       let sat = (k.1.1.fits other (worker v) before).0 in
       let below = sat.below in
       let away = sat.away in
@@ -166,9 +166,9 @@ module _ (P : Parts) (words : List ℕ) (views : List View) (id : ℕ) (s : Hold
   total_alone c at home f fs fn =
       let k = own P words views id c s.rule at in
       let none : total f (slice_set views id spent) ≡ 0 = total_none f (slice_set views id spent) (λ j u e. ⊎_elim
-          (λ (x : (j ≡ id) × (spent ≡ u)). ap f (sym x.1) ∙ fs)
-          (λ (x : (j ≢ id) × HasView views j u). other k.0 k.1.0 k.1.1 j u x.0 x.1)
-          (at_set views id j spent u e)) in
+      (λ (x : (j ≡ id) × (spent ≡ u)). ap f (sym x.1) ∙ fs)
+      (λ (x : (j ≢ id) × HasView views j u). other k.0 k.1.0 k.1.1 j u x.0 x.1)
+      (at_set views id j spent u e)) in
       let t = total_set f views id (control c) spent at in
       left (total f (slice_set views id spent)) (f (control c)) (total f views) (f spent) t none fs
     where

@@ -47,7 +47,7 @@ aimed_start objects u l lo some long within calm settled told = record {
   low = told;
   read = λ a h f. tt;
   heads = λ a h f. tt;
-  right = λ a h k S f is now held. subst (Arrives u.cells a h root) ((settled k S now held).answers a h f) (walk_ends u objects a h some (λ j w g e. within.edges j w (g, inl e)) calm long)
+  right = λ a h k S f is now held. subst (Arrives u.cells a h root) ((settled k S now held).answers a h f) (walk_ends u objects a h some (λ j w g e. within.edges j w (g, inl e)) calm long);
 }
 
 pub aimed_on : (cells : List ℕ) (l : Log) (lo : Version) (t : List Load) (k found : ℕ) → found ≡ slice_index cells k → HoldsEnds cells l → IsAimed cells l lo t → IsAimed cells l lo ((k, found) ∷ t)
@@ -55,11 +55,12 @@ aimed_on cells l lo t k found is ends old = record {
   low = old.low;
   read = λ a h f. reads_on cells a h (place t) (decoded found) (there a h f.0) f.1 (old.read a h f.2);
   heads = λ a h f. heads_on (IsEndSince l lo.settled) (inl refl) cells a h (place t) (decoded found) (there a h f.0) f.1 (old.read a h f.2) since (old.heads a h f.2);
-  right = λ a h m S f low now held. arrives_on cells a h (place t) (decoded found) (resolve S a h) (there a h f.0) f.1 (old.read a h f.2) (old.right a h m S f.2 low now held)
+  right = λ a h m S f low now held. arrives_on cells a h (place t) (decoded found) (resolve S a h) (there a h f.0) f.1 (old.read a h f.2) (old.right a h m S f.2 low now held);
 }
   where
     there : (a h : ℕ) → k ≡ asked a h (place t) → decoded found ≡ decoded (slice_index cells (asked a h (place t)))
     there a h e = ap decoded (is ∙ ap (λ i. slice_index cells i) e)
+
     since : EndsIn (IsEndSince l lo.settled) cells (decoded found)
     since = ends-map (IsEndOf l.history l.version.settled l.version.applied) (IsEndSince l lo.settled) cells
         (λ e x. inr (end_widens l.history l.version.settled l.version.applied lo.settled l.version.applied e old.low.last.settled (let n : ℕ = l.version.applied in let same : n ≤ n = omega arith in same) x))
@@ -76,7 +77,7 @@ copied_stored objects k w words cells small q =
       long = length-set cells k w ∙ q.long;
       same = λ j jlt. dite (ℕ_discrete j k)
           (λ e. subst (λ i. slice_index (slice_set words (16 + k) w) (16 + i) ≡ slice_index (slice_set cells k w) i) (sym e) (get_or-set_same words (16 + k) w 0 (omega arith) ∙ sym (get_or-set_same cells k w 0 (omega arith))))
-          (λ ne. get_or-set_other words (16 + k) (16 + j) w 0 (λ e. ne (omega arith)) ∙ q.same j jlt ∙ sym (get_or-set_other cells k j w 0 ne))
+          (λ ne. get_or-set_other words (16 + k) (16 + j) w 0 (λ e. ne (omega arith)) ∙ q.same j jlt ∙ sym (get_or-set_other cells k j w 0 ne));
     }
 
 pub within_stored : (objects : ℕ) (keep : Bool) (fresh : List Mark) (u : Union) (k w : ℕ) → k < length u.cells → IsWord w → (goes w ≡ true → target w < objects) → IsWithin objects u → IsWithin objects (stored keep fresh u k w)
@@ -84,7 +85,7 @@ within_stored objects keep fresh u k w room word ends old = record {
   words = λ j. dite (ℕ_discrete j k)
       (λ e. subst IsWord (sym (rw e (get_or-set_same u.cells k w 0 room))) word)
       (λ ne. subst IsWord (sym (get_or-set_other u.cells k j w 0 ne)) (old.words j));
-  edges = λ j v g. ⊎_elim (λ (a : Goes u j v). old.edges j v a) (λ (q : (j ≡ k) × (v ≡ w)). subst (λ x. target x < objects) (sym q.1) (ends (ap goes (sym q.1) ∙ g.0))) (goes_stored keep fresh u k w j v g)
+  edges = λ j v g. ⊎_elim (λ (a : Goes u j v). old.edges j v a) (λ (q : (j ≡ k) × (v ≡ w)). subst (λ x. target x < objects) (sym q.1) (ends (ap goes (sym q.1) ∙ g.0))) (goes_stored keep fresh u k w j v g);
 }
 
 -- stored ends stay such ends: no adjacency into which U leads is written
@@ -141,7 +142,7 @@ settled_filling u words l zero_is g drops k S now held =
     let S0 : S ≡ fresh = some_is S fresh (sym held ∙ ap (slice_get l.history) k0 ∙ g.first) in
     record {
       answers = λ a h f. drops a h f ∙ sym (ap (λ T. resolve T a h) S0 ∙ fresh_drops a h);
-      quiet = λ lt. absurd (none k k0 lt)
+      quiet = λ lt. absurd (none k k0 lt);
     }
   where
     none : (k : ℕ) → k ≡ 0 → 0 < k → ⊥
@@ -152,7 +153,7 @@ aimed_stored u l lo t n p k w whole lt walked old = record {
   low = old.low;
   read = λ a h f. reads_stored u k w whole (place t) (backed u n p a h t f walked) (old.read a h f);
   heads = λ a h f. heads_stored (IsEndSince l lo.settled) u k w whole (place t) (backed u n p a h t f walked) (old.heads a h f);
-  right = λ a h m S f low now held. absurd (not_level l.version m lt now)
+  right = λ a h m S f low now held. absurd (not_level l.version m lt now);
 }
 
 pub aims_stored : (u : Union) (l : Log) (lo : Version) (t : List Load) (n p k w : ℕ) → ((j v o : ℕ) → Goes u j v → decoded v ≡ words.ToAdjacency o → owner k ≢ o) → l.version.settled < l.version.applied → Walked (Usable u n p) t → AimsOnce u.cells l lo t → AimsOnce (slice_set u.cells k w) l lo t
@@ -165,10 +166,10 @@ walked_stored true fresh u k w n p t is new walked = walked-map (Usable u n p) (
 walked_stored false fresh u k w n p t is new walked =
     let alone = retire_needed u k is in
     walked-map (Usable u n p) (Usable (stored false fresh u k w) n p)
-        (λ i v going led ok. usable_stored_else false fresh u k w n p i v
-            (λ e. ⊎_elim (λ (z : owner i ≡ 0). alone.0 (ap owner (sym e) ∙ z))
-                (λ (x : (x : ℕ) × Along (Usable u n p) x (owner i)). alone.1 x.1.0 x.1.1 (x.1.4, usable_lies u n p x.1.0 x.1.1 x.1.5) (x.1.3 ∙ ap owner e)) led) ok)
-        t walked
+    (λ i v going led ok. usable_stored_else false fresh u k w n p i v
+    (λ e. ⊎_elim (λ (z : owner i ≡ 0). alone.0 (ap owner (sym e) ∙ z))
+    (λ (x : (x : ℕ) × Along (Usable u n p) x (owner i)). alone.1 x.1.0 x.1.1 (x.1.4, usable_lies u n p x.1.0 x.1.1 x.1.5) (x.1.3 ∙ ap owner e)) led) ok)
+    t walked
 
 pub fresh_unseen : (workers n : ℕ) → n < workers → mark_at (replicate workers unseen) n ≡ unseen
 fresh_unseen zero n lt = absurd (none n lt)
@@ -190,13 +191,13 @@ typed-scanned u n w t = record {
   plies = λ k v j x g is q e. t.plies k v j x (goes-scanned u n w k v g) is (goes-scanned u n w j x q) e;
   shallow = λ d y walk. t.shallow d y (walk-map (PlyEdge (scanned u n w)) (PlyEdge u) (λ a b e. (e.0, e.1, e.2, e.3, goes-scanned u n w e.0 e.1 e.4)) d 0 y walk);
   root = t.root;
-  formed = λ k v s g lt. t.formed k v s (goes-scanned u n w k v g) lt
+  formed = λ k v s g lt. t.formed k v s (goes-scanned u n w k v g) lt;
 }
 
 pub settled-scanned : (u : Union) (n w : ℕ) (l : Log) → IsSettled u l → IsSettled (scanned u n w) l
 settled-scanned u n w l s k S now held = record {
   answers = (s k S now held).answers;
-  quiet = λ lt. ap (λ rs. scan_retired n w rs) ((s k S now held).quiet lt)
+  quiet = λ lt. ap (λ rs. scan_retired n w rs) ((s k S now held).quiet lt);
 }
 
 -- a version begins
@@ -210,7 +211,7 @@ log_begun words l S w is room some g =
       fits = room;
       order = omega arith;
       long = (let n = length-append l.history (S ∷ []) in omega arith);
-      first = get_front l.history (S ∷ []) 0 (omega arith) ∙ g.first
+      first = get_front l.history (S ∷ []) 0 (omega arith) ∙ g.first;
     }
 
 pub begun_later : (l : Log) (S : Tables) → AtLeast l.version (begun l S).version
@@ -218,6 +219,7 @@ begun_later l S = record { settled = same l.version.settled; applied = more l.ve
   where
     same : (n : ℕ) → n ≤ n
     same n = omega arith
+
     more : (n : ℕ) → n ≤ n + 1
     more n = omega arith
 
@@ -240,7 +242,7 @@ aims_begun cells l S lo (x ∷ t) le old = record {
   heads = λ a h f. heads-map (IsEndSince l lo.settled) (IsEndSince (begun l S) lo.settled) cells
       (λ e s. ⊎_elim (λ (d : e ≡ answers.Drop). inl d) (λ (y : IsEndOf l.history lo.settled l.version.applied e). inr (end_grows l.history S lo.settled l.version.applied lo.settled (l.version.applied + 1) e (same lo.settled) (begun_later l S).applied y)) s)
       (place (x ∷ t)) (old.heads a h f);
-  right = λ a h m T f low now held. absurd (not_level (begun l S).version m (begun_pending l S le) now)
+  right = λ a h m T f low now held. absurd (not_level (begun l S).version m (begun_pending l S le) now);
 }
   where
     same : (n : ℕ) → n ≤ n
@@ -272,11 +274,12 @@ aims_settled cells l lo (x ∷ t) le old = record {
   low = told_later l.version (settled l).version lo (settled_later l le) old.low;
   read = old.read;
   heads = old.heads;
-  right = λ a h k S f is now held. old.right a h k S f is (level k is now) held
+  right = λ a h k S f is now held. old.right a h k S f is (level k is now) held;
 }
   where
     between : (x y s k : ℕ) → x ≤ s → x ≡ k → s ≤ y → y ≡ k → s ≡ k
     between x y s k a b c d = omega arith
+
     level : (k : ℕ) → lo ≡ version_at k → (settled l).version ≡ version_at k → l.version ≡ version_at k
     level k is now =
         let a : lo.settled ≡ k = ap (λ v. v.settled) is in

@@ -34,7 +34,7 @@ seats_joined views id other v w u out out' at there same s less n =
 pub out_more : (out : List Bool) (m : ℕ) → m < length out → slice_index_or out m false ≡ false → (n : ℕ) → one_if (slice_index_or (slice_set out m true) n false) ≡ one_if (slice_index_or out n false) + one_if (eqb m n)
 out_more out m lt home n = dite (ℕ_discrete n m)
     (λ e. subst (λ i. one_if (slice_index_or (slice_set out m true) i false) ≡ one_if (slice_index_or out i false) + one_if (eqb m i)) (sym e)
-        (ap one_if (get_or-set_same out m true false lt) ∙ sym (ap (λ b. one_if b + one_if (eqb m m)) home ∙ ap (λ b. 0 + one_if b) (eq-eqb m m refl))))
+    (ap one_if (get_or-set_same out m true false lt) ∙ sym (ap (λ b. one_if b + one_if (eqb m m)) home ∙ ap (λ b. 0 + one_if b) (eq-eqb m m refl))))
     (λ ne. ap one_if (get_or-set_other out m n true false ne) ∙ sym (ap (λ b. one_if (slice_index_or out n false) + one_if b) (ne_eqb m n (λ e. ne (sym e))) ∙ plain (one_if (slice_index_or out n false))))
   where
     plain : (a : ℕ) → a + 0 ≡ a
@@ -44,7 +44,7 @@ out_more out m lt home n = dite (ℕ_discrete n m)
 pub out_less : (out : List Bool) (m : ℕ) → m < length out → slice_index_or out m false ≡ true → (n : ℕ) → one_if (slice_index_or out n false) ≡ one_if (slice_index_or (slice_set out m false) n false) + one_if (eqb m n)
 out_less out m lt away n = dite (ℕ_discrete n m)
     (λ e. subst (λ i. one_if (slice_index_or out i false) ≡ one_if (slice_index_or (slice_set out m false) i false) + one_if (eqb m i)) (sym e)
-        (ap one_if away ∙ sym (ap (λ b. one_if b + one_if (eqb m m)) (get_or-set_same out m false false lt) ∙ ap (λ b. 0 + one_if b) (eq-eqb m m refl))))
+    (ap one_if away ∙ sym (ap (λ b. one_if b + one_if (eqb m m)) (get_or-set_same out m false false lt) ∙ ap (λ b. 0 + one_if b) (eq-eqb m m refl))))
     (λ ne. sym (ap (λ b. one_if (slice_index_or (slice_set out m false) n false) + one_if b) (ne_eqb m n (λ e. ne (sym e))) ∙ plain (one_if (slice_index_or (slice_set out m false) n false)) ∙ ap one_if (get_or-set_other out m n false false ne)))
   where
     plain : (a : ℕ) → a + 0 ≡ a
@@ -143,6 +143,7 @@ total_own (x ∷ xs) c alone =
     others j (worker w) e = refl
     others j (note n) e = refl
     others j spent e = refl
+
     head : (x : View) → ((d : Control) → some x ≡ some (control d) → d ≡ c) → own_claims x ≤ length c.gathered
     head (control d) same = let e : length d.gathered ≡ length c.gathered = ap (λ k. length k.gathered) (same d refl) in omega arith
     head (worker w) same = omega arith
@@ -164,6 +165,7 @@ few_claims views c out alone eight seats few =
   where
     last : (a b c d e f : ℕ) → a ≤ b → b ≡ c + d → c ≤ e → d ≡ f * 4294967296 → a ≤ e + f * 4294967296
     last a b c d e f x y z w = omega arith
+
     each : (j : ℕ) (u : View) → get_elem? views j ≡ some u → count_in u ≤ own_claims u + sits_from out 0 u * 4294967296
     each j (control d) e = omega arith
     each j (worker w) e =

@@ -9,7 +9,7 @@ use Rattle.fib_lawful.proofs.Framing.{WorkerOwes, ControlOwes, SendOwes, HomeOwe
 module _ (P Q : Parts) (words : List ℕ) (views : List View) where
   pub joined_worker : (words' : List ℕ) (v w : Worker) → WorkerOwes P words views words' v w
       → ((c : Control) → P.of_control words c → P.of_worker words c v → Q.of_control words c → Q.of_worker words c v → P.of_worker words' c w
-        → Q.of_control words' c × Q.of_worker words' c w × ((u : Worker) → P.of_worker words c u → Q.of_worker words c u → Q.of_worker words' c u) × ((n : Version) → P.of_note words c n → Q.of_note words c n → Q.of_note words' c n))
+      → Q.of_control words' c × Q.of_worker words' c w × ((u : Worker) → P.of_worker words c u → Q.of_worker words c u → Q.of_worker words' c u) × ((n : Version) → P.of_note words c n → Q.of_note words c n → Q.of_note words' c n))
       → WorkerOwes (both P Q) words views words' v w
   joined_worker words' v w below more c h f =
       let p = below c h.0 f.0 in
@@ -18,7 +18,7 @@ module _ (P Q : Parts) (words : List ℕ) (views : List View) where
 
   pub joined_control : (words' : List ℕ) (c d : Control) → ControlOwes P words views words' c d
       → (P.of_control words c → Q.of_control words c → P.of_control words' d
-        → Q.of_control words' d × ((u : Worker) → u.number < 8 → slice_index_or c.desk.out u.number false ≡ true → slice_index words (u.number + 1) ≡ u.pass → P.of_worker words c u → Q.of_worker words c u → P.of_worker words' d u → Q.of_worker words' d u) × ((n : Version) → P.of_note words c n → Q.of_note words c n → Q.of_note words' d n))
+      → Q.of_control words' d × ((u : Worker) → u.number < 8 → slice_index_or c.desk.out u.number false ≡ true → slice_index words (u.number + 1) ≡ u.pass → P.of_worker words c u → Q.of_worker words c u → P.of_worker words' d u → Q.of_worker words' d u) × ((n : Version) → P.of_note words c n → Q.of_note words c n → Q.of_note words' d n))
       → ControlOwes (both P Q) words views words' c d
   joined_control words' c d below more h =
       let p = below h.0 in
@@ -27,7 +27,7 @@ module _ (P Q : Parts) (words : List ℕ) (views : List View) where
 
   pub joined_send : (c : Control) → SendOwes P words views c
       → (P.of_control words c → Q.of_control words c
-        → Q.of_control words (sent c) × Q.of_worker words (sent c) (new_worker c) × ((u : Worker) → P.of_worker words c u → Q.of_worker words c u → Q.of_worker words (sent c) u) × ((n : Version) → P.of_note words c n → Q.of_note words c n → Q.of_note words (sent c) n))
+      → Q.of_control words (sent c) × Q.of_worker words (sent c) (new_worker c) × ((u : Worker) → P.of_worker words c u → Q.of_worker words c u → Q.of_worker words (sent c) u) × ((n : Version) → P.of_note words c n → Q.of_note words c n → Q.of_note words (sent c) n))
       → SendOwes (both P Q) words views c
   joined_send c below more h =
       let p = below h.0 in
@@ -36,7 +36,7 @@ module _ (P Q : Parts) (words : List ℕ) (views : List View) where
 
   pub joined_home : (c : Control) (v : Worker) → HomeOwes P words views c v
       → (slice_index_or c.desk.out v.number false ≡ true → P.of_control words c → P.of_worker words c v → Q.of_control words c → Q.of_worker words c v
-        → Q.of_control words (taken_home c v) × ((u : Worker) → P.of_worker words c u → Q.of_worker words c u → Q.of_worker words (taken_home c v) u) × ((n : Version) → P.of_note words c n → Q.of_note words c n → Q.of_note words (taken_home c v) n))
+      → Q.of_control words (taken_home c v) × ((u : Worker) → P.of_worker words c u → Q.of_worker words c u → Q.of_worker words (taken_home c v) u) × ((n : Version) → P.of_note words c n → Q.of_note words c n → Q.of_note words (taken_home c v) n))
       → HomeOwes (both P Q) words views c v
   joined_home c v below more away h f =
       let p = below away h.0 f.0 in

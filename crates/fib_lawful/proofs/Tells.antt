@@ -16,7 +16,7 @@ use Rattle.fib_core.proofs.Stands.{stood}
 use Rattle.fib_results.specs.Versions.{unpacked}
 use Rattle.fib_lawful.specs.State.{Log, Control, Worker, View, control, worker, stopped}
 use Rattle.fib_lawful.specs.Lawful.{IsTold, AimsOnce, OfControl, lawful}
-use Rattle.fib_lawful.specs.Frame.{Rule, HasView}
+use Rattle.fib_lawful.specs.Frame.{Rule}
 use Rattle.fib_lawful.proofs.Framing.{own}
 use Rattle.fib_results.proofs.Versions.{unpacked_packed}
 
@@ -35,7 +35,7 @@ module _ (objects : ℕ) (words : List ℕ) (views : List View) (id : ℕ) (s : 
         apart = visits_once c.union v.number v.pass v.trail h.acyclic f.walk.walked;
         below = stays_within (Usable c.union v.number v.pass) objects h.any (λ k w going ok. h.within.edges k w (going, usable_lies c.union v.number v.pass k w ok)) v.trail f.walk.walked;
         proper = f.proper;
-        stood = λ a b fol going. stood c.union v.number v.pass a b h.typed v.trail fol f.walk.walked (reads_of c.union.cells c.log v.lo v.trail f.aimed a b fol) going
+        stood = λ a b fol going. stood c.union v.number v.pass a b h.typed v.trail fol f.walk.walked (reads_of c.union.cells c.log v.lo v.trail f.aimed a b fol) going;
       }
 
   -- a pass stands on a live object: the root, or one to which an edge of U leads

@@ -64,24 +64,24 @@ module _ (objects : ℕ) (u : Union) (l : Log) (out : List Bool) (k w : ℕ) (ke
   typed_stored = record {
     one_tag = λ i v j x g q same. ⊎_elim
         (λ (a : Goes u i v). ⊎_elim
-            (λ (b : Goes u j x). old.one_tag i v j x a b same)
-            (λ (e : (j ≡ k) × (x ≡ w)). (lead j x q e.1).one_tag i v a (same ∙ ap target e.1) ∙ ap (λ n. tag_of (decoded n)) (sym e.1))
-            (goes_stored keep marks u k w j x q))
+        (λ (b : Goes u j x). old.one_tag i v j x a b same)
+        (λ (e : (j ≡ k) × (x ≡ w)). (lead j x q e.1).one_tag i v a (same ∙ ap target e.1) ∙ ap (λ n. tag_of (decoded n)) (sym e.1))
+        (goes_stored keep marks u k w j x q))
         (λ (d : (i ≡ k) × (v ≡ w)). ⊎_elim
-            (λ (b : Goes u j x). ap (λ n. tag_of (decoded n)) d.1 ∙ sym ((lead i v g d.1).one_tag j x b (sym same ∙ ap target d.1)))
-            (λ (e : (j ≡ k) × (x ≡ w)). ap (λ n. tag_of (decoded n)) (d.1 ∙ sym e.1))
-            (goes_stored keep marks u k w j x q))
+        (λ (b : Goes u j x). ap (λ n. tag_of (decoded n)) d.1 ∙ sym ((lead i v g d.1).one_tag j x b (sym same ∙ ap target d.1)))
+        (λ (e : (j ≡ k) × (x ≡ w)). ap (λ n. tag_of (decoded n)) (d.1 ∙ sym e.1))
+        (goes_stored keep marks u k w j x q))
         (goes_stored keep marks u k w i v g);
     rootless = λ j v g e. ⊎_elim (λ (a : Goes u j v). old.rootless j v a e) (λ (d : (j ≡ k) × (v ≡ w)). (lead j v g d.1).away (ap target (sym d.1) ∙ e)) (goes_stored keep marks u k w j v g);
     plies = λ i v j x g is q to. ⊎_elim
         (λ (a : Goes u i v). ⊎_elim
-            (λ (b : Goes u j x). old.plies i v j x a is b to)
-            (λ (e : (j ≡ k) × (x ≡ w)). ap (λ n. tag_of (decoded n)) e.1 ∙ dite (ℕ_discrete (tag_of (decoded w)) 3) (λ (t : tag_of (decoded w) ≡ 3). t) (λ ne. absurd ((lead j x q e.1).others ne i v a is (sym to ∙ ap target e.1))))
-            (goes_stored keep marks u k w j x q))
+        (λ (b : Goes u j x). old.plies i v j x a is b to)
+        (λ (e : (j ≡ k) × (x ≡ w)). ap (λ n. tag_of (decoded n)) e.1 ∙ dite (ℕ_discrete (tag_of (decoded w)) 3) (λ (t : tag_of (decoded w) ≡ 3). t) (λ ne. absurd ((lead j x q e.1).others ne i v a is (sym to ∙ ap target e.1))))
+        (goes_stored keep marks u k w j x q))
         (λ (d : (i ≡ k) × (v ≡ w)). ⊎_elim
-            (λ (b : Goes u j x). (lead i v g d.1).plies (ap (λ n. tag_of (decoded n)) (sym d.1) ∙ is) j x b (to ∙ ap owner d.0))
-            (λ (e : (j ≡ k) × (x ≡ w)). absurd (loopless (lead j x q e.1) (ap target (sym e.1) ∙ to ∙ ap owner d.0)))
-            (goes_stored keep marks u k w j x q))
+        (λ (b : Goes u j x). (lead i v g d.1).plies (ap (λ n. tag_of (decoded n)) (sym d.1) ∙ is) j x b (to ∙ ap owner d.0))
+        (λ (e : (j ≡ k) × (x ≡ w)). absurd (loopless (lead j x q e.1) (ap target (sym e.1) ∙ to ∙ ap owner d.0)))
+        (goes_stored keep marks u k w j x q))
         (goes_stored keep marks u k w i v g);
     shallow = shallow_after;
     root = λ s lt. dite (ℕ_discrete (16 * 0 + s) k)
@@ -89,11 +89,11 @@ module _ (objects : ℕ) (u : Union) (l : Log) (out : List Bool) (k w : ℕ) (ke
         (λ ne. subst (λ x. IsPlyWord x ⊎ (x ≡ words.Drop)) (sym (word_there 0 s ne)) (old.root s lt));
     formed = λ j v s g lt. ⊎_elim
         (λ (a : Goes u j v). dite (ℕ_discrete (16 * target v + s) k)
-            (λ e. subst (HasForm (decoded v) s) (sym (word_here (target v) s e)) (subst (λ i. HasForm (decoded v) i (decoded w)) (sym (slot_is (target v) s lt e)) (may.form j v a (owner_is (target v) s lt e))))
-            (λ ne. subst (HasForm (decoded v) s) (sym (word_there (target v) s ne)) (old.formed j v s a lt)))
+        (λ e. subst (HasForm (decoded v) s) (sym (word_here (target v) s e)) (subst (λ i. HasForm (decoded v) i (decoded w)) (sym (slot_is (target v) s lt e)) (may.form j v a (owner_is (target v) s lt e))))
+        (λ ne. subst (HasForm (decoded v) s) (sym (word_there (target v) s ne)) (old.formed j v s a lt)))
         (λ (d : (j ≡ k) × (v ≡ w)). subst (λ n. HasForm (decoded n) s (word_at (slice_set u.cells k w) (target n) s)) (sym d.1)
-            (subst (HasForm (decoded w) s) (sym (word_there (target w) s (λ e. loopless (lead j v g d.1) (owner_is (target w) s lt e)))) ((lead j v g d.1).formed s lt)))
-        (goes_stored keep marks u k w j v g)
+        (subst (HasForm (decoded w) s) (sym (word_there (target w) s (λ e. loopless (lead j v g d.1) (owner_is (target w) s lt e)))) ((lead j v g d.1).formed s lt)))
+        (goes_stored keep marks u k w j v g);
   }
     where
       ply_after : goes w ≡ true → tag_of (decoded w) ≡ 3 → (x y : ℕ) → PlyEdge (stored keep marks u k w) x y → Plus (PlyEdge u) (owner k) (target w) x y
@@ -101,22 +101,25 @@ module _ (objects : ℕ) (u : Union) (l : Log) (out : List Bool) (k w : ℕ) (ke
           (λ (a : Goes u j v). inl (j, v, from, to, a))
           (λ (d : (j ≡ k) × (v ≡ w)). inr (sym from ∙ ap owner d.0, sym (target_of w (words.ToPly y) (ap decoded (sym d.1) ∙ to))))
           (goes_stored keep marks u k w j v g)
+
       ply_same : (tag_of (decoded w) ≡ 3 → ⊥) → (x y : ℕ) → PlyEdge (stored keep marks u k w) x y → PlyEdge u x y
       ply_same ne x y (j, v, from, to, g) = ⊎_elim
           (λ (a : Goes u j v). (j, v, from, to, a))
           (λ (d : (j ≡ k) × (v ≡ w)). absurd (ne (ap (λ n. tag_of (decoded n)) (sym d.1) ∙ ap tag_of to)))
           (goes_stored keep marks u k w j v g)
+
       edge_of : (x y : ℕ) → PlyEdge u x y → Edge u x y
       edge_of x y (j, v, from, to, g) = (j, v, from, target_of v (words.ToPly y) to, g)
+
       shallow_after : (n y : ℕ) → Walk (PlyEdge (stored keep marks u k w)) n 0 y → n ≤ 7
       shallow_after n y walk = dite (ℕ_discrete (tag_of (decoded w)) 3)
           (λ is.
-              let t = three (decoded w) is in
-              let going : goes w ≡ true = goes_of w (words.ToPly t.0) t.1 in
-              let m = may.edge going in
-              ⊎_elim
-              (λ (r : Walk (PlyEdge u) n 0 y). old.shallow n y r)
-              (λ (q : (i : ℕ) × (j : ℕ) × (n ≡ i + 1 + j) × Walk (PlyEdge u) i 0 (owner k) × Walk (PlyEdge u) j (target w) y). let all = m.shallow is q.0 q.1 y q.3 q.4 in let e = q.2 in omega arith)
-              (walk_once (PlyEdge u) (owner k) (target w) (λ back. m.apart (back.0, walk-map (PlyEdge u) (Edge u) edge_of back.0 (target w) (owner k) back.1)) n 0 y
-                  (walk-map (PlyEdge (stored keep marks u k w)) (Plus (PlyEdge u) (owner k) (target w)) (ply_after going is) n 0 y walk)))
+          let t = three (decoded w) is in
+          let going : goes w ≡ true = goes_of w (words.ToPly t.0) t.1 in
+          let m = may.edge going in
+          ⊎_elim
+          (λ (r : Walk (PlyEdge u) n 0 y). old.shallow n y r)
+          (λ (q : (i : ℕ) × (j : ℕ) × (n ≡ i + 1 + j) × Walk (PlyEdge u) i 0 (owner k) × Walk (PlyEdge u) j (target w) y). let all = m.shallow is q.0 q.1 y q.3 q.4 in let e = q.2 in omega arith)
+          (walk_once (PlyEdge u) (owner k) (target w) (λ back. m.apart (back.0, walk-map (PlyEdge u) (Edge u) edge_of back.0 (target w) (owner k) back.1)) n 0 y
+          (walk-map (PlyEdge (stored keep marks u k w)) (Plus (PlyEdge u) (owner k) (target w)) (ply_after going is) n 0 y walk)))
           (λ ne. old.shallow n y (walk-map (PlyEdge (stored keep marks u k w)) (PlyEdge u) (ply_same ne) n 0 y walk))

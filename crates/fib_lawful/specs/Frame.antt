@@ -51,5 +51,5 @@ abbrev pub both : Parts → Parts → Parts
 both P Q = record {
   of_control = λ words c. P.of_control words c × Q.of_control words c;
   of_worker = λ words c w. P.of_worker words c w × Q.of_worker words c w;
-  of_note = λ words c n. P.of_note words c n × Q.of_note words c n
+  of_note = λ words c n. P.of_note words c n × Q.of_note words c n;
 }

@@ -1,5 +1,5 @@
 -- What the control plane's calls ask, in the words of a board's meanings: its objects, union, history and who is out.
-use Rattle.std.specs.Prelude.{◌≡◌, ◌≢◌, ℕ, ◌+◌, ◌*◌, ◌%◌, ◌^◌, ◌<◌, ◌≤◌, ◌⊎◌, Bool, true, false, List, [], slice_index, slice_index_or, slice_set, slice_get, Contains, Some}
+use Rattle.std.specs.Prelude.{◌≡◌, ◌≢◌, ℕ, ◌+◌, ◌*◌, ◌%◌, ◌^◌, ◌<◌, ◌≤◌, ◌⊎◌, Bool, true, false, List, slice_index, slice_index_or, slice_set, slice_get, Some}
 use Rattle.fib_reach.specs.Walks.{Walk, Leads}
 use Rattle.fib_resolve.specs.Tables.{IsSound}
 use Rattle.fib_resolve.specs.declared.types.End.TheVariants as answers

@@ -3,7 +3,7 @@
 -- The table has 16 words before the cells: word 0 is the version, words 1 to 8 the pass words of the workers, word 9 counts the claims. Cell k is
 -- word 16 + k. One event is one sequentially consistent operation on one word, or a move of seats. Each seat has a view: what it knows by its own
 -- operations and by the notes that it was given.
-use Rattle.std.specs.Prelude.{ℕ, ◌+◌, ◌-◌, ◌*◌, ◌/◌, ◌%◌, ◌^◌, max, Bool, true, false, List, [], ◌∷◌, ◌++◌, Option, Some, None, slice_index, slice_set, replicate}
+use Rattle.std.specs.Prelude.{ℕ, ◌+◌, ◌-◌, ◌*◌, ◌/◌, ◌^◌, max, Bool, true, false, List, [], ◌∷◌, ◌++◌, Option, Some, None, slice_index, slice_set, replicate}
 use Rattle.fib_resolve.specs.Tables.{fresh}
 use Rattle.fib_resolve.specs.declared.types.Tables.{Tables}
 use Rattle.fib_results.specs.declared.record.Version.{Version}

@@ -1,5 +1,5 @@
 -- A version's word says the version.
-use Rattle.std.proofs.Common.{arith, ◌≡◌, ◌<◌, ◌+◌, ◌*◌, ◌/◌, ◌%◌, ◌^◌, ℕ}
+use Rattle.std.proofs.Common.{arith, ◌≡◌, ◌<◌, ◌+◌, ◌*◌, ◌/◌, ◌%◌, ◌^◌}
 use Rattle.fib_results.specs.declared.record.Version.{Version}
 use Rattle.fib_results.specs.Versions.{packed, unpacked}
 

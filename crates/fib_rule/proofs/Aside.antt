@@ -1,22 +1,21 @@
 -- A Drop where nothing leads: of the rule's conditions only steady traffic's is left.
-use Rattle.std.proofs.Common.{◌≡◌, ◌≢◌, ◌≤◌, ◌<◌, ◌⊎◌, ◌*◌, ◌+◌, ◌%◌, ◌/◌, inl, inr, ⊎_elim, Bool, true, false, true≢false, ℕ, zero, suc, List, length, Some, refl, sym, ap, ◌∙◌, subst, arith, length-set, if◌then◌else◌}
+use Rattle.std.proofs.Common.{◌≡◌, ◌≢◌, ◌<◌, ◌⊎◌, ◌*◌, ◌+◌, ◌%◌, ◌/◌, inl, inr, ⊎_elim, Bool, true, false, true≢false, ℕ, zero, suc, List, length, refl, sym, ap, ◌∙◌, subst, arith, length-set, if◌then◌else◌}
 use Rattle.std.specs.Prelude.{slice_index, slice_index_or, slice_set, nat_lt}
 use Rattle.fib_addr.specs.Prefixes.{nibble}
 use Rattle.fib_resolve.specs.Tables.{fresh}
 use Rattle.fib_resolve.specs.declared.types.End.TheVariants as answers
-use Rattle.fib_results.specs.Trails.{version_at}
 use Rattle.fib_core.specs.declared.word.Word.{Word}
 use Rattle.fib_core.specs.declared.word.Word.TheVariants as words
 use Rattle.fib_union.specs.Unions.{owner}
-use Rattle.fib_core.specs.Words.{encoded, decoded, goes, target, is_edge, value_of}
+use Rattle.fib_core.specs.Words.{encoded, decoded, is_edge, value_of}
 use Rattle.fib_core.specs.Walk.{word_at, Place, ply, balance, adjacency, ended, root, halved, from_ply, from_balance, stepped, after, end_at, walk, IsFlow, EndsIn}
-use Rattle.fib_core.specs.Union.{Union, Goes}
+use Rattle.fib_core.specs.Union.{Union}
 use Rattle.fib_core.specs.Trails.{IsEndOf}
 use Rattle.fib_core.proofs.Numbers.{decoded-zero, goes-zero, goes_of, target_of}
 use Rattle.fib_core.proofs.Walks.{word_stored, adjacency_stored}
 use Rattle.fib_lawful.specs.State.{Control}
 use Rattle.fib_lawful.specs.Lawful.{OfControl}
-use Rattle.fib_lawful.specs.May.{IsFilling, MayStoreLawfully}
+use Rattle.fib_lawful.specs.May.{MayStoreLawfully}
 use Rattle.fib_lawful.proofs.Fresh.{fresh_drops}
 use Rattle.fib_steady.proofs.Blocks.{nibble_small}
 use Rattle.fib_steady.proofs.Hanging.{IsAside}

@@ -1,13 +1,13 @@
 -- Each event keeps the whole rule.
-use Rattle.std.proofs.Common.{◌≡◌, ◌≤◌, ◌<◌, ◌^◌, ◌+◌, ◌*◌, ◌%◌, ⊎_elim, false, ℕ, List, [], ◌∷◌, ◌++◌, length, refl, sym, ap, subst, arith, Some, ◌∙◌}
-use Rattle.std.specs.Prelude.{slice_index, slice_index_or, slice_set, slice_get}
+use Rattle.std.proofs.Common.{◌≡◌, ◌<◌, ◌+◌, ⊎_elim, ℕ, List, [], ◌∷◌, ◌++◌, length, refl, ap, subst, arith, ◌∙◌}
+use Rattle.std.specs.Prelude.{slice_index, slice_set, slice_get}
 use Rattle.fib_resolve.specs.Tables.{fresh}
 use Rattle.fib_resolve.specs.declared.types.Tables.{Tables}
 use Rattle.fib_results.specs.declared.record.Version.{Version}
 use Rattle.fib_results.specs.Versions.{packed}
 use Rattle.fib_lawful.specs.State.{Control, Worker, View, control, worker, note, spent, started, learned, hopped, stopped, claimed, told, stored_union, put, looked, with_log, begun, settled, picking, sent, new_worker, taken_home}
 use Rattle.fib_lawful.specs.Frame.{Parts, HasView, both, Rule}
-use Rattle.fib_lawful.specs.Lawful.{OfControl, OfWorker, lawful}
+use Rattle.fib_lawful.specs.Lawful.{OfControl, lawful}
 use Rattle.fib_lawful.specs.Rule.{Holds}
 use Rattle.fib_lawful.specs.May.{MaySettle}
 use Rattle.fib_lawful.proofs.Framing.{own, WorkerOwes, ControlOwes, SendOwes, HomeOwes}
@@ -20,7 +20,7 @@ use Rattle.fib_steady.specs.Undisturbed.{since}
 use Rattle.fib_steady.specs.Rooted.{PliesHang}
 use Rattle.fib_steady.proofs.Events.{later_too, asks_less}
 use Rattle.fib_steady.proofs.Hanging.{hangs_stored, hangs_scanned}
-use Rattle.fib_rule.specs.Steady.{versions, IsBegun, SteadyControl, SteadyWorker, steady}
+use Rattle.fib_rule.specs.Steady.{versions, IsBegun, steady}
 use Rattle.fib_rule.specs.Rule.{hangs, parts, IsLawful}
 use Rattle.fib_rule.specs.May.{MayStore, MayBegin, MaySend, MayLoad, MayDraw}
 use Rattle.fib_rule.proofs.Steps as steadily

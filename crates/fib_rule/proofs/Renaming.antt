@@ -1,16 +1,16 @@
 -- Names are free: the rule holds for any names for which the promise does.
-use Rattle.std.proofs.Common.{◌≡◌, ◌≤◌, ◌<◌, ◌+◌, ℕ, zero, suc, List, [], ◌∷◌, length, refl, sym, subst, arith}
+use Rattle.std.proofs.Common.{◌≡◌, ℕ, List, [], ◌∷◌, refl, sym, subst, arith}
 use Rattle.fib_results.specs.declared.record.Version.{Version}
 use Rattle.fib_core.specs.Trails.{Load}
-use Rattle.fib_lawful.specs.State.{Control, Worker, View, control, worker, note, spent}
-use Rattle.fib_lawful.specs.Frame.{Parts, both, Fits, Rule}
-use Rattle.fib_lawful.specs.Lawful.{AimsOnce, OfControl, OfWorker, lawful}
+use Rattle.fib_lawful.specs.State.{Worker, View, control, worker, note, spent}
+use Rattle.fib_lawful.specs.Frame.{Parts, Fits, Rule}
+use Rattle.fib_lawful.specs.Lawful.{AimsOnce, OfControl, OfWorker}
 use Rattle.fib_lawful.specs.Rule.{Holds}
 use Rattle.fib_steady.specs.Names.{Names}
 use Rattle.fib_steady.specs.Promise.{IsPromised}
 use Rattle.fib_steady.specs.Undisturbed.{IsUndisturbed}
 use Rattle.fib_steady.proofs.Events.{undisturbed_renames}
-use Rattle.fib_rule.specs.Steady.{versions, IsBegun, SteadyControl, SteadyWorker, steady}
+use Rattle.fib_rule.specs.Steady.{versions, IsBegun, SteadyControl, SteadyWorker}
 use Rattle.fib_rule.specs.Rule.{parts}
 
 -- the parts of a rule may be changed where each follows

@@ -3,7 +3,6 @@ use Rattle.std.proofs.Common.{◌≡◌, ◌≤◌, ◌*◌, ℕ, zero, suc, Lis
 use Rattle.std.specs.Prelude.{Contains, slice_get}
 use Rattle.fib_addr.specs.Prefixes.{Prefix, IsPrefix}
 use Rattle.fib_resolve.specs.Pairs.{entries}
-use Rattle.fib_resolve.specs.Tables.{IsSound}
 use Rattle.fib_resolve.specs.declared.types.Tables.{Tables}
 use Rattle.fib_core.specs.Union.{Union}
 use Rattle.fib_core.specs.StandsFor.{Thing, StandsFor, Stands}

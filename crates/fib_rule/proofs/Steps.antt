@@ -12,8 +12,8 @@ use Rattle.fib_core.specs.Trails.{Load, Walked, stands, place, Follows, Trail, r
 use Rattle.fib_core.proofs.Passes.{walked-map}
 use Rattle.fib_core.proofs.Unions.{usable_lies}
 use Rattle.fib_results.specs.Versions.{unpacked}
-use Rattle.fib_lawful.specs.State.{Control, Worker, View, control, worker, note, spent, started, learned, lo_at, hopped, stopped, claimed, told, stored_union, put, looked, with_log, begun, settled, picking}
-use Rattle.fib_lawful.specs.Frame.{Parts, both, Fits, Rule}
+use Rattle.fib_lawful.specs.State.{Control, Worker, View, started, learned, lo_at, hopped, stopped, claimed, told, stored_union, put, looked, with_log, begun, settled, picking}
+use Rattle.fib_lawful.specs.Frame.{both}
 use Rattle.fib_lawful.specs.Lawful.{IsTold, AimsOnce, OfControl, OfWorker, lawful}
 use Rattle.fib_lawful.specs.May.{MayStoreLawfully, IsFilling}
 use Rattle.fib_lawful.proofs.Framing.{WorkerOwes, ControlOwes, SendOwes, HomeOwes}
@@ -21,7 +21,7 @@ use Rattle.fib_results.proofs.Versions.{unpacked_packed}
 use Rattle.fib_steady.specs.Names.{Names}
 use Rattle.fib_steady.specs.Promise.{IsPromised}
 use Rattle.fib_steady.specs.Undisturbed.{since, IsUndisturbed, IsSteadyTrail}
-use Rattle.fib_steady.proofs.Events.{undisturbed_loads, undisturbed_renames, undisturbed_first, undisturbed_stores, undisturbed_begins, promised_begins, promised_scans, finishes_steady, steady_begins, quiet_steady}
+use Rattle.fib_steady.proofs.Events.{undisturbed_loads, undisturbed_first, undisturbed_stores, undisturbed_begins, promised_begins, promised_scans, finishes_steady, steady_begins, quiet_steady}
 use Rattle.fib_rule.specs.Steady.{versions, IsBegun, AreSteady, SteadyControl, SteadyWorker, steady}
 
 -- the two regimes

@@ -1,32 +1,30 @@
 -- What the rule tells of passes, trails, cells and claims.
-use Rattle.std.proofs.Common.{◌≡◌, ◌≢◌, ◌≤◌, ◌<◌, ◌⊎◌, inl, ◌+◌, ◌*◌, ◌^◌, ℕ, true, false, List, [], ◌∷◌, length, refl, sym, ap, ◌∙◌, subst, arith}
+use Rattle.std.proofs.Common.{◌≡◌, ◌≢◌, ◌≤◌, ◌<◌, ◌⊎◌, inl, ◌+◌, ◌*◌, ◌^◌, ℕ, false, List, length, sym, ◌∙◌, subst}
 use Rattle.std.specs.Prelude.{slice_index, slice_index_or, slice_get, nat_lt, if◌then◌else◌, Some}
-use Rattle.fib_reach.specs.Walks.{AllDiffer, IsAcyclic}
-use Rattle.fib_resolve.specs.Resolution.{resolve}
+use Rattle.fib_reach.specs.Walks.{IsAcyclic}
 use Rattle.fib_resolve.specs.declared.types.Tables.{Tables}
-use Rattle.fib_results.specs.declared.record.Version.{Version}
 use Rattle.fib_results.specs.Trails.{version_at}
 use Rattle.fib_results.specs.Versions.{unpacked}
 use Rattle.fib_union.specs.Unions as edges
 use Rattle.fib_union.specs.Unions.{owner}
 use Rattle.fib_core.specs.declared.word.Word.TheVariants as words
-use Rattle.fib_core.specs.Words.{IsWord, decoded, target}
-use Rattle.fib_core.specs.Walk.{ReadsWhole, root, walk, Arrives, IsFlow}
-use Rattle.fib_core.specs.Union.{Goes, Edge, Usable, edges_of}
-use Rattle.fib_core.specs.Trails.{visited, stands, place, Follows, IsWhole, Trail, finished, AreLawful, IsSoundTrail}
+use Rattle.fib_core.specs.Words.{IsWord, decoded}
+use Rattle.fib_core.specs.Walk.{root, walk, Arrives}
+use Rattle.fib_core.specs.Union.{Goes, Edge, edges_of}
+use Rattle.fib_core.specs.Trails.{visited, stands, IsWhole, finished, AreLawful, IsSoundTrail}
 use Rattle.fib_core.proofs.Numbers.{target_of}
 use Rattle.fib_core.proofs.Unions.{none_counted}
 use Rattle.fib_core.proofs.Edges.{acyclic_edges}
 use Rattle.fib_core.proofs.Endings.{at_most, walk_ends}
-use Rattle.fib_lawful.specs.State.{Control, Worker, View, control, worker, spent}
+use Rattle.fib_lawful.specs.State.{Control, Worker, View, control, worker}
 use Rattle.fib_lawful.specs.Frame.{HasView}
-use Rattle.fib_lawful.specs.Lawful.{IsTold, AimsOnce, OfControl, OfWorker, AnswersAt}
+use Rattle.fib_lawful.specs.Lawful.{IsTold, OfControl, OfWorker, AnswersAt}
 use Rattle.fib_lawful.specs.Claims.{times}
 use Rattle.fib_lawful.proofs.Tells as lawfully
 use Rattle.fib_lawful.proofs.Moves as moves
 use Rattle.fib_lawful.proofs.Sockets.{rule_below}
 use Rattle.fib_steady.proofs.Hanging.{none_leaves_aside}
-use Rattle.fib_rule.specs.Steady.{AreSteady, SteadyControl, SteadyWorker}
+use Rattle.fib_rule.specs.Steady.{AreSteady, SteadyWorker}
 use Rattle.fib_rule.specs.Rule.{parts, IsLawful}
 use Rattle.fib_rule.proofs.Keeping.{here, lawful_rule}
 

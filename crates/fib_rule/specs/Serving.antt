@@ -1,5 +1,5 @@
 -- Steady traffic through what is cleared: an entry of all versions need not be reached, so only a hold tells that its balance may not be cleared.
-use Rattle.std.specs.Prelude.{◌≡◌, ℕ, Option, Some}
+use Rattle.std.specs.Prelude.{◌≡◌, ℕ, Some}
 use Rattle.fib_addr.specs.Prefixes.{Prefix}
 use Rattle.fib_lawful.specs.State.{Control, stored_union}
 use Rattle.fib_steady.specs.Aims.{IsLasting}

@@ -92,8 +92,8 @@ module _ (cells : List ℕ) (names : Thing → ℕ) (S : Tables) (stands : Stand
         let k : ℕ = halved h m % 16 in
         ap (λ (t : Trip). t.end) (follow_suc S limit e (halved h m))
         ∙ path_so n m e x (halved h m) (follow S limit) (slice_get (wanted S e) k) (at_bucket S e k)
-            (λ t in_there at'. balance_follows n t (suc m) x limit in_there (less n limit le) at')
-            (ap (λ w. after cells a h n (from_balance m w)) (sym (stands.holds (balance_of e) k there (low16 (halved h m)))) ∙ at)
+        (λ t in_there at'. balance_follows n t (suc m) x limit in_there (less n limit le) at')
+        (ap (λ w. after cells a h n (from_balance m w)) (sym (stands.holds (balance_of e) k there (low16 (halved h m)))) ∙ at)
       where
         less : (n l : ℕ) → suc n ≤ suc l → n ≤ l
         less n l le = omega arith

@@ -68,9 +68,9 @@ masked_same e a n c le small =
     let s = size_split n e.len le small in
     let parts : a / size_of e.len ≡ e.bits / size_of e.len = grind (arith, nat_tests) in
     let same : e.bits / size_of n ≡ a / size_of n =
-        ap (λ m. e.bits / m) s ∙ sym (div-div-eq-div-mul e.bits (size_of e.len) (2 ^ (e.len - n)))
-        ∙ ap (λ m. m / 2 ^ (e.len - n)) (sym parts)
-        ∙ div-div-eq-div-mul a (size_of e.len) (2 ^ (e.len - n)) ∙ ap (λ m. a / m) (sym s) in
+    ap (λ m. e.bits / m) s ∙ sym (div-div-eq-div-mul e.bits (size_of e.len) (2 ^ (e.len - n)))
+    ∙ ap (λ m. m / 2 ^ (e.len - n)) (sym parts)
+    ∙ div-div-eq-div-mul a (size_of e.len) (2 ^ (e.len - n)) ∙ ap (λ m. a / m) (sym s) in
     ap (λ m. record { bits = m * size_of n; len = n }) same
 
 prefix_is : (p q : Prefix) → same_prefix p q ≡ true → p ≡ q
@@ -110,10 +110,13 @@ range_low m a (suc n) le = (omega arith, range_low m (a + 1) n (omega arith))
 -- plies are at most 28 bits long
 pub ply_short : (S : Tables) → ((q : Prefix) → Contains (entries S) q → IsPrefix q) → (q : Prefix) → Contains (plies S) q → q.len ≤ 28
 unfolding plies
-ply_short S fine q c = All-contains (λ p. p.len ≤ 28) (plies S) q (All-from_recursion (λ p. p.len ≤ 28) (plies S) (each-unique (λ p. p.len ≤ 28) same_prefix (everything ∷ flat_map plies_of (entries S)) (omega arith, each-flat_map (λ p. p.len ≤ 28) plies_of (entries S)
-    (each-weaker (Contains (entries S)) (λ x. AllByRecursion (λ p. p.len ≤ 28) (plies_of x)) (λ x k. each-map (λ p. p.len ≤ 28) (λ i. masked x.bits (4 * i)) (range_with_len 0 ((x.len + 3) / 4))
-        (each-weaker (λ i. i < 8) (λ i. 4 * i ≤ 28) (λ i lt. omega arith) (range_with_len 0 ((x.len + 3) / 4)) (range_low 8 0 ((x.len + 3) / 4) (let s = (fine x k).short in omega arith))))
-        (entries S) (each-itself (entries S)))))) c
+ply_short S fine q c = All-contains (λ p. p.len ≤ 28) (plies S) q (All-from_recursion (λ p. p.len ≤ 28) (plies S) (each-unique (λ p. p.len ≤ 28) same_prefix (everything ∷ flat_map plies_of (entries S)) (
+  omega arith,
+  each-flat_map (λ p. p.len ≤ 28) plies_of (entries S)
+      (each-weaker (Contains (entries S)) (λ x. AllByRecursion (λ p. p.len ≤ 28) (plies_of x)) (λ x k. each-map (λ p. p.len ≤ 28) (λ i. masked x.bits (4 * i)) (range_with_len 0 ((x.len + 3) / 4))
+      (each-weaker (λ i. i < 8) (λ i. 4 * i ≤ 28) (λ i lt. omega arith) (range_with_len 0 ((x.len + 3) / 4)) (range_low 8 0 ((x.len + 3) / 4) (let s = (fine x k).short in omega arith))))
+      (entries S) (each-itself (entries S))),
+))) c
 
 -- where there is no deeper ply the longest prefix for all addresses of a cell is the best entry of each
 module _ (S : Tables) (fine : (q : Prefix) → Contains (entries S) q → IsPrefix q) (a : ℕ) (small : a < 2 ^ 32) where
@@ -140,12 +143,12 @@ module _ (S : Tables) (fine : (q : Prefix) → Contains (entries S) q → IsPref
         | inr e ↦ (let z : c.len ≡ 0 = ap (λ (p : Prefix). p.len) e in omega arith)
       ] in
       longest_is_unique a (entries S) c (best S a) (fine_member c member) (fine_member (best S a) (best_longest S a small).member)
-          (record {
-            member = member;
-            matches = sym (contains_masked c a n length_fits le) ∙ is.matches;
-            longest = λ r k m. (let fits : r.len ≤ n = none r k m in is.longest r (filter_in (λ e. nat_le e.len n) (entries S) r k (grind (arith, nat_tests))) (contains_masked r a n fits le ∙ m))
-          })
-          (best_longest S a small)
+      (record {
+        member = member;
+        matches = sym (contains_masked c a n length_fits le) ∙ is.matches;
+        longest = λ r k m. (let fits : r.len ≤ n = none r k m in is.longest r (filter_in (λ e. nat_le e.len n) (entries S) r k (grind (arith, nat_tests))) (contains_masked r a n fits le ∙ m));
+      })
+      (best_longest S a small)
 
   -- an entry of the address that is longer makes a ply
   pub no_longer : (k : ℕ) → 4 * k ≤ 32 → is_member same_prefix (plies S) (masked a (4 * k)) ≡ false → (r : Prefix) → Contains (entries S) r → contains r a ≡ true → r.len ≤ 4 * k

@@ -72,8 +72,8 @@ module _ (cells : List ℕ) (names : Thing → ℕ) (S : Tables) (stands : Stand
   all_ends objects long k =
       let back : 16 * (k / 16) + k % 16 ≡ k = omega arith in
       subst (λ i. EndsIn P cells (decoded (slice_index cells i))) back (dite (dec_lt (k / 16) (length cells / 16))
-          (λ lt. object_ends (k / 16) (k % 16) (low16 k) (stands.others (k / 16) lt))
-          (λ ge. subst (EndsIn P cells) (sym (ap decoded (get_or_past cells (16 * (k / 16) + k % 16) 0 (past (length cells) k objects long ge)) ∙ decoded-zero)) tt))
+      (λ lt. object_ends (k / 16) (k % 16) (low16 k) (stands.others (k / 16) lt))
+      (λ ge. subst (EndsIn P cells) (sym (ap decoded (get_or_past cells (16 * (k / 16) + k % 16) 0 (past (length cells) k objects long ge)) ∙ decoded-zero)) tt))
     where
       past : (l k n : ℕ) → l ≡ 16 * n → (k / 16 < l / 16 → ⊥) → l ≤ 16 * (k / 16) + k % 16
       past l k n e ge = omega arith

@@ -56,10 +56,10 @@ module _ (cells : List ℕ) (names : Thing → ℕ) (S : Tables) (stands : Stand
   comes zero d x le there at = absurd (not_ended (ply (names (ply_of (masked a (4 * d)))) d) x tt at)
   comes (suc n) d x le there at =
       let w : word_at cells (names (ply_of (masked a (4 * d)))) (nibble a d) ≡ ply_word names S (masked a (4 * suc d)) =
-          stands.holds (ply_of (masked a (4 * d))) (nibble a d) there (low16 (a / 2 ^ (28 - 4 * d))) ∙ ap (ply_word names S) (below_masked d a le small) in
+      stands.holds (ply_of (masked a (4 * d))) (nibble a d) there (low16 (a / 2 ^ (28 - 4 * d))) ∙ ap (ply_word names S) (below_masked d a le small) in
       more n x (comes_by n d x (is_member same_prefix (plies S) (masked a (4 * suc d))) le refl
-          (λ e there' le' at'. comes n (suc d) x le' there' at')
-          (ap (λ v. after cells a h n (from_ply d v)) (sym w) ∙ at))
+      (λ e there' le' at'. comes n (suc d) x le' there' at')
+      (ap (λ v. after cells a h n (from_ply d v)) (sym w) ∙ at))
 
   whole_masked : masked a 0 ≡ everything
   whole_masked = let z : a / 4294967296 * 4294967296 ≡ 0 = omega arith in ap (λ b. record { bits = b; len = 0 }) z

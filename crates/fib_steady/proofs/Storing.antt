@@ -1,5 +1,5 @@
 -- Which stores keep the promise for the same names.
-use Rattle.std.proofs.Common.{◌≡◌, ◌≢◌, ◌<◌, ◌+◌, ◌*◌, ◌%◌, ◌⊎◌, inl, inr, ⊎_elim, Bool, true, ℕ, List, length, Some, refl, sym, ap, ◌∙◌, subst, arith, get_or-set_other, get_or-set_same}
+use Rattle.std.proofs.Common.{◌≡◌, ◌≢◌, ◌<◌, ◌+◌, ◌*◌, ◌%◌, inl, inr, ⊎_elim, Bool, ℕ, List, length, Some, refl, sym, ap, ◌∙◌, subst, arith, get_or-set_other, get_or-set_same}
 use Rattle.std.specs.Prelude.{slice_index, slice_set}
 use native.Mathlib.Decide.{ℕ_discrete}
 use mathlib.Core.Logic.{dite}
@@ -9,12 +9,11 @@ use Rattle.fib_resolve.specs.declared.types.End.TheVariants as answers
 use Rattle.fib_resolve.specs.declared.types.Tables.{Tables}
 use Rattle.fib_core.specs.declared.word.Word.TheVariants as words
 use Rattle.fib_union.specs.Unions.{owner}
-use Rattle.fib_core.specs.Words.{decoded, goes, target}
+use Rattle.fib_core.specs.Words.{decoded, target}
 use Rattle.fib_core.specs.Walk.{word_at, adjacency_end}
-use Rattle.fib_reach.specs.Walks.{Leads}
 use Rattle.fib_union.specs.Marks.{Mark}
-use Rattle.fib_core.specs.Union.{Union, Goes, Edge, stored}
-use Rattle.fib_core.proofs.Numbers.{decoded-zero, goes_of, target_of, owner_of, cell_of}
+use Rattle.fib_core.specs.Union.{Union, Goes, stored}
+use Rattle.fib_core.proofs.Numbers.{goes_of, target_of, owner_of, cell_of}
 use Rattle.fib_core.proofs.Unions.{goes_stored}
 use Rattle.fib_core.proofs.Walks.{adjacency_stored}
 use Rattle.fib_steady.specs.Aims.{Aim, ends, on, IsLasting, WantsAlike}
