@@ -14,9 +14,9 @@ use mathlib.Core.Logic.{dite}
 use Rattle.fib_addr.specs.Longest.{everything}
 use Rattle.fib_resolve.specs.declared.types.Tables.{Tables}
 use Rattle.fib_steady.specs.Aims.{IsLasting}
-use Rattle.fib_steady.specs.Matches.{promised_by, IsSometime, FitsVersions, IsMatch, added, removed, Promised, look_of, IsLongestBlock, or_else, best_block}
-use Rattle.fib_steady.proofs.Matches.{match_block, match_of, match_added, match_removed}
-use Rattle.fib_steady.proofs.PlyStores.{block_once}
+use Rattle.fib_serving.specs.Matches.{promised_by, IsSometime, FitsVersions, IsMatch, added, removed, Promised, look_of, IsLongestBlock, or_else, best_block}
+use Rattle.fib_serving.proofs.Matches.{match_block, match_of, match_added, match_removed}
+use Rattle.fib_serving.proofs.PlyStores.{block_once}
 use Rattle.fib_steady.proofs.Ways.{best_is_entry}
 
 whole : (b n m : ℕ) → m ≡ n → b / 2 ^ (n - m) ≡ b

@@ -20,8 +20,8 @@ use Rattle.fib_union.specs.Unions.{owner}
 use Rattle.fib_core.specs.Walk.{word_at}
 use Rattle.fib_core.proofs.Numbers.{owner_of}
 use Rattle.fib_steady.specs.Aims.{Aim, ends, on, aim, IsLasting, WantsAlike}
-use Rattle.fib_steady.specs.May.{IsLoose}
-use Rattle.fib_steady.specs.Kept.{same_end, same_aim, wants_that, has_object, is_kept, keeps_by}
+use Rattle.fib_steady.specs.Loose.{IsLoose}
+use Rattle.fib_serving.specs.Kept.{same_end, same_aim, wants_that, has_object, is_kept, keeps_by}
 
 self : (n : ℕ) → (n == n) ≡ true
 self n = (Decides-eqb n n).1 refl

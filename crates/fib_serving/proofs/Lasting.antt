@@ -10,9 +10,9 @@ use Rattle.fib_core.specs.Union.{Union}
 use Rattle.fib_steady.specs.Aims.{Aim, ends, on, IsLasting, WantsAlike}
 use Rattle.fib_steady.specs.Names.{Names}
 use Rattle.fib_steady.specs.Promise.{IsAimed, IsRight, IsPromised}
-use Rattle.fib_steady.specs.Matches.{FitsVersions, added, removed}
-use Rattle.fib_steady.proofs.Matches.{best_lasts, same_added, same_removed}
-use Rattle.fib_steady.proofs.Turns.{bucket_on}
+use Rattle.fib_serving.specs.Matches.{FitsVersions, added, removed}
+use Rattle.fib_serving.proofs.Matches.{best_lasts, same_added, same_removed}
+use Rattle.fib_serving.proofs.Turns.{bucket_on}
 
 -- other balances for the same plies
 abbrev pub with_balances : Names → (Prefix → Option ℕ) → Names

@@ -28,7 +28,7 @@ use Rattle.fib_resolve.specs.declared.types.Tables.{Tables}
 use Rattle.fib_resolve.proofs.Touching.{untouched_chosen, untouched_pairs}
 use Rattle.fib_resolve.proofs.Entries.{is_entry}
 use Rattle.fib_steady.specs.Aims.{Aim, ends, on, kind_aim, path_aim, aim}
-use Rattle.fib_steady.specs.Marks.{Mark, is_open, mark, marked, leads, is_usable, least, of_least, spread_marks, aim_of, aim_by}
+use Rattle.fib_serving.specs.Marks.{Mark, is_open, mark, marked, leads, is_usable, least, of_least, spread_marks, aim_of, aim_by}
 
 -- lists under a map
 

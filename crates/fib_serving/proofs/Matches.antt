@@ -11,7 +11,7 @@ use Rattle.fib_resolve.specs.Pairs.{entries}
 use Rattle.fib_resolve.proofs.Covering.{best_longest}
 use Rattle.fib_resolve.specs.declared.types.Tables.{Tables}
 use Rattle.fib_steady.specs.Aims.{IsLasting, BestAlike}
-use Rattle.fib_steady.specs.Matches.{IsSometime, FitsVersions, IsMatch, added, removed, Promised, look_of, IsLongestBlock}
+use Rattle.fib_serving.specs.Matches.{IsSometime, FitsVersions, IsMatch, added, removed, Promised, look_of, IsLongestBlock}
 use Rattle.fib_steady.proofs.Lists.{some_same, none_some}
 use Rattle.fib_steady.proofs.Ways.{best_is_entry}
 

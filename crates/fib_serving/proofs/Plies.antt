@@ -7,8 +7,8 @@ use Rattle.fib_core.specs.declared.word.Word.TheVariants as words
 use Rattle.fib_steady.specs.Aims.{IsLasting}
 use Rattle.fib_steady.specs.Names.{Names, IsIn}
 use Rattle.fib_steady.specs.Promise.{IsRight}
-use Rattle.fib_steady.specs.Matches.{Promised}
-use Rattle.fib_steady.proofs.Matches.{best_lasts}
+use Rattle.fib_serving.specs.Matches.{Promised}
+use Rattle.fib_serving.proofs.Matches.{best_lasts}
 use Rattle.fib_steady.proofs.Lists.{some_same}
 
 -- the cell misleads no address of which W says where it is to go

@@ -18,7 +18,7 @@ use Rattle.fib_core.proofs.Numbers.{owner_of}
 use Rattle.fib_steady.specs.Aims.{IsLasting}
 use Rattle.fib_steady.specs.Names.{Names, IsBelow, IsChild, IsIn, IsWalked}
 use Rattle.fib_steady.specs.Promise.{IsRight, IsPromised}
-use Rattle.fib_steady.specs.Matches.{IsLongestBlock}
+use Rattle.fib_serving.specs.Matches.{IsLongestBlock}
 use Rattle.fib_steady.proofs.Lists.{some_same, none_some}
 use Rattle.fib_steady.proofs.Storing.{IsBeside, other_cell, ply_stored}
 

@@ -11,9 +11,9 @@ use Rattle.fib_core.specs.Walk.{word_at}
 use Rattle.fib_core.proofs.Numbers.{owner_of}
 use Rattle.fib_steady.specs.Aims.{Aim, ends, on, aim, IsLasting, WantsAlike}
 use Rattle.fib_steady.specs.Promise.{IsEndWord, IsAimed, KeepsBuckets}
-use Rattle.fib_steady.specs.Stack.{is_some, Objects, Ledger, to_balance, to_adjacency, end_word, aim_word, EndAnchored, Anchored, IsSteadyStack, HasRecords, IsMoment}
+use Rattle.fib_serving.specs.Stack.{is_some, Objects, Ledger, to_balance, to_adjacency, end_word, aim_word, EndAnchored, Anchored, IsSteadyStack, HasRecords, IsMoment}
 use Rattle.fib_steady.proofs.Lists.{some_same}
-use Rattle.fib_steady.specs.May.{IsLoose}
+use Rattle.fib_steady.specs.Loose.{IsLoose}
 
 pub some_of : (o : Option ℕ) → is_some o ≡ true → (x : ℕ) × (o ≡ Some x)
 some_of None e = absurd (true≢false (sym e))

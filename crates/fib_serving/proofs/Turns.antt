@@ -16,10 +16,10 @@ use Rattle.fib_resolve.specs.declared.types.Tables.{Tables}
 use Rattle.fib_resolve.proofs.Taken.{IsTaken, wanted_taken}
 use Rattle.fib_core.specs.Walk.{word_at}
 use Rattle.fib_steady.specs.Aims.{Aim, ends, on, path_aim, kind_aim, aim, IsLasting, WantsAlike}
-use Rattle.fib_steady.specs.Stack.{is_some, Objects, Ledger, to_balance, to_adjacency, aim_word, Anchored, Holding, IsSteadyStack}
-use Rattle.fib_steady.specs.Turns.{Stack, HasEnd, IsRestacked, IsRemoved, IsQuietStack}
+use Rattle.fib_serving.specs.Stack.{is_some, Objects, Ledger, to_balance, to_adjacency, aim_word, Anchored, Holding, IsSteadyStack}
+use Rattle.fib_serving.specs.Turns.{Stack, HasEnd, IsRestacked, IsRemoved, IsQuietStack}
 use Rattle.fib_steady.proofs.Lists.{some_same}
-use Rattle.fib_steady.proofs.Stack.{some_of}
+use Rattle.fib_serving.proofs.Stack.{some_of}
 use Rattle.fib_steady.proofs.Ways.{Leads, leads}
 
 -- what a bucket leads to

@@ -7,7 +7,7 @@ use Rattle.fib_resolve.specs.declared.types.End.{End}
 use Rattle.fib_resolve.specs.declared.types.Tables.{Tables}
 use Rattle.fib_core.specs.Walk.{word_at}
 use Rattle.fib_steady.specs.Aims.{ends, kind_aim, aim}
-use Rattle.fib_steady.specs.Stack.{is_some, Objects, Ledger, aim_word}
+use Rattle.fib_serving.specs.Stack.{is_some, Objects, Ledger, aim_word}
 
 pub record Stack : Type 0 where
   pub objects : Objects
