@@ -43,7 +43,8 @@ IsOpen p passed = ⊥
 
 -- an edge on which a pass of worker n with the pass word p may stand
 abbrev pub Usable : Union → ℕ → ℕ → ℕ → ℕ → Type 0
-Usable u n p k w = (slice_index u.cells k ≡ w) ⊎ AnyOf (λ r. (r.cell ≡ k) × (r.word ≡ w) × IsOpen p (mark_at r.marks n)) u.retired
+Usable u n p k w =
+    (slice_index u.cells k ≡ w) ⊎ AnyOf (λ r. (r.cell ≡ k) × (r.word ≡ w) × IsOpen p (mark_at r.marks n)) u.retired
 
 abbrev pub retire_if : Bool → Retired → List Retired → List Retired
 retire_if true r rs = r ∷ rs
@@ -71,7 +72,8 @@ abbrev pub AreEdges : List Retired → Type 0
 AreEdges [] = Unit {0}
 AreEdges (r ∷ rs) = (goes r.word ≡ true) × AreEdges rs
 
--- the edge that a store into this cell replaces is retired: its object is 0, from which passes start, or an edge leads to it
+-- the edge that a store into this cell replaces is retired: its object is 0, from which passes start, or an edge leads
+-- to it
 unfoldable pub must_retire : Union → ℕ → Bool
 must_retire u k = edges.must_retire (edges_of u) k
 
@@ -135,11 +137,14 @@ HasForm (words.Plain n) s w = Unit {0}
 abbrev pub PlyEdge : Union → ℕ → ℕ → Type 0
 PlyEdge u x y = (k : ℕ) × (w : ℕ) × (owner k ≡ x) × (decoded w ≡ words.ToPly y) × Goes u k w
 
--- well-typed edges: all edges into an object have one tag, none leads to the root, the objects have the forms of the edges into them, and plies lie at most seven deep
+-- well-typed edges: all edges into an object have one tag, none leads to the root, the objects have the forms of the edges into them,
+-- and plies lie at most seven deep
 pub record IsTyped (u : Union) : Type 0 where
-  pub one_tag : (k w j v : ℕ) → Goes u k w → Goes u j v → target w ≡ target v → tag_of (decoded w) ≡ tag_of (decoded v)
+  pub one_tag : (k w j v : ℕ) → Goes u k w → Goes u j v → target w ≡ target v
+      → tag_of (decoded w) ≡ tag_of (decoded v)
   pub rootless : (k w : ℕ) → Goes u k w → target w ≡ 0 → ⊥
-  pub plies : (k w j v : ℕ) → Goes u k w → tag_of (decoded w) ≡ 3 → Goes u j v → target v ≡ owner k → tag_of (decoded v) ≡ 3
+  pub plies : (k w j v : ℕ) → Goes u k w → tag_of (decoded w) ≡ 3 → Goes u j v → target v ≡ owner k
+      → tag_of (decoded v) ≡ 3
   pub shallow : (n y : ℕ) → Walk (PlyEdge u) n 0 y → n ≤ 7
   pub root : (s : ℕ) → s < 16 → IsPlyWord (word_at u.cells 0 s) ⊎ (word_at u.cells 0 s ≡ words.Drop)
   pub formed : (k w s : ℕ) → Goes u k w → s < 16 → HasForm (decoded w) s (word_at u.cells (target w) s)

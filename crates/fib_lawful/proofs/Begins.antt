@@ -32,12 +32,12 @@ zeros zero k = refl
 zeros (suc n) zero = refl
 zeros (suc n) (suc k) = zeros n k
 
-falses : (n k : ℕ) → slice_index_or (replicate n false) k false ≡ false
+pub falses : (n k : ℕ) → slice_index_or (replicate n false) k false ≡ false
 falses zero k = refl
 falses (suc n) zero = refl
 falses (suc n) (suc k) = falses n k
 
-length_zeros : {A : Type 0} (n : ℕ) (x : A) → length (replicate n x) ≡ n
+pub length_zeros : {A : Type 0} (n : ℕ) (x : A) → length (replicate n x) ≡ n
 length_zeros zero x = refl
 length_zeros (suc n) x = ap suc (length_zeros n x)
 
@@ -45,7 +45,7 @@ module _ (n : ℕ) where
   fresh_union : Union
   fresh_union = record { cells = replicate n 0; retired = [] }
 
-  no_goes : (k w : ℕ) → Goes (record { cells = replicate n 0; retired = [] }) k w → ⊥
+  pub no_goes : (k w : ℕ) → Goes (record { cells = replicate n 0; retired = [] }) k w → ⊥
   no_goes k w (going, inl e) = true≢false (sym going ∙ ap goes (sym e ∙ zeros n k) ∙ goes-zero)
   no_goes k w (going, inr a) = a
 
@@ -53,7 +53,7 @@ module _ (n : ℕ) where
   no_walk zero y w = omega arith
   no_walk (suc d) y w = absurd (no_goes w.1.0 w.1.1 w.1.4)
 
-  drop_at : (k : ℕ) → decoded (slice_index (replicate n 0) k) ≡ words.Drop
+  pub drop_at : (k : ℕ) → decoded (slice_index (replicate n 0) k) ≡ words.Drop
   drop_at k = ap decoded (zeros n k) ∙ decoded-zero
 
   pub fresh_typed : IsTyped (record { cells = replicate n 0; retired = [] })

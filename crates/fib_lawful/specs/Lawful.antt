@@ -42,12 +42,15 @@ pub record AnswersAt (u : Union) (k : ℕ) (S : Tables) : Type 0 where
   pub quiet : 0 < k → u.retired ≡ []
 
 abbrev pub IsSettled : Union → Log → Type 0
-IsSettled u l = (k : ℕ) (S : Tables) → l.version ≡ version_at k → slice_get l.history k ≡ Some S → AnswersAt u k S
+IsSettled u l =
+    (k : ℕ) (S : Tables) → l.version ≡ version_at k → slice_get l.history k ≡ Some S → AnswersAt u k S
 
 -- stored ends are possible ends of a version from settled to applied
 abbrev pub HoldsEnds : List ℕ → Log → Type 0
-HoldsEnds cells l = (k : ℕ) → EndsIn (IsEndOf l.history l.version.settled l.version.applied) cells (decoded (slice_index cells k))
+HoldsEnds cells l =
+    (k : ℕ) → EndsIn (IsEndOf l.history l.version.settled l.version.applied) cells (decoded (slice_index cells k))
 
+-- the facts on the control plane's view
 pub record OfControl (objects : ℕ) (words : List ℕ) (c : Control) : Type 0 where
   pub known : c.objects ≡ objects
   pub any : 0 < objects
@@ -76,18 +79,20 @@ pub record IsTold (now knows : Version) : Type 0 where
 abbrev pub IsEndSince : Log → ℕ → End → Type 0
 IsEndSince l low e = (e ≡ answers.Drop) ⊎ IsEndOf l.history low l.version.applied e
 
--- a running trail ends lawfully: adjacencies are read whole, the end that it has or will have is one of the versions since lo, and
--- where lo and the version are one settled version the walk from where it stands ends as resolution does
+-- a running trail ends lawfully: adjacencies are read whole, the end that it has or will have is one of the versions since
+-- lo, and where lo and the version are one settled version the walk from where it stands ends as resolution does
 pub record IsAimed (cells : List ℕ) (l : Log) (lo : Version) (trail : List Load) : Type 0 where
   pub low : IsTold l.version lo
   pub read : (a h : ℕ) → Follows a h trail → ReadsWhole cells (place trail)
   pub heads : (a h : ℕ) → Follows a h trail → Heads (IsEndSince l lo.settled) cells (place trail)
-  pub right : (a h k : ℕ) (S : Tables) → Follows a h trail → lo ≡ version_at k → l.version ≡ version_at k → slice_get l.history k ≡ Some S → Arrives cells a h (place trail) (resolve S a h)
+  pub right : (a h k : ℕ) (S : Tables) → Follows a h trail → lo ≡ version_at k → l.version ≡ version_at k
+      → slice_get l.history k ≡ Some S → Arrives cells a h (place trail) (resolve S a h)
 
 abbrev pub AimsOnce : List ℕ → Log → Version → List Load → Type 0
 AimsOnce cells l lo [] = Unit {0}
 AimsOnce cells l lo (load ∷ t) = IsAimed cells l lo (load ∷ t)
 
+-- the facts on a worker's view, beside the control plane's
 pub record OfWorker (objects : ℕ) (words : List ℕ) (c : Control) (w : Worker) : Type 0 where
   pub known : w.objects ≡ objects
   pub number : w.number < c.workers
@@ -101,4 +106,8 @@ pub record OfWorker (objects : ℕ) (words : List ℕ) (c : Control) (w : Worker
   pub few_claims : length w.claims < 2 ^ 32
 
 abbrev pub lawful : ℕ → Parts
-lawful objects = record { of_control = OfControl objects; of_worker = OfWorker objects; of_note = λ words c n. IsTold c.log.version n }
+lawful objects = record {
+  of_control = OfControl objects;
+  of_worker = OfWorker objects;
+  of_note = λ words c n. IsTold c.log.version n;
+}

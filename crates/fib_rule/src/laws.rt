@@ -8,16 +8,17 @@ ghost use Rattle.fib_results.specs.Versions.{unpacked};
 ghost use Rattle.fib_union.specs.Unions as edges;
 ghost use Rattle.fib_union.specs.Unions.{owner};
 ghost use Rattle.fib_core.specs.declared.word.Word.TheVariants as said;
-ghost use Rattle.fib_core.specs.Words.{IsWord, decoded};
+ghost use Rattle.fib_core.specs.Words.{IsWord, decoded, encoded};
 ghost use Rattle.fib_core.specs.Walk.{Arrives, root, walk};
 ghost use Rattle.fib_core.specs.Union.{Edge, Goes, edges_of};
 ghost use Rattle.fib_core.specs.Trails.{AreLawful, IsSoundTrail, IsWhole, finished, stands, visited};
-ghost use Rattle.fib_lawful.specs.State.{Control, View, Worker, control, worker};
+ghost use Rattle.fib_lawful.specs.State.{Control, View, Worker, control, first_control, worker};
 ghost use Rattle.fib_lawful.specs.Frame.{HasView};
 ghost use Rattle.fib_lawful.specs.Lawful.{AnswersAt, IsTold};
 ghost use Rattle.fib_lawful.specs.Claims.{times};
 ghost use Rattle.fib_rule.specs.Steady.{AreSteady};
 ghost use Rattle.fib_rule.specs.Rule.{IsLawful};
+ghost use Rattle.fib_rule.specs.May.{MayStore};
 
 /// A running pass visits no object twice and only objects that there are; a walk that makes its loads stands where it
 /// stands, goes on exactly where it loads an edge, and reads numbers that fit.
@@ -119,6 +120,12 @@ pub fn free_objects_have_no_ply_edge()
         → IsLawful objects words views → HasView views seat (control c)
         → o ≢ 0 → edges.into (edges_of c.union) o ≡ 0 → Goes c.union k w → decoded w ≡ said.ToPly y
         → (owner k ≢ o) × (y ≢ o) }
+{}
+
+/// What a store asks can be met: into a fresh table an edge from object 0 to a balance in object 1 may be stored.
+pub fn the_first_store_may_be_made()
+    ensures { (objects workers : ℕ)
+        → 1 < objects → MayStore (first_control objects workers) 0 (encoded (said.ToBalance 1)) }
 {}
 
 /// The claim word never wraps.

@@ -36,6 +36,7 @@ fn each_law() {
     laws::union_is_acyclic();
     laws::walks_have_an_end();
     laws::free_objects_have_no_ply_edge();
+    laws::the_first_store_may_be_made();
     laws::claims_fit();
     laws::claims_are_drawn_once();
 }

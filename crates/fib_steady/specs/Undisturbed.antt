@@ -15,17 +15,20 @@ since H from = drop from H
 abbrev pub WayAlike : List Tables → ℕ → ℕ → Trip → Type 0
 WayAlike J a h trip = (S : Tables) → Contains J S → way S a h ≡ trip
 
--- the pass stands where that way leads: on a ply, on the balance of the way's entry at its place, or on an adjacency with the way's end; or it has
--- that end
+-- the pass stands where that way leads: on a ply, on the balance of the way's entry at its place, or on an adjacency with
+-- the way's end; or it has that end
 abbrev pub IsOnWay : (Prefix → Option ℕ) → List ℕ → Trip → Place → Type 0
 IsOnWay balances cells trip (ply o d) = Unit {0}
-IsOnWay balances cells trip (balance o n) = (step : Step) × (slice_get trip.steps n ≡ Some step) × (balances step.entry ≡ Some o)
+IsOnWay balances cells trip (balance o n) =
+    (step : Step) × (slice_get trip.steps n ≡ Some step) × (balances step.entry ≡ Some o)
 IsOnWay balances cells trip (adjacency o read) = adjacency_end cells o ≡ trip.end
 IsOnWay balances cells trip (ended e) = e ≡ trip.end
 
 -- third point: of a running pass, which knew that version as the settled one at its first load
 abbrev pub IsUndisturbed : List Tables → (Prefix → Option ℕ) → List ℕ → ℕ → List Load → Type 0
-IsUndisturbed H balances cells lo loads = (a h : ℕ) (trip : Trip) → Follows a h loads → WayAlike (since H lo) a h trip → IsOnWay balances cells trip (place loads)
+IsUndisturbed H balances cells lo loads =
+    (a h : ℕ) (trip : Trip) → Follows a h loads → WayAlike (since H lo) a h trip
+    → IsOnWay balances cells trip (place loads)
 
 -- before the first change: no cell is stored while a worker is out, so each load is what its cell holds
 abbrev pub IsCurrent : List ℕ → List Load → Type 0
