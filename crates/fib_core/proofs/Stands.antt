@@ -72,7 +72,7 @@ plain_stays (words.ToPly o) e = absurd (cc)
 plain_stays (words.ToBalance o) e = absurd (cc)
 plain_stays (words.ToAdjacency o) e = absurd (cc)
 
--- the words of an adjacency into which U leads are plain
+-- the words of an adjacency into which the union leads are plain
 pub adjacency_word : (u : Union) (o s : ℕ) → IsTyped u → s < 16 → ((k : ℕ) × (w : ℕ) × (decoded w ≡ words.ToAdjacency o) × Goes u k w) → IsAdjacencyWord s (word_at u.cells o s)
 adjacency_word u o s typed lt b =
     let to : target b.1 ≡ o = target_of b.1 (words.ToAdjacency o) b.2 in

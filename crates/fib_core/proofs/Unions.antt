@@ -64,7 +64,7 @@ edge_stored keep fresh u k w x y (j, v, from, to, g) = ⊎_elim
     (λ (q : (j ≡ k) × (v ≡ w)). inr (ap goes (sym q.1) ∙ g.0, sym from ∙ ap owner q.0, sym to ∙ ap target q.1))
     (goes_stored keep fresh u k w j v g)
 
--- a store keeps U acyclic where the new edge closes no cycle in it
+-- a store keeps the union acyclic where the new edge closes no cycle in it
 pub acyclic-stored : (keep : Bool) (fresh : List Mark) (u : Union) (k w : ℕ) → IsAcyclic (Edge u) → (goes w ≡ true → Leads (Edge u) (target w) (owner k) → ⊥) → IsAcyclic (Edge (stored keep fresh u k w))
 acyclic-stored keep fresh u k w calm far = by_cases (goes w) refl
   where
@@ -123,7 +123,7 @@ pub goes-scanned : (u : Union) (n w k v : ℕ) → Goes (scanned u n w) k v → 
 goes-scanned u n w k v (going, inl h) = (going, inl h)
 goes-scanned u n w k v (going, inr a) = (going, inr (any_scanned n w k v u.retired a))
 
--- a scan keeps U acyclic
+-- a scan keeps the union acyclic
 pub acyclic-scanned : (u : Union) (n w : ℕ) → IsAcyclic (Edge u) → IsAcyclic (Edge (scanned u n w))
 acyclic-scanned u n w calm = acyclic_part (Edge (scanned u n w)) (Edge u) (λ x y e. (e.0, e.1, e.2, e.3, goes-scanned u n w e.0 e.1 e.4)) calm
 

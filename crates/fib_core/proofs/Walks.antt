@@ -132,7 +132,7 @@ adjacency_stored cells k w o ne =
     ∙ ap (λ x. hop_of (word_at cells o 0) x (word_at (slice_set cells k w) o 2)) (word_stored cells k w o 1 (omega arith) ne)
     ∙ ap (hop_of (word_at cells o 0) (word_at cells o 1)) (word_stored cells k w o 2 (omega arith) ne)
 
--- where a pass stands at an adjacency an edge of U leads to it; a ply lies as deep as plies' edges of U lead
+-- where a pass stands at an adjacency an edge of the union leads to it; a ply lies as deep as plies' edges of the union lead
 abbrev pub Backed : Union → Place → Type 0
 Backed u (adjacency o ws) = (k : ℕ) × (w : ℕ) × (decoded w ≡ words.ToAdjacency o) × Goes u k w
 Backed u (ply o d) = Walk (PlyEdge u) d 0 o

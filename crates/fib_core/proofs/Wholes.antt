@@ -47,7 +47,7 @@ five_is (words.ToPly o) e = absurd (cc)
 five_is (words.ToBalance o) e = absurd (cc)
 five_is (words.Plain n) e = absurd (cc)
 
--- the edge by which a pass came to an adjacency is one of U
+-- the edge by which a pass came to an adjacency is one of the union
 arrived_goes : (u : Union) (n p : ℕ) (t : List Load) → Walked (Usable u n p) t → tag_of (decoded (arrived t)) ≡ 5 → (j : ℕ) × Goes u j (arrived t) × (target (arrived t) ≡ stands t)
 arrived_goes u n p [] w five = absurd (none (decoded 0) decoded-zero five)
   where

@@ -27,11 +27,11 @@ AnyOf P (x ∷ xs) = P x ⊎ AnyOf P xs
 abbrev pub Lies : Union → ℕ → ℕ → Type 0
 Lies u k w = (slice_index u.cells k ≡ w) ⊎ AnyOf (λ r. (r.cell ≡ k) × (r.word ≡ w)) u.retired
 
--- an edge of U
+-- an edge of the union
 abbrev pub Goes : Union → ℕ → ℕ → Type 0
 Goes u k w = (goes w ≡ true) × Lies u k w
 
--- some edge of U leads from one object to the other
+-- some edge of the union leads from one object to the other
 abbrev pub Edge : Union → ℕ → ℕ → Type 0
 Edge u x y = (k : ℕ) × (w : ℕ) × (owner k ≡ x) × (target w ≡ y) × Goes u k w
 
@@ -133,7 +133,7 @@ HasForm words.Receive s w = Unit {0}
 HasForm (words.Glean i) s w = Unit {0}
 HasForm (words.Plain n) s w = Unit {0}
 
--- an edge of U to a ply
+-- an edge of the union to a ply
 abbrev pub PlyEdge : Union → ℕ → ℕ → Type 0
 PlyEdge u x y = (k : ℕ) × (w : ℕ) × (owner k ≡ x) × (decoded w ≡ words.ToPly y) × Goes u k w
 

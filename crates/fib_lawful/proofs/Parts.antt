@@ -88,7 +88,7 @@ within_stored objects keep fresh u k w room word ends old = record {
   edges = λ j v g. ⊎_elim (λ (a : Goes u j v). old.edges j v a) (λ (q : (j ≡ k) × (v ≡ w)). subst (λ x. target x < objects) (sym q.1) (ends (ap goes (sym q.1) ∙ g.0))) (goes_stored keep fresh u k w j v g);
 }
 
--- stored ends stay such ends: no adjacency into which U leads is written
+-- stored ends stay such ends: no adjacency into which the union leads is written
 pub ends_stored : (P : End → Type 0) (u : Union) (k w : ℕ) → ((j v o : ℕ) → Goes u j v → decoded v ≡ words.ToAdjacency o → owner k ≢ o) → (j : ℕ) (W : Word) → decoded (slice_index u.cells j) ≡ W → EndsIn P u.cells W → EndsIn P (slice_set u.cells k w) W
 ends_stored P u k w whole j words.Drop is e = tt
 ends_stored P u k w whole j words.Receive is e = e

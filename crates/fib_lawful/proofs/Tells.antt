@@ -38,7 +38,7 @@ module _ (objects : ℕ) (words : List ℕ) (views : List View) (id : ℕ) (s : 
         stood = λ a b fol going. stood c.union v.number v.pass a b h.typed v.trail fol f.walk.walked (reads_of c.union.cells c.log v.lo v.trail f.aimed a b fol) going;
       }
 
-  -- a pass stands on a live object: the root, or one to which an edge of U leads
+  -- a pass stands on a live object: the root, or one to which an edge of the union leads
   pub stands_live : (v : Worker) → get_elem? views id ≡ some (worker v) → (stands v.trail ≡ 0) ⊎ ((x : ℕ) × Edge s.0.union x (stands v.trail))
   stands_live v at =
       let c : Control = s.0 in
