@@ -1,5 +1,5 @@
 -- Steady traffic through what is cleared: it rests on holds.
-use Rattle.std.proofs.Common.{◌≡◌, ◌≢◌, ◌<◌, ◌+◌, ◌*◌, ℕ, List, length, Option, Some, ap, ◌∙◌, get_or-set_same}
+use Rattle.std.proofs.Common.{Bool, true, false, true≢false, sym, ◌≡◌, ◌≢◌, ◌<◌, ◌+◌, ◌*◌, ℕ, List, length, Option, Some, ap, ◌∙◌, get_or-set_same}
 use Rattle.std.specs.Prelude.{slice_set}
 use Rattle.fib_addr.specs.Prefixes.{Prefix}
 use Rattle.fib_resolve.specs.declared.types.End.TheVariants as answers
@@ -38,6 +38,9 @@ pub serves_cleared : (c : Control) (Held : ℕ → Type 0) (k : ℕ) → owner k
 serves_cleared c Held k other none free ok begun =
     let n = ok begun in
     (n.0, aside_stored (versions c.log) n.0 c.union (must_retire c.union k) (fresh_marks c) k 0 other none (λ e lasting is. free (n.2 e (owner k) lasting is)) (λ p is. no_ply (decoded 0) p decoded-zero is) n.1, n.2)
+
+pub held_cleared : (c : Control) (held : ℕ → Bool) (k : ℕ) → owner k ≢ 0 → IsAside c.union (owner k) → held (owner k) ≡ false → Serves c (λ o. held o ≡ true) → Serves (put c k 0) (λ o. held o ≡ true)
+held_cleared c held k other none free ok = serves_cleared c (λ o. held o ≡ true) k other none (λ is. true≢false (sym is ∙ free)) ok
 
 pub serves_looked : (c : Control) (Held : ℕ → Type 0) (number found : ℕ) → Serves c Held → Serves (looked c number found) Held
 serves_looked c Held number found ok begun = (let n = ok begun in (n.0, promised_scans (versions c.log) n.0 c.union number found n.1, n.2))

@@ -1,5 +1,5 @@
 // What the rule tells a seat. A law each, the contract of a call without a body.
-ghost use Rattle.std.specs.Prelude.{ℕ, List, Some, false, length, nat_lt, slice_get, slice_index, slice_index_or};
+ghost use Rattle.std.specs.Prelude.{ℕ, Bool, List, Some, false, true, length, nat_lt, slice_get, slice_index, slice_index_or};
 ghost use Rattle.std.specs.Prelude.{if◌then◌else◌, ◌*◌, ◌+◌, ◌<◌, ◌^◌, ◌≡◌, ◌≢◌, ◌≤◌, ◌⊎◌};
 ghost use Rattle.fib_reach.specs.Walks.{IsAcyclic};
 ghost use Rattle.fib_resolve.specs.declared.types.Tables.{Tables};
@@ -8,17 +8,18 @@ ghost use Rattle.fib_results.specs.Versions.{unpacked};
 ghost use Rattle.fib_union.specs.Unions as edges;
 ghost use Rattle.fib_union.specs.Unions.{owner};
 ghost use Rattle.fib_core.specs.declared.word.Word.TheVariants as said;
-ghost use Rattle.fib_core.specs.Words.{IsWord, decoded, encoded};
+ghost use Rattle.fib_core.specs.Words.{IsWord, decoded, encoded, target};
 ghost use Rattle.fib_core.specs.Walk.{Arrives, root, walk};
 ghost use Rattle.fib_core.specs.Union.{Edge, Goes, edges_of};
 ghost use Rattle.fib_core.specs.Trails.{AreLawful, IsSoundTrail, IsWhole, finished, stands, visited};
-ghost use Rattle.fib_lawful.specs.State.{Control, View, Worker, control, first_control, worker};
+ghost use Rattle.fib_lawful.specs.State.{Control, View, Worker, control, first_control, put, worker};
 ghost use Rattle.fib_lawful.specs.Frame.{HasView};
 ghost use Rattle.fib_lawful.specs.Lawful.{AnswersAt, IsTold};
 ghost use Rattle.fib_lawful.specs.Claims.{times};
 ghost use Rattle.fib_rule.specs.Steady.{AreSteady};
 ghost use Rattle.fib_rule.specs.Rule.{IsLawful};
 ghost use Rattle.fib_rule.specs.May.{MayStore};
+ghost use Rattle.fib_rule.specs.Serving.{MayClear, Serves};
 
 /// A running pass visits no object twice and only objects that there are; a walk that makes its loads stands where it
 /// stands, goes on exactly where it loads an edge, and reads numbers that fit.
@@ -126,6 +127,25 @@ pub fn free_objects_have_no_ply_edge()
 pub fn the_first_store_may_be_made()
     ensures { (objects workers : ℕ)
         → 1 < objects → MayStore (first_control objects workers) 0 (encoded (said.ToBalance 1)) }
+{}
+
+/// Clearing: where no edge is counted into an object other than 0, a Drop asks nothing but that steady traffic does not
+/// rest on that object, at a time when stores are allowed.
+pub fn a_drop_where_nothing_leads_may_be_stored()
+    ensures { (objects seat k : ℕ) (words : List ℕ) (views : List View) (c : Control)
+        → IsLawful objects words views → HasView views seat (control c)
+        → k < 16 * c.objects → slice_index c.union.cells k ≢ 0
+        → owner k ≢ 0 → edges.into (edges_of c.union) (owner k) ≡ 0
+        → (c.log.version.settled < c.log.version.applied)
+        ⊎ ((c.log.version.applied ≡ 0) × ((n : ℕ) → slice_index_or c.desk.out n false ≡ false))
+        → MayClear c (owner k) → MayStore c k 0 }
+{}
+
+/// Such a Drop keeps what serves steady traffic, where the object isn't held.
+pub fn clearing_keeps_what_is_served()
+    ensures { (c : Control) (held : ℕ → Bool) (k : ℕ)
+        → owner k ≢ 0 → ((j v : ℕ) → Goes c.union j v → target v ≡ owner k → ⊥) → held (owner k) ≡ false
+        → Serves c (λ o. held o ≡ true) → Serves (put c k 0) (λ o. held o ≡ true) }
 {}
 
 /// The claim word never wraps.
