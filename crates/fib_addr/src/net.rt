@@ -68,10 +68,11 @@ impl Prefix {
         self.start
     }
 
-    /// Its length in bits, at most 32.
+    /// Its length in bits, at most 32. A caller learns from it that the value is a prefix.
     pub fn len(&self) -> u8
         ensures value { result ≡ self.now.len }
         ensures bound { result ≤ 32 }
+        ensures prefix { IsPrefix self.now }
     {
         self.length
     }

@@ -1,5 +1,5 @@
 -- In a strict order of a list exactly k elements have fewer than k before them.
-use Rattle.std.proofs.Common.{arith, ◌≡◌, ℕ, zero, suc, ◌+◌, ◌-◌, ◌<◌, ◌≤◌, Bool, true, false, not, cond, eqb, ltb, ◌&&◌, ◌||◌, List, [], ◌∷◌, map, length, get_or, ◌⊎◌, inl, inr, refl, sym, ◌∙◌, ap, subst}
+use Rattle.std.proofs.Common.{arith, ◌≡◌, ℕ, zero, suc, ◌+◌, ◌-◌, ◌<◌, ◌≤◌, Bool, true, false, not, eqb, ltb, List, [], ◌∷◌, map, length, get_or, ◌⊎◌, inl, inr, refl, sym, ◌∙◌, ap, subst}
 use Rattle.std.specs.Prelude.{filter}
 use Rattle.std.specs.List.{AllByRecursion, IsDistinct, count_by, range_with_len}
 use Rattle.std.specs.Set.{is_member}
@@ -9,20 +9,12 @@ use Rattle.std.proofs.lemmas.Bool.Decides.{Decides-eqb}
 use Rattle.std.proofs.lemmas.List.{get_or-map}
 use Rattle.std.proofs.lemmas.List.Elements.{recursion_from_All}
 use Rattle.std.proofs.lemmas.List.FromFn.{length-range_with_len}
-use Rattle.std.proofs.lemmas.List.Sums.{sum_by-cons, length-filter}
+use Rattle.std.proofs.lemmas.List.Sums.{length-filter}
 use Rattle.std.proofs.lemmas.Map.Keys.{IsDistinct-from_apart}
 use Rattle.std.proofs.lemmas.Map.Made.{length-le_from_is_member, is_member-filter}
 use Rattle.std.proofs.lemmas.Map.Steps.{length-le_from_distinct_below}
-
-abbrev unit_of : Bool → ℕ
-unit_of b = cond b 1 0
-
-either : (b : Bool) → (b ≡ true) ⊎ (b ≡ false)
-either true = inl refl
-either false = inr refl
-
-count-cons : {X : Type 0} (p : X → Bool) (x : X) (xs : List X) → count_by p (x ∷ xs) ≡ unit_of (p x) + count_by p xs
-count-cons p x xs = sum_by-cons (λ y. unit_of (p y)) x xs
+use Rattle.fib_list.proofs.Lists.{either}
+use Rattle.fib_list.proofs.Tests.{or_cases, and_both, or_right, unit_of, count_by-cons}
 
 at_most : (b c : Bool) → (b ≡ true → c ≡ true) → unit_of b ≤ unit_of c
 at_most true c h = rw (h refl) (omega arith)
@@ -30,13 +22,13 @@ at_most false c h = omega arith
 
 count_more : {X : Type 0} (p q : X → Bool) → ((x : X) → p x ≡ true → q x ≡ true) → (xs : List X) → count_by p xs ≤ count_by q xs
 count_more p q h [] = omega arith
-count_more p q h (x ∷ xs) = omega (arith, count-cons p x xs, count-cons q x xs, at_most (p x) (q x) (h x), count_more p q h xs)
+count_more p q h (x ∷ xs) = omega (arith, count_by-cons p x xs, count_by-cons q x xs, at_most (p x) (q x) (h x), count_more p q h xs)
 
 -- q passes all that p does and one element more
 count_one_more : {X : Type 0} (p q : X → Bool) → ((x : X) → p x ≡ true → q x ≡ true) → (xs : List X) (i : ℕ) (d : X) → i < length xs → p (get_or xs i d) ≡ false → q (get_or xs i d) ≡ true → count_by p xs < count_by q xs
 count_one_more p q h [] i d l fails passes = absurd (omega (arith, l))
-count_one_more p q h (x ∷ xs) zero d l fails passes = omega (arith, count-cons p x xs, count-cons q x xs, ap unit_of fails, ap unit_of passes, count_more p q h xs)
-count_one_more p q h (x ∷ xs) (suc i) d l fails passes = omega (arith, count-cons p x xs, count-cons q x xs, at_most (p x) (q x) (h x), count_one_more p q h xs i d (omega (arith, l)) fails passes)
+count_one_more p q h (x ∷ xs) zero d l fails passes = omega (arith, count_by-cons p x xs, count_by-cons q x xs, ap unit_of fails, ap unit_of passes, count_more p q h xs)
+count_one_more p q h (x ∷ xs) (suc i) d l fails passes = omega (arith, count_by-cons p x xs, count_by-cons q x xs, at_most (p x) (q x) (h x), count_one_more p q h xs i d (omega (arith, l)) fails passes)
 
 units : (b : Bool) → unit_of b + unit_of (not b) ≡ 1
 units true = refl
@@ -44,11 +36,11 @@ units false = refl
 
 count_both : {X : Type 0} (p : X → Bool) (xs : List X) → count_by p xs + count_by (λ x. not (p x)) xs ≡ length xs
 count_both p [] = refl
-count_both p (x ∷ xs) = omega (arith, count-cons p x xs, count-cons (λ y. not (p y)) x xs, units (p x), count_both p xs)
+count_both p (x ∷ xs) = omega (arith, count_by-cons p x xs, count_by-cons (λ y. not (p y)) x xs, units (p x), count_both p xs)
 
 count_all : {X : Type 0} (xs : List X) → count_by (λ _. true) xs ≡ length xs
 count_all [] = refl
-count_all (x ∷ xs) = omega (arith, count-cons (λ _. true) x xs, count_all xs)
+count_all (x ∷ xs) = omega (arith, count_by-cons (λ _. true) x xs, count_all xs)
 
 apart_filter : (x : ℕ) (p : ℕ → Bool) (xs : List ℕ) → AllByRecursion (λ y. eqb x y ≡ false) xs → AllByRecursion (λ y. eqb x y ≡ false) (filter p xs)
 apart_filter x p [] h = tt
@@ -59,21 +51,13 @@ unfolding IsDistinct
 distinct_filter p [] h = tt
 distinct_filter p (x ∷ xs) h = elim (either (p x)) [ inl is ↦ rw is (apart_filter x p xs h.0, distinct_filter p xs h.1) | inr isnt ↦ rw isnt (distinct_filter p xs h.1) ]
 
-or_true : (a b : Bool) → b ≡ true → (a || b) ≡ true
-or_true true b h = refl
-or_true false b h = h
-
 in_range : (a m q : ℕ) → a ≤ q → q < a + m → is_member eqb (range_with_len a m) q ≡ true
 in_range a zero q l h = absurd (omega (arith, l, h))
 in_range a (suc m) q l h =
     elim (cases_lt a q) [
-      | inl lt ↦ or_true (eqb q a) _ (in_range (a + 1) m q (omega (arith, lt)) (omega (arith, h)))
+      | inl lt ↦ or_right (eqb q a) _ (in_range (a + 1) m q (omega (arith, lt)) (omega (arith, h)))
       | inr le ↦ rw ((Decides-eqb q a).1 (omega (arith, l, le))) refl
     ]
-
-and_both : (x y : Bool) → (x && y) ≡ true → (x ≡ true) × (y ≡ true)
-and_both true y h = (refl, h)
-and_both false y h = absurd (false≢true h)
 
 filtered : (p : ℕ → Bool) (q : ℕ) (rs : List ℕ) → is_member eqb (filter p rs) q ≡ true → (is_member eqb rs q ≡ true) × (p q ≡ true)
 filtered p q rs h = and_both _ _ (sym (is_member-filter nat_eq_equiv p q (λ x e. ap p ((Decides-eqb q x).0 e)) rs) ∙ h)
@@ -93,7 +77,7 @@ count_below rs apart small k h =
 
 count-map : {X : Type 0} (f : X → ℕ) (p : ℕ → Bool) (xs : List X) → count_by p (map f xs) ≡ count_by (λ x. p (f x)) xs
 count-map f p [] = refl
-count-map f p (x ∷ xs) = omega (arith, count-cons p (f x) (map f xs), count-cons (λ y. p (f y)) x xs, count-map f p xs)
+count-map f p (x ∷ xs) = omega (arith, count_by-cons p (f x) (map f xs), count_by-cons (λ y. p (f y)) x xs, count-map f p xs)
 
 length-map_here : {X : Type 0} (f : X → ℕ) (xs : List X) → length (map f xs) ≡ length xs
 length-map_here f [] = refl
@@ -103,10 +87,6 @@ each_member : (P : ℕ → Type 0) (rs : List ℕ) (q : ℕ) → AllByRecursion 
 each_member P [] q h m = absurd (false≢true m)
 each_member P (r ∷ rs) q h m =
     elim (or_cases (eqb q r) _ m) [ inl is ↦ subst P (sym ((Decides-eqb q r).0 is)) h.0 | inr isin ↦ each_member P rs q h.1 isin ]
-  where
-    or_cases : (a b : Bool) → (a || b) ≡ true → (a ≡ true) ⊎ (b ≡ true)
-    or_cases true b e = inl refl
-    or_cases false b e = inr e
 
 each_map : {X : Type 0} (P : ℕ → Type 0) (f : X → ℕ) (xs : List X) → AllByRecursion (λ x. P (f x)) xs → AllByRecursion P (map f xs)
 each_map P f [] h = tt

@@ -18,9 +18,10 @@ use Rattle.fib_resolve.specs.declared.types.SpecKind.{SpecKind}
 use Rattle.fib_resolve.specs.declared.types.SpecKind.TheVariants as kinds
 use Rattle.fib_resolve.specs.Reachable.{WritesNeed}
 use Rattle.fib_commands.specs.declared.options.Options.{Options}
-use Rattle.fib_commands.specs.Names.{Words, keyword, is_letter, is_reserved}
+use Rattle.fib_resolve.specs.Names.{is_letter, is_reserved}
+use Rattle.fib_commands.specs.Names.{Words, keyword}
 use Rattle.fib_commands.specs.Paths.{no_options, value_of, with_weight, with_preference, with_need, option_of, options_of, is_path_word, hop_of, via_of, attached_of, addressed_of, led_by, target_of, written_of}
-use Rattle.fib_commands.specs.Canonical.{kind_words, need_words, KindIsWritten}
+use Rattle.fib_commands.specs.Canonical.{kind_words, need_words, IsCanonicalKind}
 use Rattle.fib_commands.proofs.Inks.{name_facts}
 
 or_split : (x y : Bool) → (x || y) ≡ false → (x ≡ false) × (y ≡ false)
@@ -132,7 +133,7 @@ name_path_word : (name : List ℕ) (rest : Words) → Free name → is_path_word
 unfolding is_path_word
 name_path_word name rest f = rw (f.via_word, f.weight_word, f.preference_word, f.host_word, f.attached_word) refl
 
-pub target_again : (k : SpecKind) (rest : Words) → KindIsWritten k → WeightFirst rest → target_of (kind_words k ++ rest) ≡ Some (k, rest)
+pub target_again : (k : SpecKind) (rest : Words) → IsCanonicalKind k → WeightFirst rest → target_of (kind_words k ++ rest) ≡ Some (k, rest)
 unfolding target_of led_by attached_of addressed_of via_of hop_of is_path_word
 target_again kinds.Drop rest is first = refl
 target_again kinds.Local rest is first = refl

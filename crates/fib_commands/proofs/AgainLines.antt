@@ -8,7 +8,7 @@ use Rattle.fib_addr.proofs.RoundTrip.{address_again, prefix_again, mac_again}
 use Rattle.fib_addr.proofs.PrefixLaws.{same_fields}
 use Rattle.fib_addr.specs.Texts.{address_text, prefix_text, mac_text}
 use Rattle.fib_addr.specs.Prefixes.{Prefix, IsPrefix, masked, size_of}
-use Rattle.fib_lines.specs.Words.{is_idle}
+use Rattle.fib_lines.specs.LineWords.{is_idle}
 use Rattle.fib_resolve.specs.declared.types.Edit.{Edit}
 use Rattle.fib_resolve.specs.declared.types.Edit.TheVariants as edits
 use Rattle.fib_resolve.specs.declared.types.Need.{Need}
@@ -21,7 +21,7 @@ use Rattle.fib_commands.specs.declared.types.Line.TheVariants as lines
 use Rattle.fib_commands.specs.Names.{Words, keyword, name_of}
 use Rattle.fib_commands.specs.Paths.{path_of, paths_of}
 use Rattle.fib_commands.specs.Lines.{create_of, flag_of, state_of, own_address_of, address_words, add_address_of, del_address_of, neighbor_words, set_neighbor_of, last_mac_of, del_neighbor_of, route_of, some_path, some_route_of, add_route_of, del_route_of, api_add_of, api_del_of, forms, reading_of, line_of}
-use Rattle.fib_commands.specs.Canonical.{kind_words, need_words, option_words, path_words, flag_text, source_words, address_text_of, edit_words, edit_text, joined, KindIsWritten, PathIsWritten, IsName, IsCanonical}
+use Rattle.fib_commands.specs.Canonical.{kind_words, need_words, option_words, path_words, flag_text, source_words, address_text_of, edit_words, edit_text, joined, IsCanonicalKind, IsCanonicalPath, IsName, IsCanonical}
 use Rattle.fib_commands.proofs.Dispatch.{at_create, at_set, at_ip, at_api}
 use Rattle.fib_commands.proofs.Inks.{is_ink, IsInk, Inks, address_ink, prefix_ink, mac_ink, name_ink, decimal_ink, words_again, joined_plain}
 use Rattle.fib_commands.proofs.Again.{IsEnd, options_again, target_again, written_again}
@@ -31,7 +31,7 @@ assembled : (k : SpecKind) (w p : ℕ) (need : Need) (rest : Words)
     ≡ kind_words k ++ (codes "weight" ∷ decimal w ∷ codes "preference" ∷ decimal p ∷ (need_words need ++ rest))
 assembled k w p need rest = append_assoc (kind_words k) _ rest
 
-path_again : (x : PathSpec) (rest : Words) → PathIsWritten x → IsEnd rest → path_of (path_words x ++ rest) ≡ Some (x, rest)
+path_again : (x : PathSpec) (rest : Words) → IsCanonicalPath x → IsEnd rest → path_of (path_words x ++ rest) ≡ Some (x, rest)
 unfolding path_of keyword
 path_again x rest is end =
     let more = codes "weight" ∷ decimal x.weight ∷ codes "preference" ∷ decimal x.preference ∷ (need_words x.need ++ rest) in
@@ -45,7 +45,7 @@ none_left : (n : ℕ) → paths_of n [] ≡ Some []
 unfolding paths_of
 none_left n = refl
 
-paths_again : (n : ℕ) (xs : List PathSpec) → length (flat_map path_words xs) ≤ n → AllByRecursion PathIsWritten xs → paths_of n (flat_map path_words xs) ≡ Some xs
+paths_again : (n : ℕ) (xs : List PathSpec) → length (flat_map path_words xs) ≤ n → AllByRecursion IsCanonicalPath xs → paths_of n (flat_map path_words xs) ≡ Some xs
 unfolding paths_of
 paths_again n [] enough is = none_left n
 paths_again zero (x ∷ xs) enough is = absurd (omega arith)
@@ -54,7 +54,7 @@ paths_again (suc n) (x ∷ xs) enough is =
     let fewer : length rest ≤ n = omega (arith, length-append (kind_words x.kind ++ option_words x) rest) in
     rw (path_again x rest is.0 (path_end xs), paths_again n xs fewer is.1) refl
 
-route_again : (p : Prefix) (xs : List PathSpec) → IsPrefix p → AllByRecursion PathIsWritten xs → route_of (prefix_text p ∷ flat_map path_words xs) ≡ Some ((p.bits, p.len), xs)
+route_again : (p : Prefix) (xs : List PathSpec) → IsPrefix p → AllByRecursion IsCanonicalPath xs → route_of (prefix_text p ∷ flat_map path_words xs) ≡ Some ((p.bits, p.len), xs)
 unfolding route_of
 route_again p xs is paths = rw (prefix_again p is.fits is.short, paths_again (length (flat_map path_words xs)) xs (omega arith) paths) refl
 
@@ -69,12 +69,12 @@ unfolding some_path
 some_again [] some = absurd (omega arith)
 some_again (x ∷ xs) some = refl
 
-add_again : (api : Bool) (p : Prefix) (xs : List PathSpec) → IsPrefix p → 0 < length xs → AllByRecursion PathIsWritten xs
+add_again : (api : Bool) (p : Prefix) (xs : List PathSpec) → IsPrefix p → 0 < length xs → AllByRecursion IsCanonicalPath xs
     → add_route_of api (codes "ip" ∷ codes "route" ∷ codes "add" ∷ prefix_text p ∷ flat_map path_words xs) ≡ Some (lines.Change (edits.AddRoute p api xs))
 unfolding add_route_of some_route_of keyword
 add_again api p xs is some paths = rw (route_again p xs is paths, some_again xs some, masked_again p is) refl
 
-del_again : (api : Bool) (p : Prefix) (xs : List PathSpec) → IsPrefix p → AllByRecursion PathIsWritten xs
+del_again : (api : Bool) (p : Prefix) (xs : List PathSpec) → IsPrefix p → AllByRecursion IsCanonicalPath xs
     → del_route_of api (codes "ip" ∷ codes "route" ∷ codes "del" ∷ prefix_text p ∷ flat_map path_words xs) ≡ Some (lines.Change (edits.DelRoute p api xs))
 unfolding del_route_of keyword
 del_again api p xs is paths = rw (route_again p xs is paths, masked_again p is) refl
@@ -124,7 +124,7 @@ del_neighbor_again : (name : List ℕ) (a : ℕ) → IsName name → a < 2 ^ 32
 unfolding reading_of state_of address_words add_address_of del_address_of neighbor_words set_neighbor_of last_mac_of del_neighbor_of keyword
 del_neighbor_again name a is small = at_set _ refl ∙ rw (del_is_no_name, is, address_again a small) refl
 
-add_route_again : (api : Bool) (p : Prefix) (xs : List PathSpec) → IsPrefix p → 0 < length xs → AllByRecursion PathIsWritten xs
+add_route_again : (api : Bool) (p : Prefix) (xs : List PathSpec) → IsPrefix p → 0 < length xs → AllByRecursion IsCanonicalPath xs
     → reading_of forms (source_words api (codes "ip" ∷ codes "route" ∷ codes "add" ∷ prefix_text p ∷ flat_map path_words xs)) ≡ Some (lines.Change (edits.AddRoute p api xs))
 unfolding reading_of api_add_of keyword
 add_route_again true p xs is some paths = at_api _ refl ∙ rw (add_again true p xs is some paths) refl
@@ -134,7 +134,7 @@ add_is_not_del : (api : Bool) (rest : Words) → add_route_of api (codes "ip" �
 unfolding add_route_of keyword
 add_is_not_del api rest = refl
 
-del_route_again : (api : Bool) (p : Prefix) (xs : List PathSpec) → IsPrefix p → AllByRecursion PathIsWritten xs
+del_route_again : (api : Bool) (p : Prefix) (xs : List PathSpec) → IsPrefix p → AllByRecursion IsCanonicalPath xs
     → reading_of forms (source_words api (codes "ip" ∷ codes "route" ∷ codes "del" ∷ prefix_text p ∷ flat_map path_words xs)) ≡ Some (lines.Change (edits.DelRoute p api xs))
 unfolding reading_of api_add_of api_del_of keyword
 del_route_again true p xs is paths = at_api _ refl ∙ rw (add_is_not_del true _, del_again true p xs is paths) refl
@@ -156,7 +156,7 @@ reading_again (edits.DelRoute p api xs) is = del_route_again api p xs is.0 is.1
 known : (w : List ℕ) → 0 < length w → list_all is_ink w ≡ true → IsInk w
 known w some ink = record { some = some; ink = ink }
 
-kind_inks : (k : SpecKind) → KindIsWritten k → Inks (kind_words k)
+kind_inks : (k : SpecKind) → IsCanonicalKind k → Inks (kind_words k)
 kind_inks kinds.Drop is = (known _ (omega arith) refl, tt)
 kind_inks kinds.Local is = (known _ (omega arith) refl, tt)
 kind_inks (kinds.Attached name) is = (name_ink name is, tt)
@@ -168,14 +168,14 @@ need_inks needs.Any = tt
 need_inks needs.Host = (known _ (omega arith) refl, tt)
 need_inks needs.Attached = (known _ (omega arith) refl, tt)
 
-path_inks : (x : PathSpec) → PathIsWritten x → Inks (path_words x)
+path_inks : (x : PathSpec) → IsCanonicalPath x → Inks (path_words x)
 path_inks x is = (
   known _ (omega arith) refl,
   each-append IsInk (kind_words x.kind) (option_words x) (kind_inks x.kind is.kind)
       (known _ (omega arith) refl, (decimal_ink x.weight (omega (arith, is.weight)), (known _ (omega arith) refl, (decimal_ink x.preference (omega (arith, is.preference)), need_inks x.need)))),
 )
 
-paths_inks : (xs : List PathSpec) → AllByRecursion PathIsWritten xs → Inks (flat_map path_words xs)
+paths_inks : (xs : List PathSpec) → AllByRecursion IsCanonicalPath xs → Inks (flat_map path_words xs)
 paths_inks [] is = tt
 paths_inks (x ∷ xs) is = each-append IsInk (path_words x) (flat_map path_words xs) (path_inks x is.0) (paths_inks xs is.1)
 

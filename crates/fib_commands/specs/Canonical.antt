@@ -63,16 +63,16 @@ edit_text e = joined (edit_words e)
 abbrev pub IsName : List ℕ → Type 0
 IsName name = name_of name ≡ Some name
 
-abbrev pub KindIsWritten : SpecKind → Type 0
-KindIsWritten kinds.Drop = Unit {0}
-KindIsWritten kinds.Local = Unit {0}
-KindIsWritten (kinds.Attached name) = IsName name
-KindIsWritten (kinds.Hop a name) = (a < 2 ^ 32) × IsName name
-KindIsWritten (kinds.Recursive a) = a < 2 ^ 32
+abbrev pub IsCanonicalKind : SpecKind → Type 0
+IsCanonicalKind kinds.Drop = Unit {0}
+IsCanonicalKind kinds.Local = Unit {0}
+IsCanonicalKind (kinds.Attached name) = IsName name
+IsCanonicalKind (kinds.Hop a name) = (a < 2 ^ 32) × IsName name
+IsCanonicalKind (kinds.Recursive a) = a < 2 ^ 32
 
 -- a path as the grammar can write it
-pub record PathIsWritten (p : PathSpec) : Type 0 where
-  pub kind : KindIsWritten p.kind
+pub record IsCanonicalPath (p : PathSpec) : Type 0 where
+  pub kind : IsCanonicalKind p.kind
   pub above : 0 < p.weight
   pub weight : p.weight ≤ 255
   pub preference : p.preference ≤ 255
@@ -86,5 +86,5 @@ IsCanonical (edits.AddAddress name a len) = IsName name × (a < 2 ^ 32) × (len 
 IsCanonical (edits.DelAddress name a len) = IsName name × (a < 2 ^ 32) × (len ≤ 32)
 IsCanonical (edits.SetNeighbor name a mac) = IsName name × (a < 2 ^ 32) × (mac < 2 ^ 48)
 IsCanonical (edits.DelNeighbor name a) = IsName name × (a < 2 ^ 32)
-IsCanonical (edits.AddRoute p api paths) = IsPrefix p × (0 < length paths) × AllByRecursion PathIsWritten paths
-IsCanonical (edits.DelRoute p api paths) = IsPrefix p × AllByRecursion PathIsWritten paths
+IsCanonical (edits.AddRoute p api paths) = IsPrefix p × (0 < length paths) × AllByRecursion IsCanonicalPath paths
+IsCanonical (edits.DelRoute p api paths) = IsPrefix p × AllByRecursion IsCanonicalPath paths

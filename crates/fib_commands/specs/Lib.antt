@@ -3,4 +3,4 @@ pub mod Lines
 pub mod Names
 pub mod Paths
 pub use Rattle.fib_lines.specs.Lines as FileLines
-pub use Rattle.fib_lines.specs.Words
+pub use Rattle.fib_lines.specs.LineWords

@@ -1,8 +1,8 @@
 -- Words of a line, and names of interfaces.
-use Rattle.std.specs.Prelude.{ℕ, ◌≡◌, ◌==◌, ◌||◌, ◌&&◌, ◌∷◌, [], List, Bool, not, Option, Some, None, Result, Ok, Err, length, nat_le, if◌then◌else◌, slice_index, codes}
-use Rattle.std.specs.List.{list_all}
+use Rattle.std.specs.Prelude.{ℕ, ◌≡◌, ◌∷◌, [], List, Option, Some, None, Result, Ok, Err, if◌then◌else◌}
 use Rattle.std.specs.Str.{bytes_eq}
 use Rattle.fib_addr.specs.Texts.{◌>>=◌}
+use Rattle.fib_resolve.specs.Names.{is_name}
 use Rattle.fib_commands.specs.declared.types.LineError.{LineError}
 use Rattle.fib_commands.specs.declared.types.LineError.TheVariants as errors
 
@@ -35,22 +35,6 @@ abbrev pub finished : Words → Option (Unit {0})
 finished [] = Some tt
 finished _ = None
 
-abbrev pub is_letter : ℕ → Bool
-is_letter b = (nat_le 65 b && nat_le b 90) || (nat_le 97 b && nat_le b 122)
-
--- a letter, a digit, or one of - . / : _
-abbrev pub is_name_byte : ℕ → Bool
-is_name_byte b = is_letter b || (nat_le 45 b && nat_le b 58) || b == 95
-
--- the words of paths, and that of deletions
-abbrev pub is_reserved : List ℕ → Bool
-is_reserved text =
-    bytes_eq text (codes "drop") || bytes_eq text (codes "local") || bytes_eq text (codes "via")
-    || bytes_eq text (codes "weight") || bytes_eq text (codes "preference") || bytes_eq text (codes "del")
-    || bytes_eq text (codes "resolve-via-host") || bytes_eq text (codes "resolve-via-attached")
-
--- the name of an interface: 1 to 31 of these characters, the first a letter, and no reserved word
+-- the name of an interface
 unfoldable pub name_of : List ℕ → Option (List ℕ)
-name_of text =
-    if is_letter (slice_index text 0) && (nat_le (length text) 31 && (list_all is_name_byte text && not (is_reserved text)))
-    then Some text else None
+name_of text = if is_name text then Some text else None

@@ -2,14 +2,15 @@
 use Rattle.std.specs.Prelude.{ℕ, ◌||◌, ◌&&◌, ◌∷◌, [], List, Bool, true, false, not, Option, Some, None, zero, suc, is_none, IfSome, ◌<◌, unwrap_or, nat_lt, if◌then◌else◌, slice_index, codes}
 use Rattle.std.specs.Str.{bytes_eq}
 use Rattle.fib_addr.specs.Texts.{◌>>=◌, address_of, number_of}
-use Rattle.fib_lines.specs.Words.{has_word, next_is}
+use Rattle.fib_lines.specs.LineWords.{has_word, next_is}
 use Rattle.fib_resolve.specs.declared.types.Need.{Need}
 use Rattle.fib_resolve.specs.declared.types.Need.TheVariants as needs
 use Rattle.fib_resolve.specs.declared.types.PathSpec.{PathSpec}
 use Rattle.fib_resolve.specs.declared.types.SpecKind.{SpecKind}
 use Rattle.fib_resolve.specs.declared.types.SpecKind.TheVariants as kinds
 use Rattle.fib_commands.specs.declared.options.Options.{Options}
-use Rattle.fib_commands.specs.Names.{Words, word, keyword, name_of, is_letter}
+use Rattle.fib_resolve.specs.Names.{is_letter}
+use Rattle.fib_commands.specs.Names.{Words, word, keyword, name_of}
 
 abbrev pub no_options : Options
 no_options = record { weight = None; preference = None; need = None }

@@ -7,11 +7,11 @@ ghost use Rattle.fib_commands.specs.Names.{Gives};
 ghost use Rattle.fib_commands.specs.Paths.{IsWeighted, is_path_word, hop_of, via_of, attached_of, addressed_of, led_by, target_of, is_recursive, written_of, path_of, paths_of};
 
 use crate::LineError;
-use crate::names::{keyword, name, starts_with_letter, word};
+use crate::names::{keyword, name, word};
 use crate::options::{Options, all_options};
 use fib_addr::{Addr, BadText, addr_in};
 use fib_lines::Words;
-use fib_resolve::{List, Need, PathSpec, SpecKind};
+use fib_resolve::{List, Need, PathSpec, SpecKind, starts_with_letter};
 use std::alloc::Global;
 
 /// Whether the next word goes on with the path, or begins another.

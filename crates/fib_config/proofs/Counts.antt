@@ -1,5 +1,5 @@
 -- How many distinct members lists have.
-use Rattle.std.proofs.Common.{arith, ◌≡◌, ◌+◌, ◌≤◌, Bool, true, false, cond, ◌||◌, List, [], ◌∷◌, ◌++◌, map, length, inl, inr, refl, sym, ◌∙◌, subst}
+use Rattle.std.proofs.Common.{arith, ◌≡◌, ◌+◌, ◌≤◌, Bool, true, false, cond, List, [], ◌∷◌, ◌++◌, map, length, inl, inr, sym, ◌∙◌, subst}
 use Rattle.std.specs.Prelude.{flat_map, count_by}
 use Rattle.std.specs.List.{AllByRecursion, IsDistinct}
 use Rattle.std.specs.Set.{unique_keys, is_member, distinct_count}
@@ -9,10 +9,7 @@ use Rattle.std.proofs.lemmas.Map.Steps.{list_any_congr}
 use Rattle.std.proofs.lemmas.List.Sums.{sum_by-cons}
 use Rattle.fib_list.proofs.Lists.{either, is_member-unique_keys}
 use Rattle.fib_resolve.proofs.PairLaws.{each-unique}
-
-or_right : (a b : Bool) → b ≡ true → (a || b) ≡ true
-or_right true b h = refl
-or_right false b h = h
+use Rattle.fib_list.proofs.Tests.{or_right}
 
 apart : {K : Type 0} (eq : K → K → Bool) (x : K) (xs : List K) → is_member eq xs x ≡ false → AllByRecursion (λ y. eq x y ≡ false) xs
 apart eq x [] h = tt

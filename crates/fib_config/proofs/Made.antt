@@ -1,11 +1,9 @@
 -- What is known of an edit before its size is.
 use Rattle.std.proofs.Common.{arith, ◌≡◌, ℕ, ◌+◌, ◌≤◌, ◌<◌, true, false, List, ◌∷◌, length, drop, Some, None, get_or, refl, sym, ◌∙◌, ap}
-use Rattle.std.specs.Prelude.{All, nat_lt, Ok, Err}
-use Rattle.std.proofs.lemmas.List.Elements.{All-from_recursion}
+use Rattle.std.specs.Prelude.{nat_lt, Ok, Err}
 use Rattle.std.proofs.lemmas.Bool.{ltb-true, ltb-false}
 use Rattle.std.proofs.lemmas.List.{drop_more, drop_all}
-use Rattle.fib_list.proofs.Lists.{each-weaker}
-use Rattle.fib_resolve.specs.Tables.{IsSound, IsSoundAddress}
+use Rattle.fib_resolve.specs.Tables.{IsSound}
 use Rattle.fib_resolve.specs.Edits.{edited}
 use Rattle.fib_resolve.specs.Sizes.{size}
 use Rattle.fib_resolve.specs.Refusals.{first_reason, reasons, refused, edited_from}
@@ -16,10 +14,6 @@ use Rattle.fib_resolve.specs.declared.types.Refusal.{Refusal}
 use Rattle.fib_resolve.specs.declared.types.Refusal.TheVariants as refusals
 use Rattle.fib_resolve.specs.declared.types.Tables.{Tables}
 use Rattle.fib_resolve.specs.declared.types.Edit.{Edit}
-
-pub short_addresses : (S : Tables) → IsSound S → All (λ a. a.len ≤ 32) S.addresses
-short_addresses S h =
-    All-from_recursion (λ a. a.len ≤ 32) S.addresses (each-weaker (IsSoundAddress (length S.interfaces)) (λ a. a.len ≤ 32) (λ a k. k.short) S.addresses h.addresses)
 
 -- an edit without a reason of its own makes sound tables, whatever their size
 pub made_sound : (S : Tables) (e : Edit) → IsSound S → IsWritten e → first_reason (reasons S e) ≡ None → IsSound (edited S e)

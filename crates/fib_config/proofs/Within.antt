@@ -29,7 +29,7 @@ use Rattle.fib_resolve.specs.declared.types.PathKind.TheVariants as kinds
 use Rattle.fib_resolve.specs.declared.types.FibSource.TheVariants as sources
 use Rattle.fib_resolve.specs.declared.types.Tables.{Tables}
 use Rattle.fib_resolve.proofs.PairLaws.{cond_has, each-all, each-unique, best_has}
-use Rattle.fib_config.specs.Bounds.{own_prefixes, prefix_of_route, host_of, candidates, depth_of, is_shared, left_behind, steps, is_end_kind, is_end, ends_of, Reaches}
+use Rattle.fib_config.specs.Bounds.{own_prefixes, prefix_of_route, host_of, candidates, depth_of, is_shared, left_behind, steps, is_end_kind, is_end, ends_of, IsBoundFor}
 use Rattle.fib_config.proofs.Counts.{count_within, count_within_length, one_more, none_more, count_front, each-left, each-right, each-of_map, each-of_flat_map}
 
 pub each-from_all : {X : Type 0} (P : X → Type 0) (xs : List X) → All P xs → AllByRecursion P xs
@@ -343,7 +343,7 @@ all_more old new xs i x l e kept has h =
     (All-from_recursion (Contains new) (get_or xs i x ∷ []) (subst (Contains new) e has, tt)))
 
 -- the sum that the program makes
-pub bound_reaches : (S : Tables) (hops : List ℕ) (found sorted : List Prefix) (count objects ends r : ℕ) → All (Contains hops) (flat_map recursive_hops S.routes) → found ≡ candidates S hops → IsPermutation found sorted → Reaches count (steps everything sorted) → objects ≡ min (count + 1) (2 ^ 64 - 1) → Reaches ends (length S.addresses + length S.neighbors + sum_by ends_of S.routes + length hops) → r ≡ min (objects + ends) (2 ^ 64 - 1) → Reaches r (size S)
+pub bound_reaches : (S : Tables) (hops : List ℕ) (found sorted : List Prefix) (count objects ends r : ℕ) → All (Contains hops) (flat_map recursive_hops S.routes) → found ≡ candidates S hops → IsPermutation found sorted → IsBoundFor count (steps everything sorted) → objects ≡ min (count + 1) (2 ^ 64 - 1) → IsBoundFor ends (length S.addresses + length S.neighbors + sum_by ends_of S.routes + length hops) → r ≡ min (objects + ends) (2 ^ 64 - 1) → IsBoundFor r (size S)
 bound_reaches S hops found sorted count objects ends r hs e p counted plus ended total =
     let cs = all_taken sorted found found (candidates S hops) e (IsPermutation-refl found) (all_permuted found sorted p) in
     omega (arith, size_count S hops sorted hs cs, counted, plus, ended, total)

@@ -62,5 +62,5 @@ abbrev pub ends_of : Route → ℕ
 ends_of r = count_by is_end r.paths
 
 -- at least that number, unless that is beyond all that a usize can tell
-abbrev pub Reaches : ℕ → ℕ → Type 0
-Reaches bound n = min n (2 ^ 64 - 1) ≤ bound
+abbrev pub IsBoundFor : ℕ → ℕ → Type 0
+IsBoundFor bound n = min n (2 ^ 64 - 1) ≤ bound

@@ -1,7 +1,7 @@
 -- What a configuration is, and how its edits fail.
 use Rattle.std.specs.Prelude.{◌≡◌, ℕ, ◌<◌, ◌^◌, ◌-◌, Option, Some, Result, Err}
 use Rattle.fib_resolve.specs.Tables.{IsSound}
-use Rattle.fib_resolve.specs.Refusals.{Stop}
+use Rattle.fib_resolve.specs.Refusals.{FirstRefused}
 use Rattle.fib_resolve.specs.declared.types.Tables.{Tables}
 use Rattle.fib_resolve.specs.declared.types.Refusal.{Refusal}
 use Rattle.fib_config.specs.declared.errors.EditError.{EditError}
@@ -19,11 +19,11 @@ pub record IsFine (c : Setup) : Type 0 where
   pub room : c.room < 2 ^ 32 - 1
 
 -- the error says why the edit is refused, unless memory ran out
-abbrev pub Tells : Option Refusal → EditError → Type 0
-Tells why (edit_errors.Refused refusal) = why ≡ Some refusal
-Tells why edit_errors.Memory = Unit {0}
+abbrev pub TellsRefusal : Option Refusal → EditError → Type 0
+TellsRefusal why (edit_errors.Refused refusal) = why ≡ Some refusal
+TellsRefusal why edit_errors.Memory = Unit {0}
 
 -- the error says which edit is the first refused one, and why, unless memory ran out
-abbrev pub TellsStop : Result Tables Stop → BatchError → Type 0
-TellsStop made (batch_errors.Refused place refusal) = made ≡ Err (record { place = place; refusal = refusal })
-TellsStop made batch_errors.Memory = Unit {0}
+abbrev pub TellsFirstRefused : Result Tables FirstRefused → BatchError → Type 0
+TellsFirstRefused made (batch_errors.Refused place refusal) = made ≡ Err (record { place = place; refusal = refusal })
+TellsFirstRefused made batch_errors.Memory = Unit {0}

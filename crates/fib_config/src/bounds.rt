@@ -6,7 +6,7 @@ ghost use Rattle.fib_addr.specs.Prefixes.{host};
 ghost use Rattle.fib_resolve.specs.Pairs.{fixed_pairs, prefix_of, recursive_kind, recursive_of, recursive_hops};
 ghost use Rattle.fib_resolve.specs.Sizes.{size};
 ghost use Rattle.fib_resolve.specs.Tables.{IsSound};
-ghost use Rattle.fib_config.specs.Bounds.{own_prefixes, prefix_of_route, host_of, candidates, depth_of, is_shared, left_behind, steps, is_end_kind, is_end, ends_of, Reaches};
+ghost use Rattle.fib_config.specs.Bounds.{own_prefixes, prefix_of_route, host_of, candidates, depth_of, is_shared, left_behind, steps, is_end_kind, is_end, ends_of, IsBoundFor};
 
 use fib_addr::{Addr, Prefix};
 use fib_resolve::{Address, Neighbor, Path, PathKind, Route, Tables};
@@ -142,7 +142,7 @@ fn add_hosts(out: &mut Vec<Prefix>, hops: &[Addr]) -> Result<(), AllocError>
 }
 
 // Every prefix that can be effective, with repeats.
-#[tactic(auto, using(fib_plain::proofs::Sounds::short_addresses), unfolding(crate::specs::Bounds::candidates))]
+#[tactic(auto, using(fib_resolve::proofs::Sound::short_addresses), unfolding(crate::specs::Bounds::candidates))]
 fn candidates(alloc: Global, tables: &Tables, hops: &[Addr]) -> Result<Vec<Prefix>, AllocError>
     requires { IsSound tables.now }
     ensures { IfOk result (λ v. v.items ≡ candidates tables.now hops.now) }
@@ -183,7 +183,7 @@ fn plies_left_behind(p: Prefix, q: Prefix) -> usize
 // The entry and the plies of the first that the second doesn't have.
 #[tactic(auto, unfolding(crate::specs::Bounds::left_behind))]
 fn left_behind(p: Prefix, q: Prefix) -> usize
-    ensures { Reaches result (left_behind p q) }
+    ensures { IsBoundFor result (left_behind p q) }
 {
     let entries = if p == q { 0 } else { 1 };
     plies_left_behind(p, q).saturating_add(entries)
@@ -192,7 +192,7 @@ fn left_behind(p: Prefix, q: Prefix) -> usize
 // The entries and plies of the prefixes and of 0.0.0.0/0, where each counts unless the next prefix has it.
 #[tactic(auto, unfolding(crate::specs::Bounds::steps))]
 fn steps(prefixes: &[Prefix]) -> usize
-    ensures { Reaches result (steps everything prefixes.now) }
+    ensures { IsBoundFor result (steps everything prefixes.now) }
 {
     let mut count = 0usize;
     let mut last = Prefix::masked(Addr(0), 0);
@@ -219,7 +219,7 @@ fn ends_of(route: &Route) -> usize
 
 // How many paths have a Hop end of their own.
 fn ends(routes: &[Route]) -> usize
-    ensures { Reaches result (sum_by ends_of routes.now) }
+    ensures { IsBoundFor result (sum_by ends_of routes.now) }
 {
     let mut count = 0usize;
     for r in routes {
@@ -230,7 +230,7 @@ fn ends(routes: &[Route]) -> usize
 
 // At least the number of Hop ends, where recursive paths have these next hops.
 fn adjacencies(tables: &Tables, hops: &[Addr]) -> usize
-    ensures { Reaches result (length tables.now.addresses + length tables.now.neighbors + sum_by ends_of tables.now.routes + length hops.now) }
+    ensures { IsBoundFor result (length tables.now.addresses + length tables.now.neighbors + sum_by ends_of tables.now.routes + length hops.now) }
 {
     ends(tables.routes.as_slice())
         .saturating_add(tables.addresses.as_slice().len())
@@ -242,7 +242,7 @@ fn adjacencies(tables: &Tables, hops: &[Addr]) -> usize
 /// route, a neighbor or a next hop can make effective, without a look at covers and sources.
 pub fn size_bound(alloc: Global, tables: &Tables) -> Result<usize, AllocError>
     requires { IsSound tables.now }
-    ensures { IfOk result (λ bound. Reaches bound (size tables.now)) }
+    ensures { IfOk result (λ bound. IsBoundFor bound (size tables.now)) }
 {
     let hops = next_hops(alloc, tables.routes.as_slice())?;
     let mut prefixes = candidates(alloc, tables, hops.as_slice())?;

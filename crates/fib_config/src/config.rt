@@ -5,7 +5,7 @@ ghost use Rattle.fib_resolve.specs.Tables.{fresh, IsSound};
 ghost use Rattle.fib_resolve.specs.Edits.{edited};
 ghost use Rattle.fib_resolve.specs.Refusals.{refused, edited_in_turn};
 ghost use Rattle.fib_resolve.specs.Reachable.{IsWritten};
-ghost use Rattle.fib_config.specs.Config.{Tells, TellsStop};
+ghost use Rattle.fib_config.specs.Config.{TellsRefusal, TellsFirstRefused};
 
 use crate::errors::{BatchError, EditError};
 use crate::{edits, reasons, sizes};
@@ -77,7 +77,7 @@ impl Config {
         requires { IsWritten edit.now }
         ensures accepted { OnOk result (refused self.old.tables self.old.room edit.now ≡ None) }
         ensures edited { OnOk result (self.new ≡ record { tables = edited self.old.tables edit.now; room = self.old.room }) }
-        ensures refused { IfErr result (Tells (refused self.old.tables self.old.room edit.now)) }
+        ensures refused { IfErr result (TellsRefusal (refused self.old.tables self.old.room edit.now)) }
         ensures err { OnErr result (self.new ≡ self.old) }
     {
         let next = edits::made(self.alloc, &self.held, self.most, edit)?;
@@ -92,7 +92,7 @@ impl Config {
         requires few { length edits.now < 2 ^ 32 }
         ensures made { OnOk result (edited_in_turn self.old.tables self.old.room edits.now ≡ Ok self.new.tables) }
         ensures room { self.new.room ≡ self.old.room }
-        ensures refused { IfErr result (TellsStop (edited_in_turn self.old.tables self.old.room edits.now)) }
+        ensures refused { IfErr result (TellsFirstRefused (edited_in_turn self.old.tables self.old.room edits.now)) }
         ensures err { OnErr result (self.new ≡ self.old) }
     {
         let next = edits::made_in_turn(self.alloc, &self.held, self.most, edits)?;

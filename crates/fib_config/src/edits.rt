@@ -4,7 +4,7 @@ ghost use Rattle.std.specs.List.{AllByRecursion};
 ghost use Rattle.fib_resolve.specs.Tables.{IsSound};
 ghost use Rattle.fib_resolve.specs.Refusals.{refused, edited_in_turn};
 ghost use Rattle.fib_resolve.specs.Reachable.{IsWritten};
-ghost use Rattle.fib_config.specs.Config.{Tells, TellsStop};
+ghost use Rattle.fib_config.specs.Config.{TellsRefusal, TellsFirstRefused};
 ghost use Rattle.fib_resolve.specs.Edits.{edited, with_interfaces, with_addresses, with_neighbors, with_routes, route_left, routes_without};
 
 use crate::errors::{BatchError, EditError};
@@ -202,7 +202,7 @@ pub fn made(alloc: Global, tables: &Tables, room: u32, edit: &Edit) -> Result<Ta
     ensures accepted { OnOk result (refused tables.now room edit.now ≡ None) }
     ensures edited { IfOk result (λ t. t ≡ edited tables.now edit.now) }
     ensures sound { IfOk result IsSound }
-    ensures refused { IfErr result (Tells (refused tables.now room edit.now)) }
+    ensures refused { IfErr result (TellsRefusal (refused tables.now room edit.now)) }
 {
     if let Some(refusal) = reasons::own_refusal(alloc, tables, edit)? {
         return Err(EditError::Refused(refusal));
@@ -227,7 +227,7 @@ pub fn made_in_turn(
     requires room { room < 2 ^ 32 - 1 }
     ensures made { IfOk result (λ t. edited_in_turn tables.now room edits.now ≡ Ok t) }
     ensures sound { IfOk result IsSound }
-    ensures refused { IfErr result (TellsStop (edited_in_turn tables.now room edits.now)) }
+    ensures refused { IfErr result (TellsFirstRefused (edited_in_turn tables.now room edits.now)) }
 {
     let mut next = tables.duplicate(alloc)?;
     for (place, edit) in edits.iter().enumerate() {

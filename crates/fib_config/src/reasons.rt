@@ -1,7 +1,7 @@
 // Why an edit is refused.
 ghost use Rattle.std.specs.Prelude.{◌≡◌, ◌≤◌, [], ◌∷◌, IfOk, All, length, nat_lt};
 ghost use Rattle.std.specs.List.{list_any};
-ghost use Rattle.fib_resolve.specs.Keys.{kind_rank};
+ghost use Rattle.fib_resolve.specs.Keys.{is_drop_or_local};
 ghost use Rattle.fib_resolve.specs.Tables.{IsSound, same_address, same_neighbor, connects_elsewhere, is_mixed, is_route};
 ghost use Rattle.fib_resolve.specs.Edits.{source_of};
 ghost use Rattle.fib_resolve.specs.Refusals.{unknown, names_unknown, some_unknown, has_address, connected_elsewhere, has_neighbor, has_route, lacks_a_key, when, reasons, first_reason};
@@ -88,9 +88,9 @@ fn has_neighbor(tables: &Tables, interface: u32, addr: Addr) -> bool
 }
 
 fn has_drop_or_local(paths: &[Path]) -> bool
-    ensures { result ≡ list_any (λ p. nat_lt (kind_rank p.kind) 2) paths.now }
+    ensures { result ≡ list_any (λ p. is_drop_or_local p.kind) paths.now }
 {
-    paths.iter().any(|p| p.kind.rank() < 2)
+    paths.iter().any(|p| p.kind.is_drop_or_local())
 }
 
 fn is_mixed(paths: &[Path]) -> bool
@@ -130,7 +130,7 @@ fn refused_address(tables: &Tables, a: &Address) -> Option<Refusal>
 }
 
 /// Why the edit is refused, apart from the size.
-#[tactic(auto, using(crate::proofs::Made::short_addresses))]
+#[tactic(auto, using(fib_resolve::proofs::Sound::short_addresses))]
 pub fn own_refusal(
     alloc: Global,
     tables: &Tables,

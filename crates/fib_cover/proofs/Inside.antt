@@ -1,23 +1,20 @@
 -- The prefixes inside one are those between it and its last address.
-use Rattle.std.proofs.Common.{arith, ◌≡◌, ℕ, ◌+◌, ◌-◌, ◌*◌, ◌/◌, ◌%◌, ◌^◌, ◌<◌, ◌≤◌, ◌⊎◌, inl, inr, Bool, true, false, ◌&&◌, ⊎_elim, List, [], ◌∷◌, get_or, refl, sym, ◌∙◌, ap}
+use Rattle.std.proofs.Common.{arith, ◌≡◌, ℕ, ◌+◌, ◌-◌, ◌*◌, ◌/◌, ◌%◌, ◌^◌, ◌<◌, ◌≤◌, ◌⊎◌, inl, inr, Bool, true, false, ⊎_elim, List, [], ◌∷◌, get_or, refl, sym, ◌∙◌, ap}
 use Rattle.std.specs.Prelude.{nat_le, filter}
-use Rattle.std.specs.List.{All, AllByRecursion}
+use Rattle.std.specs.List.{AllByRecursion}
 use Rattle.std.specs.BTreeMap.Range.{IsLeBy, range_contains}
 use Rattle.std.specs.declared.ops.Bound.TheVariants.{Included}
-use Rattle.std.proofs.lemmas.Bool.{cases_lt, false≢true}
+use Rattle.std.proofs.lemmas.Bool.{cases_lt}
 use Rattle.std.proofs.lemmas.Bool.Decides.{nat_tests, Decides-eqb}
-use Rattle.std.proofs.lemmas.List.Elements.{recursion_from_All}
+use Rattle.std.proofs.lemmas.List.Elements.{recursion_from_All, Contains-get_or}
 use Rattle.std.proofs.lemmas.Map.Views.{IsInRange-from_range_contains, range_contains-from_IsInRange}
 use Rattle.std.proofs.lemmas.Nat.{pow-add}
 use Rattle.std.proofs.Math.Nat.{mul_assoc, mul-mod_right, div-eq_of_lt, add-mul-div_left}
 use Rattle.std.proofs.Math.Pow.{pow_pos}
 use Rattle.fib_addr.specs.Prefixes.{Prefix, IsPrefix, contains, host, size_of}
-use Rattle.fib_cover.specs.Covers.{prefix_cmp, is_inside}
+use Rattle.fib_cover.specs.Covers.{prefix_cmp, is_inside, ArePrefixes}
 use Rattle.fib_cover.proofs.Order.{prefix_total}
-
-and_both : (x y : Bool) → (x && y) ≡ true → (x ≡ true) × (y ≡ true)
-and_both true y h = (refl, h)
-and_both false y h = absurd (false≢true h)
+use Rattle.fib_list.proofs.Tests.{and_both}
 
 true_from : (b c : Bool) → (b ≡ true → c ≡ true) → (c ≡ true → b ≡ true) → b ≡ c
 true_from true c f g = sym (f refl)
@@ -104,7 +101,7 @@ filter_agree_on : {A : Type 0} (f g : A → Bool) (xs : List A) → AllByRecursi
 filter_agree_on f g [] h = refl
 filter_agree_on f g (x ∷ xs) h = rw (h.0, filter_agree_on f g xs h.1) refl
 
-pub filter_inside : (p : Prefix) (members : List Prefix) → IsPrefix p → All IsPrefix members → filter (range_contains prefix_cmp (Included p) (Included (last_of p))) members ≡ filter (is_inside p) members
+pub filter_inside : (p : Prefix) (members : List Prefix) → IsPrefix p → ArePrefixes members → filter (range_contains prefix_cmp (Included p) (Included (last_of p))) members ≡ filter (is_inside p) members
 filter_inside p members fp all =
     filter_agree_on (range_contains prefix_cmp (Included p) (Included (last_of p))) (is_inside p) members
-    (recursion_from_All (λ q. range_contains prefix_cmp (Included p) (Included (last_of p)) q ≡ is_inside p q) members (λ k d l. same_test p (get_or members k d) fp (all k d l)))
+    (recursion_from_All (λ q. range_contains prefix_cmp (Included p) (Included (last_of p)) q ≡ is_inside p q) members (λ k d l. same_test p (get_or members k d) fp (all (get_or members k d) (Contains-get_or members k d l))))

@@ -9,9 +9,10 @@ use Rattle.std.specs.declared.cmp.Ordering.TheVariants.{Less, Equal, Greater}
 use Rattle.std.proofs.lemmas.Bool.{false≢true}
 use Rattle.std.proofs.lemmas.Map.Lookups.{CmpEqualImpliesEq, exact_pairs, exact_unsigned}
 use Rattle.std.proofs.lemmas.Map.Views.{btree_set_contains_iff}
-use Rattle.fib_addr.specs.Prefixes.{Prefix}
+use Rattle.fib_addr.specs.Prefixes.{Prefix, IsPrefix}
 use Rattle.fib_addr.proofs.PrefixLaws.{same_fields}
-use Rattle.fib_cover.specs.Covers.{prefix_cmp}
+use Rattle.fib_cover.specs.Covers.{prefix_cmp, ArePrefixes}
+use Rattle.fib_list.proofs.Lists.{either}
 
 pub prefix_total : IsTotalOrder prefix_cmp
 prefix_total = then_total (on_total (λ (p : Prefix). p.bits) nat_cmp_total) (on_total (λ (p : Prefix). p.len) nat_cmp_total)
@@ -23,10 +24,6 @@ prefix_exact p q h =
 
 pub contains_iff : (s : BTreeSet Prefix) (p : Prefix) → IsTrue (contains prefix_cmp s p) ↔ Contains s.keys p
 contains_iff s p = btree_set_contains_iff prefix_total prefix_exact s p
-
-either : (b : Bool) → (b ≡ true) ⊎ (b ≡ false)
-either true = inl refl
-either false = inr refl
 
 -- the test of the order
 is_same : (p q : Prefix) → is_eq (prefix_cmp p q) ≡ true → p ≡ q
@@ -73,6 +70,15 @@ module _ (s n : BTreeSet Prefix) (p : Prefix) where
         | inl is ↦ absurd (h.1 (sym (is_same p q is)))
         | inr isnt ↦ (contains_iff n q).0 (u q ∙ rw isnt ((contains_iff s q).1 h.0))
       ]
+
+  pub prefixes_inserted : ((q : Prefix) → contains prefix_cmp n q ≡ cond (is_eq (prefix_cmp p q)) true (contains prefix_cmp s q)) → IsPrefix p → ArePrefixes s.keys → ArePrefixes n.keys
+  prefixes_inserted u is all q c = elim ((inserted_iff u q).0 c) [
+    | inl old ↦ all q old
+    | inr same ↦ subst IsPrefix (sym same) is
+  ]
+
+  pub prefixes_removed : ((q : Prefix) → contains prefix_cmp n q ≡ cond (is_eq (prefix_cmp p q)) false (contains prefix_cmp s q)) → ArePrefixes s.keys → ArePrefixes n.keys
+  prefixes_removed u all q c = all q ((removed_iff u q).0 c).0
 
 -- a test that says the contrary
 pub not_iff : (b : Bool) (P : Type 0) → IsTrue b ↔ P → IsTrue (not b) ↔ (P → ⊥)

@@ -13,8 +13,10 @@ prefix_cmp p q = ordering_then (nat_cmp p.bits q.bits) (nat_cmp p.len q.len)
 abbrev pub IsAscending : List Prefix → Type 0
 IsAscending members = IsStrictlySortedBy prefix_cmp members
 
--- a member that is shorter than the limit and contains the address. `prefix` holds of each value of the Rust type; no clause of that type
--- tells it, so it is said here.
+abbrev pub ArePrefixes : List Prefix → Type 0
+ArePrefixes members = (p : Prefix) → Contains members p → IsPrefix p
+
+-- a member that is shorter than the limit and contains the address; each member of a set is a prefix
 pub record IsMatch (members : List Prefix) (limit a : ℕ) (p : Prefix) : Type 0 where
   pub prefix : IsPrefix p
   pub member : Contains members p

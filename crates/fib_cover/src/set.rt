@@ -1,9 +1,8 @@
 // A set of prefixes.
 ghost use Rattle.std.specs.Prelude.{◌≡◌, ◌≢◌, ◌≤◌, ◌<◌, ℕ, [], ◌⊎◌, ◌↔◌, Contains, IsTrue, IfOk, OnOk, OnErr, filter, length};
-ghost use Rattle.std.specs.List.{All};
 ghost use Rattle.std.specs.BTreeMap.Range.{IsLeBy, range_contains};
 ghost use Rattle.fib_addr.specs.Prefixes.{Prefix as PrefixValue, IsPrefix};
-ghost use Rattle.fib_cover.specs.Covers.{IsAscending, IsLongestMatch, is_inside, prefix_cmp};
+ghost use Rattle.fib_cover.specs.Covers.{ArePrefixes, IsAscending, IsLongestMatch, is_inside, prefix_cmp};
 
 use fib_addr::{Addr, Prefix};
 use std::alloc::{AllocError, Global};
@@ -25,6 +24,10 @@ impl Model for PrefixSet {
     ghost Value = { List PrefixValue };
 
     ghost view = { λ s. s.members.keys };
+
+    ghost use Rattle.fib_cover.specs.Covers.{ArePrefixes};
+
+    ghost invariant = { λ s. ArePrefixes s.members.keys };
 }
 
 impl PrefixSet {
@@ -44,6 +47,8 @@ impl PrefixSet {
         ensures err { OnErr result (self.new ≡ self.old) }
         ensures ordered { IsAscending self.new }
     {
+        // Read so that the proof knows that it is a prefix.
+        let _length = prefix.len();
         let added = self.members.insert(prefix)?;
         Ok(added)
     }
@@ -57,10 +62,11 @@ impl PrefixSet {
         self.members.remove(&prefix)
     }
 
-    /// The number of members.
+    /// The number of members, each of which is a prefix and stands once.
     pub fn len(&self) -> usize
         ensures len { result ≡ length self.now }
         ensures ordered { IsAscending self.now }
+        ensures prefixes { ArePrefixes self.now }
     {
         self.members.len()
     }
@@ -93,12 +99,19 @@ impl PrefixSet {
         longest(&self.members, addr, 32)
     }
 
-    /// The members inside the prefix, in order: those at least as long whose first address is one of it. Costs what it yields.
-    ///
-    /// The clause's premises hold of each value of the type `Prefix`.
-    pub fn inside(&self, alloc: Global, prefix: Prefix) -> Result<Vec<Prefix>, AllocError>
-        ensures { IfOk result (λ v. IsPrefix prefix → All IsPrefix self.now → v.items ≡ filter (is_inside prefix) self.now) }
+    /// The members, in order.
+    pub fn listed(&self, alloc: Global) -> Result<Vec<Prefix>, AllocError>
+        ensures listed { IfOk result (λ v. v.items ≡ self.now) }
+        ensures ordered { IsAscending self.now }
     {
+        gather_all(alloc, &self.members)
+    }
+
+    /// The members inside the prefix, in order: those at least as long whose first address is one of it. Costs what it yields.
+    pub fn inside(&self, alloc: Global, prefix: Prefix) -> Result<Vec<Prefix>, AllocError>
+        ensures { IfOk result (λ v. v.items ≡ filter (is_inside prefix) self.now) }
+    {
+        let _length = prefix.len();
         let last = Prefix::host(prefix.last());
         between(alloc, &self.members, prefix, last)
     }
@@ -124,6 +137,19 @@ fn gather(alloc: Global, part: Range<'_, Prefix>) -> Result<Vec<Prefix>, AllocEr
     let mut out = Vec::new(alloc);
     for prefix in part {
         out.push(*prefix)?;
+    }
+    Ok(out)
+}
+
+/// The members of the set, in order.
+fn gather_all(alloc: Global, members: &BTreeSet<Prefix>) -> Result<Vec<Prefix>, AllocError>
+    ensures listed { IfOk result (λ v. v.items ≡ members.now.keys) }
+    ensures ordered { IsAscending members.now.keys }
+{
+    let _count = members.len();
+    let mut out = Vec::new(alloc);
+    for member in members.iter() {
+        out.push(*member)?;
     }
     Ok(out)
 }

@@ -6,7 +6,7 @@ use Rattle.std.proofs.lemmas.List.Quantifiers.{position-Some}
 use Rattle.std.proofs.lemmas.List.{drop_more, take_rest, length-take}
 use Rattle.std.proofs.lemmas.Bool.{cases_lt, false≢true}
 use Rattle.fib_lines.proofs.Splits.{split_none, split_some}
-use Rattle.fib_lines.specs.Words.{is_blank, is_some_word, words_of}
+use Rattle.fib_lines.specs.LineWords.{is_blank, is_some_word, words_of}
 
 pub words_of_nil : words_of [] ≡ []
 unfolding words_of

@@ -1,6 +1,6 @@
 // The words of a line.
 ghost use Rattle.std.specs.Prelude.{◌≡◌, ◌<◌, ◌≤◌, ◌∷◌, [], length, position, Option, Some, None, MatchOption, IfSome, slice_index, false};
-ghost use Rattle.fib_lines.specs.Words.{is_blank, words_of, has_word, next_is, is_idle};
+ghost use Rattle.fib_lines.specs.LineWords.{is_blank, words_of, has_word, next_is, is_idle};
 
 use std::marker::Model;
 
@@ -12,7 +12,7 @@ pub struct Words<'a> {
 
 impl<'a> Model for Words<'a> {
     ghost use Rattle.std.specs.Prelude.{ℕ, List};
-    ghost use Rattle.fib_lines.specs.Words.{words_of};
+    ghost use Rattle.fib_lines.specs.LineWords.{words_of};
 
     ghost Value = { List (List ℕ) };
 

@@ -40,16 +40,19 @@ fn put_all(
 }
 
 /// Appends the text of `show adj`: the text of each distinct Hop end of the chosen paths, usable or not, in order of the interface,
-/// then of the next hop.
+/// then of the next hop. Where memory is wanted `out` is as it was.
 #[tactic(auto, unfolding(crate::specs::Adjacencies::adjacencies_text))]
 pub fn put_adjacencies(
     out: &mut Vec<u8>,
     alloc: Global,
     snapshot: &Snapshot<'_>,
 ) -> Result<(), AllocError>
-    ensures { OnOk result (out.new.items ≡ out.old.items ++ adjacencies_text snapshot.now) }
+    ensures ok { OnOk result (out.new.items ≡ out.old.items ++ adjacencies_text snapshot.now) }
+    ensures err { OnErr result (out.new.items ≡ out.old.items) }
 {
     let all = snapshot.adjacencies(alloc)?;
     let sorted = adjacencies_in_order(alloc, &all)?;
-    put_all(out, snapshot, &sorted)
+    let mut text = Vec::new(alloc);
+    put_all(&mut text, snapshot, &sorted)?;
+    out.extend_from_slice(text.as_slice())
 }

@@ -1,5 +1,5 @@
 // The listing of entries.
-ghost use Rattle.std.specs.Prelude.{◌≡◌, ◌++◌, ◌||◌, OnOk, IfOk, flat_map, filter, map, codes, length, nat_lt};
+ghost use Rattle.std.specs.Prelude.{◌≡◌, ◌++◌, ◌||◌, OnOk, OnErr, IfOk, flat_map, filter, map, codes, length, nat_lt};
 ghost use Rattle.std.specs.List.{list_any};
 ghost use Rattle.fib_addr.specs.Prefixes.{same_prefix};
 ghost use Rattle.fib_resolve.specs.Keys.{same_source};
@@ -7,6 +7,7 @@ ghost use Rattle.fib_listing.specs.Order.{row_from, gap};
 ghost use Rattle.fib_listing.specs.Entries.{all_sources, source_text, has_source, sources_at, is_drop, cover_at, mark_text, marked_text, marked_from, sources_text, paths_text, entry_text, fib_text};
 
 use crate::order::prefixes_in_order;
+use crate::rows::put_gap;
 use fib_addr::{Prefix, put_prefix};
 use fib_plain::Snapshot;
 use fib_print::put_path;
@@ -62,16 +63,6 @@ fn sources_at(
         }
     }
     Ok(found)
-}
-
-/// What stands before the text at that place.
-fn put_gap(out: &mut Vec<u8>, sep: &str, place: usize) -> Result<(), AllocError>
-    ensures { OnOk result (out.new.items ≡ out.old.items ++ gap sep.now place) }
-{
-    if place == 0 {
-        return Ok(());
-    }
-    out.extend_from_slice(sep.as_bytes())
 }
 
 fn put_names(out: &mut Vec<u8>, sources: &[FibSource]) -> Result<(), AllocError>
@@ -202,15 +193,18 @@ fn put_all(
 }
 
 /// Appends the text of `show ip fib`: a line for each effective entry, in order of bits, then of lengths, with the names of its
-/// sources from the best on and the paths of its chosen list, each with its mark.
+/// sources from the best on and the paths of its chosen list, each with its mark. Where memory is wanted `out` is as it was.
 #[tactic(auto, unfolding(crate::specs::Entries::fib_text))]
 pub fn put_entries(
     out: &mut Vec<u8>,
     alloc: Global,
     snapshot: &Snapshot<'_>,
 ) -> Result<(), AllocError>
-    ensures { OnOk result (out.new.items ≡ out.old.items ++ fib_text snapshot.now) }
+    ensures ok { OnOk result (out.new.items ≡ out.old.items ++ fib_text snapshot.now) }
+    ensures err { OnErr result (out.new.items ≡ out.old.items) }
 {
     let sorted = prefixes_in_order(alloc, snapshot.entries())?;
-    put_all(out, alloc, snapshot, &sorted)
+    let mut text = Vec::new(alloc);
+    put_all(&mut text, alloc, snapshot, &sorted)?;
+    out.extend_from_slice(text.as_slice())
 }

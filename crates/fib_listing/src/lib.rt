@@ -7,6 +7,7 @@ mod adjacencies;
 mod entries;
 mod lists;
 mod order;
+mod rows;
 
 pub use adjacencies::put_adjacencies;
 pub use entries::put_entries;

@@ -1,5 +1,5 @@
 // The listing of path-lists.
-ghost use Rattle.std.specs.Prelude.{◌≡◌, ◌++◌, OnOk, IfOk, codes, count_by, flat_map, fold, map, decimal, length};
+ghost use Rattle.std.specs.Prelude.{◌≡◌, ◌++◌, OnOk, OnErr, IfOk, codes, count_by, flat_map, fold, map, decimal, length};
 ghost use Rattle.std.specs.List.{list_any};
 ghost use Rattle.std.specs.Cmp.Lexicographic.{pointwise};
 ghost use Rattle.std.specs.Set.{is_member, unique_keys};
@@ -8,11 +8,11 @@ ghost use Rattle.fib_listing.specs.Order.{row_from, gap, in_order, list_before, 
 ghost use Rattle.fib_listing.specs.PathLists.{same_list, list_of, path_lists, users, plain_text, list_text, lists_text};
 
 use crate::order::put_list;
+use crate::rows::put_gap;
 use fib_plain::Snapshot;
-use fib_print::put_path;
+use fib_print::{put_number, put_path};
 use fib_resolve::keys::is_same_path;
 use fib_resolve::{Duplicate, List, Pair, Path, Tables};
-use itoa::Buffer;
 use std::alloc::{AllocError, Global};
 
 /// Whether both are one list.
@@ -69,28 +69,11 @@ fn users(snapshot: &Snapshot<'_>, ps: &[Path]) -> usize
         .count()
 }
 
-fn put_number(out: &mut Vec<u8>, number: usize) -> Result<(), AllocError>
-    ensures { OnOk result (out.new.items ≡ out.old.items ++ decimal number) }
-{
-    let mut buffer = Buffer::new();
-    out.extend_from_slice(buffer.format(number).as_bytes())
-}
-
-/// What stands before the text at that place.
-fn put_gap(out: &mut Vec<u8>, place: usize) -> Result<(), AllocError>
-    ensures { OnOk result (out.new.items ≡ out.old.items ++ gap (codes ", ") place) }
-{
-    if place == 0 {
-        return Ok(());
-    }
-    out.extend_from_slice(b", ")
-}
-
 fn put_paths(out: &mut Vec<u8>, tables: &Tables, paths: &[Path]) -> Result<(), AllocError>
     ensures { OnOk result (out.new.items ≡ out.old.items ++ row_from (codes ", ") 0 (map (plain_text tables.now) paths.now)) }
 {
     for (k, path) in paths.iter().enumerate() {
-        put_gap(out, k)?;
+        put_gap(out, ", ", k)?;
         put_path(out, tables, path, None)?;
     }
     Ok(())
@@ -105,7 +88,7 @@ fn put_list_line(
     ensures { OnOk result (out.new.items ≡ out.old.items ++ list_text snapshot.now paths.now) }
 {
     out.extend_from_slice(b"users ")?;
-    put_number(out, users(snapshot, paths))?;
+    put_number(out, users(snapshot, paths) as u64)?;
     out.extend_from_slice(b": ")?;
     put_paths(out, snapshot.tables(), paths)?;
     out.extend_from_slice(b"\n")
@@ -125,15 +108,19 @@ fn put_all(
 }
 
 /// Appends the text of `show fib path-lists`: a line for each list that an effective pair has, with the number of these pairs. Lists
-/// are ordered by the first paths that differ, and a list that another begins with stands first.
+/// are ordered by the first paths that differ, and a list that another begins with stands first. Where memory is wanted `out` is as
+/// it was.
 #[tactic(auto, unfolding(crate::specs::PathLists::lists_text, crate::specs::PathLists::path_lists))]
 pub fn put_path_lists(
     out: &mut Vec<u8>,
     alloc: Global,
     snapshot: &Snapshot<'_>,
 ) -> Result<(), AllocError>
-    ensures { OnOk result (out.new.items ≡ out.old.items ++ lists_text snapshot.now) }
+    ensures ok { OnOk result (out.new.items ≡ out.old.items ++ lists_text snapshot.now) }
+    ensures err { OnErr result (out.new.items ≡ out.old.items) }
 {
     let sorted = lists_in_order(alloc, snapshot.pairs())?;
-    put_all(out, snapshot, &sorted)
+    let mut text = Vec::new(alloc);
+    put_all(&mut text, snapshot, &sorted)?;
+    out.extend_from_slice(text.as_slice())
 }

@@ -5,10 +5,10 @@ use Rattle.std.proofs.lemmas.Bool.{cases_lt}
 use Rattle.std.proofs.lemmas.List.{map-append}
 use Rattle.std.proofs.lemmas.List.Elements.{Contains-push, Contains-push_cases, Contains-append_left, Contains-get_or}
 use Rattle.fib_reach.specs.Walks.{Leads}
-use Rattle.fib_reach.specs.Graphs.{Edge, next_of}
+use Rattle.fib_reach.specs.Graphs.{IsClosed, Edge, next_of}
 use Rattle.fib_reach.proofs.Places.{any_default}
 use Rattle.fib_reach.proofs.Walking.{leads_then, edge_leads}
-use Rattle.fib_loops.specs.Entering.{IsClosed, IsEntering, IsPassed, ArePassed, KeepsEntered, nodes_of, unset}
+use Rattle.fib_loops.specs.Inner.Entering.{IsEntering, IsPassed, ArePassed, KeepsEntered, nodes_of, unset}
 use Rattle.fib_loops.specs.declared.enter.Frame.{Frame}
 use Rattle.fib_loops.proofs.Entered.{node_entered, node_left_now, entered_kept, pairs_last, unset_less}
 

@@ -1,5 +1,5 @@
 -- A part grows a node at a time, and is whole where all its members are done.
-use Rattle.std.proofs.Common.{arith, ◌≡◌, ◌≢◌, ℕ, zero, suc, ◌+◌, ◌-◌, ◌<◌, ◌≤◌, ◌⊎◌, inl, inr, Bool, true, false, eqb, List, [], ◌∷◌, ◌++◌, length, get_or, set, fold, replicate, refl, sym, ◌∙◌, ap, subst, length-append, length-set, get_or-set_same, get_or-set_other}
+use Rattle.std.proofs.Common.{arith, ◌≡◌, ◌≢◌, ℕ, zero, suc, ◌+◌, ◌-◌, ◌<◌, ◌≤◌, inl, inr, false, eqb, List, [], ◌∷◌, ◌++◌, length, get_or, set, fold, replicate, refl, sym, ◌∙◌, ap, subst, length-append, length-set, get_or-set_same, get_or-set_other}
 use Rattle.std.specs.Prelude.{Contains}
 use Rattle.std.proofs.lemmas.Bool.{cases_lt, false≢true}
 use Rattle.std.proofs.lemmas.Bool.Decides.{Decides-eqb}
@@ -9,13 +9,10 @@ use Rattle.fib_reach.specs.Walks.{Leads}
 use Rattle.fib_reach.proofs.Places.{any_default}
 use Rattle.fib_reach.proofs.Walking.{leads_self, leads_then, edge_leads}
 use Rattle.fib_reach.proofs.Visits.{same_or_not}
-use Rattle.fib_loops.specs.Entering.{unset}
-use Rattle.fib_loops.specs.Parting.{IsOrdered, IsParted, IsGrowing, take_one}
+use Rattle.fib_loops.specs.Inner.Entering.{unset}
+use Rattle.fib_loops.specs.Inner.Parting.{IsOrdered, IsParted, IsGrowing, take_one}
 use Rattle.fib_loops.proofs.Entered.{unset_less}
-
-either : (b : Bool) → (b ≡ true) ⊎ (b ≡ false)
-either true = inl refl
-either false = inr refl
+use Rattle.fib_list.proofs.Lists.{either}
 
 -- a number above 0 is written where none was
 unset_suc : (v : ℕ) (xs : List ℕ) (i : ℕ) → 0 < v → i < length xs → get_or xs i 0 ≡ 0 → unset (set xs i v) + 1 ≡ unset xs

@@ -1,3 +1,2 @@
-pub mod Entering
 pub mod Loops
-pub mod Parting
+pub mod Inner

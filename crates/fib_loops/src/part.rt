@@ -1,8 +1,8 @@
 // Nodes parted into those that lead to one another.
 ghost use Rattle.std.specs.Prelude.{◌≡◌, ℕ, ◌+◌, ◌<◌, ◌^◌, length, slice_index, OnOk, IfOk};
 ghost use Rattle.std.specs.List.{All};
-ghost use Rattle.fib_loops.specs.Entering.{IsClosed};
-ghost use Rattle.fib_loops.specs.Parting.{BackEdge, IsOrdered, IsParted, take_all};
+ghost use Rattle.fib_loops.specs.Inner.Parting.{BackEdge, IsOrdered, IsParted, take_all};
+ghost use Rattle.fib_reach.specs.Graphs.{IsClosed};
 
 use crate::enter::Entering;
 use fib_reach::Graph;

@@ -1,3 +1,3 @@
-pub mod Counts
+pub mod FaultCounts
 pub mod Memory
 pub mod Outside

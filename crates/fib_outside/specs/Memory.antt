@@ -4,7 +4,7 @@ use Rattle.std.specs.List.{list_any}
 use Rattle.std.specs.Str.{bytes_eq}
 use Rattle.std.specs.declared.alloc.Global.{Global}
 use Rattle.fib_outside.specs.declared.part.Part.{Part}
-use Rattle.fib_outside.specs.Counts.{Counts, raised, raised_for}
+use Rattle.fib_outside.specs.FaultCounts.{FaultCounts, raised, raised_for}
 
 -- a file: its name and its bytes
 abbrev pub File : Type 0
@@ -45,7 +45,7 @@ pub record Shelf : Type 0 where
   pub fetches : ℕ
   pub fetched : Option Part
   pub left : List ℕ
-  pub faults : Counts
+  pub faults : FaultCounts
 
 -- a fetch fails where its number is listed or no file has the name
 abbrev pub fetch_fails : Shelf → List ℕ → Bool

@@ -16,10 +16,10 @@ Appends None (Some after) bytes = ⊥
 Appends (Some before) (Some after) bytes = after ≡ before ++ bytes
 
 -- The bytes were taken from the front. Where it was told what there is, it still is.
-abbrev pub Takes : Option (List ℕ) → Option (List ℕ) → List ℕ → Type 0
-Takes None after bytes = Unit {0}
-Takes (Some before) None bytes = ⊥
-Takes (Some before) (Some after) bytes = before ≡ bytes ++ after
+abbrev pub Consumes : Option (List ℕ) → Option (List ℕ) → List ℕ → Type 0
+Consumes None after bytes = Unit {0}
+Consumes (Some before) None bytes = ⊥
+Consumes (Some before) (Some after) bytes = before ≡ bytes ++ after
 
 -- Nothing is left, where that is told.
 abbrev pub IsAtEnd : Option (List ℕ) → Type 0

@@ -1,6 +1,6 @@
 // Counts of faults.
 ghost use Rattle.std.specs.Prelude.{◌≡◌};
-ghost use Rattle.fib_outside.specs.Counts.{no_faults, raised_for};
+ghost use Rattle.fib_outside.specs.FaultCounts.{no_faults, raised_for};
 
 use crate::Part;
 use std::marker::Model;
@@ -13,9 +13,9 @@ pub struct Faults {
 }
 
 impl Model for Faults {
-    ghost use Rattle.fib_outside.specs.Counts.{Counts};
+    ghost use Rattle.fib_outside.specs.FaultCounts.{FaultCounts};
 
-    ghost Value = { Counts };
+    ghost Value = { FaultCounts };
 
     ghost view = { λ f. record { commands = f.commands; capture = f.capture } };
 

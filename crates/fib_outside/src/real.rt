@@ -46,7 +46,7 @@ fn read_some<F: Read>(file: &mut F, into: &mut [u8]) -> Result<usize, Failed>
 
 impl<R: Files + Drop> Shelf for FileShelf<R> {
     ghost use Rattle.std.specs.Prelude.{option_map};
-    ghost use Rattle.fib_outside.specs.Counts.{count_of};
+    ghost use Rattle.fib_outside.specs.FaultCounts.{count_of};
 
     ghost holds = { λ s name. None };
 

@@ -1,7 +1,7 @@
 // Where a run's files come from.
 ghost use Rattle.std.specs.Prelude.{◌≡◌, ◌≢◌, ◌++◌, ◌<◌, ◌≤◌, [], ℕ, List, Option, Some, None, true, false, length, take, drop, min, if◌then◌else◌, IfOk, OnOk, OnErr, IsSome, IsOkAnd, is_ok};
-ghost use Rattle.fib_outside.specs.Outside.{HasRisen, Takes, IsAtEnd};
-ghost use Rattle.fib_outside.specs.Counts.{no_faults};
+ghost use Rattle.fib_outside.specs.Outside.{HasRisen, Consumes, IsAtEnd};
+ghost use Rattle.fib_outside.specs.FaultCounts.{no_faults};
 ghost use Rattle.fib_outside.specs.Memory.{files_in, fetch_fails, after_refusal, after_fetch};
 
 use crate::faults::Faults;
@@ -40,7 +40,7 @@ pub trait Shelf {
     fn read(&mut self, into: &mut [u8]) -> Result<usize, Failed>
         requires { IsSome (fetched self.old) }
         ensures within { IfOk result (λ n. n ≤ length into.old) }
-        ensures ok { IfOk result (λ n. Takes (left self.old) (left self.new) (take n into.new)) }
+        ensures ok { IfOk result (λ n. Consumes (left self.old) (left self.new) (take n into.new)) }
         ensures end { IfOk result (λ n. 0 < length into.old → n ≡ 0 → IsAtEnd (left self.old)) }
         ensures failed { OnErr result ((part : Part) → fetched self.old ≡ Some part → HasRisen (faults self.old part) (faults self.new part)) }
         ensures err { OnErr result (left self.new ≡ left self.old) }
@@ -87,7 +87,7 @@ impl MemoryShelf {
 
 impl Shelf for MemoryShelf {
     ghost use Rattle.fib_outside.specs.Memory.{file_of};
-    ghost use Rattle.fib_outside.specs.Counts.{count_of};
+    ghost use Rattle.fib_outside.specs.FaultCounts.{count_of};
 
     ghost holds = { λ s name. file_of s.files name };
 

@@ -12,7 +12,7 @@ use Rattle.fib_resolve.specs.declared.types.PathKind.{PathKind}
 use Rattle.fib_resolve.specs.declared.types.PathKind.TheVariants as kinds
 use Rattle.fib_resolve.specs.declared.types.Need.{Need}
 use Rattle.fib_resolve.specs.declared.types.Tables.{Tables}
-use Rattle.fib_plain.specs.Rows.{number_in, goal_number, is_entry, lead_of, marked, target_marked, usable_now}
+use Rattle.fib_plain.specs.Inner.Rows.{number_in, goal_number, is_entry, facts_of_path, marked, target_marked, usable_now}
 use Rattle.fib_plain.proofs.Numbers.{numbered, unnumbered}
 use Rattle.fib_plain.proofs.Edges.{numbered_entry}
 use Rattle.fib_plain.proofs.Members.{some_or_none}
@@ -79,6 +79,6 @@ usable_kind-now S f marks e need (kinds.Recursive a) m =
 usable_kind-now S f marks e need kinds.Cover m = goes_on S f marks (cover S e.bits) m
 
 -- a path is usable now where it is usable by what the marks keep
-pub usable_now-is : (S : Tables) (f : Prefix → Bool) (marks : List Bool) (e : Prefix) (p : Path) → Marks S f marks → usable_now marks (lead_of S e p) ≡ usable_by S f e p
-unfolding lead_of
+pub usable_now-is : (S : Tables) (f : Prefix → Bool) (marks : List Bool) (e : Prefix) (p : Path) → Marks S f marks → usable_now marks (facts_of_path S e p) ≡ usable_by S f e p
+unfolding facts_of_path
 usable_now-is S f marks e p m = usable_kind-now S f marks e p.need p.kind m

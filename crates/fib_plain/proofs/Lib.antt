@@ -1,8 +1,8 @@
-pub mod Sounds
 pub mod Best
 pub mod Numbers
 pub mod Members
 pub mod Edges
+pub mod Exits
 pub mod Leading
 pub mod Stability
 pub mod Viewing

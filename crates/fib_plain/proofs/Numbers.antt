@@ -1,24 +1,23 @@
 -- Entries and their numbers.
 use Rattle.std.proofs.Common.{arith, ◌≡◌, ℕ, suc, ◌<◌, Bool, true, false, List, [], ◌∷◌, map, length, get_or, Option, Some, None, ◌⊎◌, inl, inr, refl, sym, ◌∙◌, ap}
 use Rattle.std.specs.Prelude.{position, is_none, IfSome}
-use Rattle.std.specs.List.{AllByRecursion, IsDistinct, list_any, position_or_len}
-use Rattle.std.specs.Set.{is_member, unique_keys}
-use Rattle.std.specs.Cmp.{IsEquivalence}
+use Rattle.std.specs.List.{AllByRecursion, list_any, position_or_len}
+use Rattle.std.specs.Set.{is_member}
 use Rattle.std.proofs.lemmas.Bool.{false≢true, lt-ltb}
 use Rattle.std.proofs.lemmas.List.Quantifiers.{position-Some}
 use Rattle.std.proofs.lemmas.List.Sums.{position_or_len_is}
 use Rattle.std.proofs.lemmas.List.{get_or-map}
 use Rattle.std.proofs.lemmas.Map.Keys.{apart_from_distinct}
-use Rattle.fib_list.proofs.Lists.{either, is_member-unique_keys}
 use Rattle.fib_addr.specs.Prefixes.{Prefix, same_prefix}
 use Rattle.fib_addr.proofs.PrefixLaws.{same_prefix-Decides, same_prefix_equiv}
-use Rattle.fib_resolve.specs.Pairs.{pairs, entries, prefix_of, best_pair}
-use Rattle.fib_resolve.proofs.Apart.{each-fails, each-without_place}
+use Rattle.fib_resolve.specs.Pairs.{pairs, entries, best_pair}
+use Rattle.fib_resolve.proofs.Apart.{each-without_place}
+use Rattle.fib_resolve.proofs.Covering.{entries_apart}
 use Rattle.fib_resolve.proofs.Entries.{is_entry, no_pair}
 use Rattle.fib_resolve.specs.declared.pairs.Pair.{Pair}
 use Rattle.fib_resolve.specs.declared.types.Tables.{Tables}
-use Rattle.fib_plain.specs.Rows.{number_in}
-use Rattle.fib_plain.specs.Places.{pair_at}
+use Rattle.fib_plain.specs.Inner.Rows.{number_in}
+use Rattle.fib_plain.specs.Inner.Places.{pair_at}
 
 nothing : Prefix
 nothing = record { bits = 0; len = 0 }
@@ -60,19 +59,6 @@ number_of_entry S p h =
       | inl none ↦ absurd (false≢true (sym (unnumbered S p none) ∙ h))
       | inr found ↦ found
     ]
-
-pub distinct_keys : {X : Type 0} (eq : X → X → Bool) → IsEquivalence eq → (xs : List X) → IsDistinct eq (unique_keys eq xs)
-unfolding IsDistinct
-distinct_keys eq laws [] = tt
-distinct_keys eq laws (x ∷ xs) =
-    elim (either (is_member eq xs x)) [
-      | inl is ↦ rw is (distinct_keys eq laws xs)
-      | inr isnt ↦ rw isnt (each-fails (eq x) (unique_keys eq xs) (is_member-unique_keys laws x xs ∙ isnt), distinct_keys eq laws xs)
-    ]
-
-pub entries_apart : (S : Tables) → IsDistinct same_prefix (entries S)
-unfolding entries
-entries_apart S = distinct_keys same_prefix same_prefix_equiv (map prefix_of (pairs S))
 
 -- the entry at a place has that number
 pub number_at : (S : Tables) (i : ℕ) (d : Prefix) → i < length (entries S) → number_in S (get_or (entries S) i d) ≡ Some i

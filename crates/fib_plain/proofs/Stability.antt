@@ -10,8 +10,8 @@ use Rattle.fib_resolve.specs.Pairs.{entries, chosen}
 use Rattle.fib_resolve.specs.Forwarding.{forwards, forwards_in, forwards_by, limit, usable_by}
 use Rattle.fib_resolve.specs.declared.types.Tables.{Tables}
 use Rattle.fib_resolve.proofs.Steady.{never, forwards_in-steady, agree_everywhere, next_round}
-use Rattle.fib_plain.specs.Rows.{rows_of, leads_of, lead_of, usable_now}
-use Rattle.fib_plain.specs.declared.leads.Lead.{Lead}
+use Rattle.fib_plain.specs.Inner.Rows.{rows_of, facts_of, facts_of_path, usable_now}
+use Rattle.fib_plain.specs.declared.facts.PathFacts.{PathFacts}
 use Rattle.fib_plain.proofs.Leading.{Marks, usable_now-is}
 
 pub round_marks : (S : Tables) (n : ℕ) (marks : List Bool) → marks ≡ map (forwards_in S n) (entries S) → Marks S (forwards_in S n) marks
@@ -20,10 +20,10 @@ round_marks S n marks h = record { kept = h; others = λ p k. never S n p k }
 list_any-same : {X : Type 0} (f g : X → Bool) → ((x : X) → f x ≡ g x) → (xs : List X) → list_any f xs ≡ list_any g xs
 list_any-same {X} f g h xs = ap (λ (t : X → Bool). list_any t xs) (fun_ext h)
 
-row_forwards : (S : Tables) (n : ℕ) (marks : List Bool) (e : Prefix) → Marks S (forwards_in S n) marks → list_any (usable_now marks) (leads_of S e) ≡ forwards_in S (suc n) e
-unfolding leads_of forwards_in forwards_by
+row_forwards : (S : Tables) (n : ℕ) (marks : List Bool) (e : Prefix) → Marks S (forwards_in S n) marks → list_any (usable_now marks) (facts_of S e) ≡ forwards_in S (suc n) e
+unfolding facts_of forwards_in forwards_by
 row_forwards S n marks e m =
-    list_any-map (lead_of S e) (usable_now marks) (chosen S e) ∙ list_any-same (λ p. usable_now marks (lead_of S e p)) (usable_by S (forwards_in S n) e) (λ p. usable_now-is S (forwards_in S n) marks e p m) (chosen S e)
+    list_any-map (facts_of_path S e) (usable_now marks) (chosen S e) ∙ list_any-same (λ p. usable_now marks (facts_of_path S e p)) (usable_by S (forwards_in S n) e) (λ p. usable_now-is S (forwards_in S n) marks e p m) (chosen S e)
 
 maps_same : {X Y Z : Type 0} (f : X → Y) (g : Y → Z) (h : X → Z) → ((x : X) → g (f x) ≡ h x) → (xs : List X) → map g (map f xs) ≡ map h xs
 maps_same f g h k [] = refl
@@ -34,11 +34,11 @@ pub next_round-marks : (S : Tables) (n : ℕ) (marks : List Bool) → marks ≡ 
     map (λ row. list_any (usable_now marks) row) (rows_of S) ≡ map (forwards_in S (n + 1)) (entries S)
 unfolding rows_of
 next_round-marks S n marks h =
-    rw add-one (maps_same (leads_of S) (λ row. list_any (usable_now marks) row) (forwards_in S (suc n)) (λ e. row_forwards S n marks e (round_marks S n marks h)) (entries S))
+    rw add-one (maps_same (facts_of S) (λ row. list_any (usable_now marks) row) (forwards_in S (suc n)) (λ e. row_forwards S n marks e (round_marks S n marks h)) (entries S))
 
 pub first_round-marks : (S : Tables) → map (λ _. false) (rows_of S) ≡ map (forwards_in S 0) (entries S)
 unfolding rows_of forwards_in
-first_round-marks S = maps_same (leads_of S) (λ _. false) (λ _. false) (λ e. refl) (entries S)
+first_round-marks S = maps_same (facts_of S) (λ _. false) (λ _. false) (λ e. refl) (entries S)
 
 agree_from_maps : {X : Type 0} (f g : X → Bool) (xs : List X) → map f xs ≡ map g xs → Agree f g xs
 agree_from_maps f g [] h = tt
@@ -70,14 +70,14 @@ stable-marks S n marks next small h k same =
 
 pub length-rows_of : (S : Tables) → length (rows_of S) ≡ length (entries S)
 unfolding rows_of
-length-rows_of S = length-map (entries S) (leads_of S)
+length-rows_of S = length-map (entries S) (facts_of S)
 
 pub last-marks : (S : Tables) (n : ℕ) (marks : List Bool) → marks ≡ map (forwards_in S n) (entries S) → length (entries S) + 1 ≤ n → marks ≡ map (forwards S) (entries S)
 unfolding limit
 last-marks S n marks h long = h ∙ ap (λ (f : Prefix → Bool). map f (entries S)) (fun_ext (λ e. forwards_in-steady S n e long))
 
 -- what a round makes
-pub round_makes : (S : Tables) (n : ℕ) (marks view next : List Bool) (rows : List (List Lead)) → rows ≡ rows_of S → view ≡ marks → marks ≡ map (forwards_in S n) (entries S) →
+pub round_makes : (S : Tables) (n : ℕ) (marks view next : List Bool) (rows : List (List PathFacts)) → rows ≡ rows_of S → view ≡ marks → marks ≡ map (forwards_in S n) (entries S) →
     next ≡ map (λ row. list_any (usable_now view) row) rows → next ≡ map (forwards_in S (n + 1)) (entries S)
 round_makes S n marks view next rows r v h k =
-    k ∙ (ap (λ (m : List Bool). map (λ row. list_any (usable_now m) row) rows) v ∙ (ap (λ (rs : List (List Lead)). map (λ row. list_any (usable_now marks) row) rs) r ∙ next_round-marks S n marks h))
+    k ∙ (ap (λ (m : List Bool). map (λ row. list_any (usable_now m) row) rows) v ∙ (ap (λ (rs : List (List PathFacts)). map (λ row. list_any (usable_now marks) row) rs) r ∙ next_round-marks S n marks h))

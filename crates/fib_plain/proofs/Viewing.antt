@@ -14,24 +14,24 @@ use Rattle.fib_resolve.specs.declared.types.Path.{Path}
 use Rattle.fib_resolve.specs.declared.types.Tables.{Tables}
 use Rattle.fib_resolve.proofs.Steady.{never}
 use Rattle.fib_resolve.proofs.Entries.{chosen-no_entry}
-use Rattle.fib_plain.specs.Rows.{number_in, lead_of, leads_of, rows_of, usable_now}
-use Rattle.fib_plain.specs.declared.leads.Lead.{Lead}
+use Rattle.fib_plain.specs.Inner.Rows.{number_in, facts_of_path, facts_of, rows_of, usable_now}
+use Rattle.fib_plain.specs.declared.facts.PathFacts.{PathFacts}
 use Rattle.fib_plain.proofs.Leading.{Marks, usable_now-is}
 use Rattle.fib_plain.proofs.Numbers.{numbered, unnumbered}
 
-pub row_numbered : (S : Tables) (e : Prefix) (i : ℕ) (d : List Lead) → number_in S e ≡ Some i → get_or (rows_of S) i d ≡ leads_of S e
+pub row_numbered : (S : Tables) (e : Prefix) (i : ℕ) (d : List PathFacts) → number_in S e ≡ Some i → get_or (rows_of S) i d ≡ facts_of S e
 unfolding rows_of
 row_numbered S e i d h =
     let at = numbered S e i h in
-    get_or-map (leads_of S) (entries S) i e d at.0 ∙ ap (leads_of S) (at.1 e)
+    get_or-map (facts_of S) (entries S) i e d at.0 ∙ ap (facts_of S) (at.1 e)
 
-pub row_unnumbered : (S : Tables) (e : Prefix) → number_in S e ≡ None → leads_of S e ≡ []
-unfolding leads_of
-row_unnumbered S e h = ap (map (lead_of S e)) (chosen-no_entry S e (unnumbered S e h))
+pub row_unnumbered : (S : Tables) (e : Prefix) → number_in S e ≡ None → facts_of S e ≡ []
+unfolding facts_of
+row_unnumbered S e h = ap (map (facts_of_path S e)) (chosen-no_entry S e (unnumbered S e h))
 
 pub length-rows : (S : Tables) (e : Prefix) (i : ℕ) → number_in S e ≡ Some i → i < length (rows_of S)
 unfolding rows_of
-length-rows S e i h = omega (arith, (numbered S e i h).0, length-map (entries S) (leads_of S))
+length-rows S e i h = omega (arith, (numbered S e i h).0, length-map (entries S) (facts_of S))
 
 forward_marks : (S : Tables) (marks : List Bool) → marks ≡ map (forwards S) (entries S) → Marks S (forwards S) marks
 unfolding forwards
@@ -45,40 +45,40 @@ slice_get-map f (x ∷ xs) (suc i) = slice_get-map f xs i
 some_is : {X : Type 0} (x y : X) → Some x ≡ Some y → x ≡ y
 some_is x y h = cc
 
-usable_of : (S : Tables) (marks : List Bool) (e : Prefix) (o : Option Path) (x : Lead) → Marks S (forwards S) marks → Some x ≡ option_map (lead_of S e) o → usable_now marks x ≡ usable_one S e o
+usable_of : (S : Tables) (marks : List Bool) (e : Prefix) (o : Option Path) (x : PathFacts) → Marks S (forwards S) marks → Some x ≡ option_map (facts_of_path S e) o → usable_now marks x ≡ usable_one S e o
 unfolding usable
 usable_of S marks e None x m h = cc
-usable_of S marks e (Some p) x m h = ap (usable_now marks) (some_is x (lead_of S e p) h) ∙ usable_now-is S (forwards S) marks e p m
+usable_of S marks e (Some p) x m h = ap (usable_now marks) (some_is x (facts_of_path S e p) h) ∙ usable_now-is S (forwards S) marks e p m
 
 -- a path that is there
-pub usable_there : (S : Tables) (marks : List Bool) (e : Prefix) (row : List Lead) (place : ℕ) (x : Lead) → marks ≡ map (forwards S) (entries S) → row ≡ leads_of S e → slice_get row place ≡ Some x → usable_now marks x ≡ usable_at S e place
-unfolding leads_of
+pub usable_there : (S : Tables) (marks : List Bool) (e : Prefix) (row : List PathFacts) (place : ℕ) (x : PathFacts) → marks ≡ map (forwards S) (entries S) → row ≡ facts_of S e → slice_get row place ≡ Some x → usable_now marks x ≡ usable_at S e place
+unfolding facts_of
 usable_there S marks e row place x h r is =
-    usable_of S marks e (slice_get (chosen S e) place) x (forward_marks S marks h) (sym is ∙ (ap (λ (xs : List Lead). slice_get xs place) r ∙ slice_get-map (lead_of S e) (chosen S e) place))
+    usable_of S marks e (slice_get (chosen S e) place) x (forward_marks S marks h) (sym is ∙ (ap (λ (xs : List PathFacts). slice_get xs place) r ∙ slice_get-map (facts_of_path S e) (chosen S e) place))
 
 nothing_of : {X Y : Type 0} (f : X → Y) (o : Option X) → None ≡ option_map f o → o ≡ None
 nothing_of f None h = refl
 nothing_of f (Some x) h = cc
 
-pub usable_nowhere : (S : Tables) (e : Prefix) (row : List Lead) (place : ℕ) → row ≡ leads_of S e → slice_get row place ≡ None → usable_at S e place ≡ false
-unfolding leads_of
+pub usable_nowhere : (S : Tables) (e : Prefix) (row : List PathFacts) (place : ℕ) → row ≡ facts_of S e → slice_get row place ≡ None → usable_at S e place ≡ false
+unfolding facts_of
 usable_nowhere S e row place r is =
-    ap (usable_one S e) (nothing_of (lead_of S e) (slice_get (chosen S e) place) (sym is ∙ (ap (λ (xs : List Lead). slice_get xs place) r ∙ slice_get-map (lead_of S e) (chosen S e) place)))
+    ap (usable_one S e) (nothing_of (facts_of_path S e) (slice_get (chosen S e) place) (sym is ∙ (ap (λ (xs : List PathFacts). slice_get xs place) r ∙ slice_get-map (facts_of_path S e) (chosen S e) place)))
 
-looped_of : (S : Tables) (e : Prefix) (o : Option Path) (x : Lead) → Some x ≡ option_map (lead_of S e) o → x.looped ≡ looped_one S e o
-unfolding lead_of
+looped_of : (S : Tables) (e : Prefix) (o : Option Path) (x : PathFacts) → Some x ≡ option_map (facts_of_path S e) o → x.looped ≡ looped_one S e o
+unfolding facts_of_path
 looped_of S e None x h = cc
-looped_of S e (Some p) x h = ap (λ (y : Lead). y.looped) (some_is x (lead_of S e p) h)
+looped_of S e (Some p) x h = ap (λ (y : PathFacts). y.looped) (some_is x (facts_of_path S e p) h)
 
-pub looped_there : (S : Tables) (e : Prefix) (row : List Lead) (place : ℕ) (x : Lead) → row ≡ leads_of S e → slice_get row place ≡ Some x → x.looped ≡ looped_at S e place
-unfolding leads_of
+pub looped_there : (S : Tables) (e : Prefix) (row : List PathFacts) (place : ℕ) (x : PathFacts) → row ≡ facts_of S e → slice_get row place ≡ Some x → x.looped ≡ looped_at S e place
+unfolding facts_of
 looped_there S e row place x r is =
-    looped_of S e (slice_get (chosen S e) place) x (sym is ∙ (ap (λ (xs : List Lead). slice_get xs place) r ∙ slice_get-map (lead_of S e) (chosen S e) place))
+    looped_of S e (slice_get (chosen S e) place) x (sym is ∙ (ap (λ (xs : List PathFacts). slice_get xs place) r ∙ slice_get-map (facts_of_path S e) (chosen S e) place))
 
-pub looped_nowhere : (S : Tables) (e : Prefix) (row : List Lead) (place : ℕ) → row ≡ leads_of S e → slice_get row place ≡ None → looped_at S e place ≡ false
-unfolding leads_of
+pub looped_nowhere : (S : Tables) (e : Prefix) (row : List PathFacts) (place : ℕ) → row ≡ facts_of S e → slice_get row place ≡ None → looped_at S e place ≡ false
+unfolding facts_of
 looped_nowhere S e row place r is =
-    ap (looped_one S e) (nothing_of (lead_of S e) (slice_get (chosen S e) place) (sym is ∙ (ap (λ (xs : List Lead). slice_get xs place) r ∙ slice_get-map (lead_of S e) (chosen S e) place)))
+    ap (looped_one S e) (nothing_of (facts_of_path S e) (slice_get (chosen S e) place) (sym is ∙ (ap (λ (xs : List PathFacts). slice_get xs place) r ∙ slice_get-map (facts_of_path S e) (chosen S e) place)))
 
 -- the path at a place, by its place
 pub usable_here : (S : Tables) (e : Prefix) (place : ℕ) (p : Path) → slice_get (chosen S e) place ≡ Some p → usable_at S e place ≡ usable S e p

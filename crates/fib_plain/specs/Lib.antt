@@ -1,6 +1,1 @@
-pub mod Bases
-pub mod Places
-pub mod Rows
-pub mod Views
-pub mod Steps
-pub mod Snapshots
+pub mod Inner

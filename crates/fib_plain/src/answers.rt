@@ -1,7 +1,8 @@
 // Single answers over tables.
 ghost use Rattle.std.specs.Prelude.{◌≡◌, ◌^◌, ◌-◌, IfOk, min};
 ghost use Rattle.fib_resolve.specs.Forwarding.{usable_at};
-ghost use Rattle.fib_resolve.specs.Resolution.{resolve};
+ghost use Rattle.fib_resolve.specs.Resolution.{resolve, ends};
+ghost use Rattle.fib_resolve.specs.Touched.{touched};
 ghost use Rattle.fib_resolve.specs.Sizes.{size};
 ghost use Rattle.fib_resolve.specs.Tables.{IsSound};
 
@@ -40,4 +41,24 @@ pub fn usable(
 {
     let snapshot = Snapshot::new(alloc, tables)?;
     Ok(snapshot.is_usable(prefix, place as usize))
+}
+
+/// The possible ends: Drop, and those of all usable paths that go on nowhere, in the order of entries, with repeats.
+pub fn ends(alloc: Global, tables: &Tables) -> Result<Vec<End>, AllocError>
+    requires { IsSound tables.now }
+    ensures { IfOk result (λ v. v.items ≡ ends tables.now) }
+{
+    let snapshot = Snapshot::new(alloc, tables)?;
+    snapshot.ends(alloc)
+}
+
+/// The prefixes that the change from one table to another touches, each once: those before it first.
+pub fn touched(alloc: Global, before: &Tables, after: &Tables) -> Result<Vec<Prefix>, AllocError>
+    requires before { IsSound before.now }
+    requires after { IsSound after.now }
+    ensures { IfOk result (λ v. v.items ≡ touched before.now after.now) }
+{
+    let old = Snapshot::new(alloc, before)?;
+    let new = Snapshot::new(alloc, after)?;
+    old.touched(alloc, &new)
 }

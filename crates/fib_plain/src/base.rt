@@ -208,7 +208,7 @@ fn add_routes(out: &mut Vec<Pair>, alloc: Global, routes: &[Route]) -> Result<()
 }
 
 /// The pairs that depend on no cover, with repeats.
-#[tactic(auto, using(crate::proofs::Sounds::short_addresses), unfolding(fib_resolve::specs::Pairs::base_pairs))]
+#[tactic(auto, using(fib_resolve::proofs::Sound::short_addresses), unfolding(fib_resolve::specs::Pairs::base_pairs))]
 pub fn base_pairs(alloc: Global, tables: &Tables) -> Result<Vec<Pair>, AllocError>
     requires { IsSound tables.now }
     ensures { IfOk result (λ v. v.items ≡ base_pairs tables.now) }

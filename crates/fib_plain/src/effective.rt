@@ -5,7 +5,7 @@ ghost use Rattle.std.specs.Cmp.Lexicographic.{pointwise};
 ghost use Rattle.fib_resolve.specs.Keys.{same_path};
 ghost use Rattle.fib_resolve.specs.Pairs.{base_pairs, short_prefixes, cover, attached_by, is_interface, neighbor_pairs, derived_kind, derived_pair, recursive_kind, recursive_of, recursive_hops, all_pairs, same_pair, pairs, entries, one};
 ghost use Rattle.fib_resolve.specs.Tables.{IsSound};
-ghost use Rattle.fib_plain.specs.Bases.{IsBase};
+ghost use Rattle.fib_plain.specs.Inner.Bases.{IsBase};
 
 use crate::{base, search};
 use fib_addr::{Addr, Prefix};
@@ -175,7 +175,8 @@ fn is_same_list(xs: &[Path], ys: &[Path]) -> bool
     }
 }
 
-fn is_same_pair(x: &Pair, y: &Pair) -> bool
+/// Whether both have one prefix, source and list.
+pub fn is_same_pair(x: &Pair, y: &Pair) -> bool
     ensures { result ≡ same_pair x.now y.now }
 {
     search::is_same_prefix(x.prefix, y.prefix)

@@ -1,21 +1,23 @@
 //! The answers that tables mean, by plain programs over lists: each equals its definition, and want of memory is its only other
 //! answer.
 //!
-//! A `Snapshot` holds what many answers share, and is made once a table.
+//! A `Snapshot` holds what many answers share, and is made once a table. Relations that carry proofs alone stand in `specs/Inner`.
 #![tactic(auto)]
 
 mod answers;
 mod base;
 mod effective;
+mod possible;
 mod known;
-mod leads;
+mod facts;
 mod loops;
 mod rounds;
 mod search;
 mod sizes;
 mod snapshot;
+mod touching;
 mod view;
 mod ways;
 
-pub use answers::{resolve, size, usable};
+pub use answers::{ends, resolve, size, touched, usable};
 pub use snapshot::Snapshot;

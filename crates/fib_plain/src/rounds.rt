@@ -4,9 +4,9 @@ ghost use Rattle.std.specs.Prelude.{◌≡◌, ◌+◌, ◌≤◌, ℕ, false, I
 ghost use Rattle.std.specs.List.{list_any};
 ghost use Rattle.fib_resolve.specs.Pairs.{entries};
 ghost use Rattle.fib_resolve.specs.Forwarding.{forwards, forwards_in};
-ghost use Rattle.fib_plain.specs.Rows.{marked, target_marked, usable_now, rows_of};
+ghost use Rattle.fib_plain.specs.Inner.Rows.{marked, target_marked, usable_now, rows_of};
 
-use crate::leads::Lead;
+use crate::facts::PathFacts;
 use fib_list::List;
 use fib_resolve::Tables;
 use std::alloc::{AllocError, Global};
@@ -21,7 +21,7 @@ fn is_marked(marks: &[bool], number: u32) -> bool
 }
 
 /// Whether the path is usable where the marks say which entries forward.
-pub fn usable_now(marks: &[bool], x: &Lead) -> bool
+pub fn usable_now(marks: &[bool], x: &PathFacts) -> bool
     ensures { result ≡ usable_now marks.now x.now }
 {
     x.ready
@@ -31,14 +31,14 @@ pub fn usable_now(marks: &[bool], x: &Lead) -> bool
         }
 }
 
-fn forwards_now(marks: &[bool], row: &[Lead]) -> bool
+fn forwards_now(marks: &[bool], row: &[PathFacts]) -> bool
     ensures { result ≡ list_any (usable_now marks.now) row.now }
 {
     row.iter().any(|x| usable_now(marks, x))
 }
 
 /// The marks of the next round.
-fn next_marks(alloc: Global, rows: &[List<Lead>], marks: &[bool]) -> Result<Vec<bool>, AllocError>
+fn next_marks(alloc: Global, rows: &[List<PathFacts>], marks: &[bool]) -> Result<Vec<bool>, AllocError>
     ensures { IfOk result (λ v. v.items ≡ map (λ row. list_any (usable_now marks.now) row) rows.now) }
 {
     let mut out = Vec::new(alloc);
@@ -55,14 +55,14 @@ fn is_same(xs: &[bool], ys: &[bool]) -> bool
     xs == ys
 }
 
-fn no_marks(alloc: Global, rows: &[List<Lead>]) -> Result<Vec<bool>, AllocError>
+fn no_marks(alloc: Global, rows: &[List<PathFacts>]) -> Result<Vec<bool>, AllocError>
     ensures { IfOk result (λ v. v.items ≡ map (λ _. false) rows.now) }
 {
     rows.iter().map(|_row| false).collect(alloc)
 }
 
 /// A mark for each entry that forwards.
-pub fn marks(alloc: Global, tables: &Tables, rows: &[List<Lead>]) -> Result<Vec<bool>, AllocError>
+pub fn marks(alloc: Global, tables: &Tables, rows: &[List<PathFacts>]) -> Result<Vec<bool>, AllocError>
     requires { rows.now ≡ rows_of tables.now }
     ensures { IfOk result (λ v. v.items ≡ map (forwards tables.now) (entries tables.now)) }
 {

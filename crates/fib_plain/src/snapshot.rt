@@ -4,17 +4,18 @@ ghost use Rattle.fib_resolve.specs.Pairs.{pairs, entries, chosen, cover, best, b
 ghost use Rattle.fib_resolve.specs.Loops.{looped_at};
 ghost use Rattle.fib_resolve.specs.Forwarding.{usable_at};
 ghost use Rattle.fib_resolve.specs.Buckets.{wanted};
-ghost use Rattle.fib_resolve.specs.Resolution.{resolve, mac_of};
+ghost use Rattle.fib_resolve.specs.Resolution.{resolve, mac_of, ends};
+ghost use Rattle.fib_resolve.specs.Touched.{touched};
 ghost use Rattle.fib_resolve.specs.Sizes.{adjacencies, size};
 ghost use Rattle.fib_resolve.specs.Tables.{IsSound};
-ghost use Rattle.fib_plain.specs.Rows.{IsKnown};
-ghost use Rattle.fib_plain.specs.Views.{IsView};
+ghost use Rattle.fib_plain.specs.Inner.Rows.{IsKnown};
+ghost use Rattle.fib_plain.specs.Inner.Views.{IsView};
 
 use crate::effective::{self, Base};
 use crate::known::{self, Known};
-use crate::leads::{self, Lead};
+use crate::facts::{self, PathFacts};
 use crate::view::{self, View};
-use crate::{base, rounds, sizes, ways};
+use crate::{base, possible, rounds, sizes, touching, ways};
 use fib_addr::{Addr, Mac, Prefix};
 use fib_list::List;
 use fib_resolve::{Adjacency, End, Pair, Path, Tables};
@@ -32,7 +33,7 @@ pub struct Snapshot<'a> {
     pairs: Vec<Pair>,
     entries: Vec<Prefix>,
     best: Vec<Option<usize>>,
-    rows: Vec<List<Lead>>,
+    rows: Vec<List<PathFacts>>,
     marks: Vec<bool>,
 }
 
@@ -41,7 +42,7 @@ impl<'a> Model for Snapshot<'a> {
 
     ghost Value = { TablesValue };
 
-    ghost use Rattle.fib_plain.specs.Snapshots.{IsSnapshot};
+    ghost use Rattle.fib_plain.specs.Inner.Snapshots.{IsSnapshot};
 
     ghost view = { λ s. s.tables.now };
 
@@ -74,7 +75,7 @@ impl<'a> Snapshot<'a> {
             entries: entries.as_slice(),
             best: best.as_slice(),
         };
-        let rows = leads::rows(alloc, known)?;
+        let rows = facts::rows(alloc, known)?;
         let marks = rounds::marks(alloc, tables, rows.as_slice())?;
         Ok(Snapshot {
             tables,
@@ -162,6 +163,20 @@ impl<'a> Snapshot<'a> {
         ensures { IfOk result (λ end. end ≡ resolve self.now addr hash) }
     {
         ways::resolve(alloc, self.view(), addr, hash)
+    }
+
+    /// The possible ends: Drop, and those of all usable paths that go on nowhere, with repeats.
+    pub fn ends(&self, alloc: Global) -> Result<Vec<End>, AllocError>
+        ensures { IfOk result (λ v. v.items ≡ ends self.now) }
+    {
+        possible::ends(alloc, self.view())
+    }
+
+    /// The prefixes that the change from these tables to others touches, each once.
+    pub fn touched(&self, alloc: Global, after: &Snapshot<'_>) -> Result<Vec<Prefix>, AllocError>
+        ensures { IfOk result (λ v. v.items ≡ touched self.now after.now) }
+    {
+        touching::touched(alloc, self.view(), after.view())
     }
 
     /// The Hop ends of all chosen lists, each once, usable or not.

@@ -4,11 +4,11 @@ ghost use Rattle.fib_resolve.specs.Pairs.{chosen};
 ghost use Rattle.fib_resolve.specs.Loops.{looped_at};
 ghost use Rattle.fib_resolve.specs.Forwarding.{usable, usable_at};
 ghost use Rattle.fib_resolve.specs.Buckets.{least_preference, of_least_preference, used, spread, wanted, IsShort};
-ghost use Rattle.fib_plain.specs.Rows.{leads_of};
-ghost use Rattle.fib_plain.specs.Views.{IsView};
+ghost use Rattle.fib_plain.specs.Inner.Rows.{facts_of};
+ghost use Rattle.fib_plain.specs.Inner.Views.{IsView};
 
 use crate::known::{self, Known};
-use crate::leads::Lead;
+use crate::facts::PathFacts;
 use crate::rounds;
 use fib_addr::Prefix;
 use fib_list::List;
@@ -19,14 +19,14 @@ use std::alloc::{AllocError, Global};
 #[derive(Clone, Copy)]
 pub struct View<'a> {
     pub known: Known<'a>,
-    pub rows: &'a [List<Lead>],
+    pub rows: &'a [List<PathFacts>],
     pub marks: &'a [bool],
 }
 
 /// What is known of the entry's paths, in their order.
-pub fn row<'a>(view: View<'a>, e: Prefix) -> &'a [Lead]
+pub fn row<'a>(view: View<'a>, e: Prefix) -> &'a [PathFacts]
     requires { IsView view }
-    ensures { result.now ≡ leads_of view.entry.known.tables.now e }
+    ensures { result.now ≡ facts_of view.entry.known.tables.now e }
 {
     match known::number_of(view.known, e) {
         Some(k) => view.rows[k].as_slice(),
@@ -34,19 +34,19 @@ pub fn row<'a>(view: View<'a>, e: Prefix) -> &'a [Lead]
     }
 }
 
-fn lead_at(row: &[Lead], place: usize) -> Option<Lead>
+fn facts_at(row: &[PathFacts], place: usize) -> Option<PathFacts>
     ensures { result ≡ slice_get row.now place }
 {
     row.get(place).copied()
 }
 
 /// Whether the path at that place is there and usable.
-fn usable_at(view: View<'_>, e: Prefix, row: &[Lead], place: usize) -> bool
+fn usable_at(view: View<'_>, e: Prefix, row: &[PathFacts], place: usize) -> bool
     requires view { IsView view }
-    requires row { row.now ≡ leads_of view.known.tables.now e }
+    requires row { row.now ≡ facts_of view.known.tables.now e }
     ensures { result ≡ usable_at view.entry.known.tables.now e place }
 {
-    match lead_at(row, place) {
+    match facts_at(row, place) {
         Some(x) => rounds::usable_now(view.marks, &x),
         None => false,
     }
@@ -65,16 +65,16 @@ pub fn is_looped(view: View<'_>, e: Prefix, place: usize) -> bool
     requires { IsView view }
     ensures { result ≡ looped_at view.entry.known.tables.now e place }
 {
-    match lead_at(row(view, e), place) {
+    match facts_at(row(view, e), place) {
         Some(x) => x.looped,
         None => false,
     }
 }
 
 /// Whether the path, which stands at that place, is usable.
-fn usable_path(view: View<'_>, e: Prefix, row: &[Lead], place: usize, p: &Path) -> bool
+fn usable_path(view: View<'_>, e: Prefix, row: &[PathFacts], place: usize, p: &Path) -> bool
     requires view { IsView view }
-    requires row { row.now ≡ leads_of view.known.tables.now e }
+    requires row { row.now ≡ facts_of view.known.tables.now e }
     requires there { slice_get (chosen view.known.tables.now e) place ≡ Some p.now }
     ensures { result ≡ usable view.entry.known.tables.now e p.now }
 {
@@ -83,7 +83,7 @@ fn usable_path(view: View<'_>, e: Prefix, row: &[Lead], place: usize, p: &Path) 
 }
 
 /// The usable paths of the entry.
-fn usable_paths(alloc: Global, view: View<'_>, e: Prefix) -> Result<Vec<Path>, AllocError>
+pub fn usable_paths(alloc: Global, view: View<'_>, e: Prefix) -> Result<Vec<Path>, AllocError>
     requires { IsView view }
     ensures { IfOk result (λ v. v.items ≡ filter (usable view.entry.known.tables.now e) (chosen view.entry.known.tables.now e)) }
 {

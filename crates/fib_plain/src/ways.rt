@@ -4,8 +4,8 @@ ghost use Rattle.fib_resolve.specs.Pairs.{entries, best, cover};
 ghost use Rattle.fib_resolve.specs.Forwarding.{limit};
 ghost use Rattle.fib_resolve.specs.Buckets.{wanted};
 ghost use Rattle.fib_resolve.specs.Resolution.{mac_of, hop_end, attached_end, follow, resolve, way};
-ghost use Rattle.fib_plain.specs.Views.{IsView};
-ghost use Rattle.fib_plain.specs.Steps.{Steps, Takes};
+ghost use Rattle.fib_plain.specs.Inner.Views.{IsView};
+ghost use Rattle.fib_plain.specs.Inner.Steps.{Steps, EndsOrGoesOn};
 
 use crate::view::{self, View};
 use crate::{effective, search};
@@ -15,7 +15,7 @@ use std::alloc::{AllocError, Global};
 
 /// What comes after an entry.
 #[derive(Clone, Copy)]
-pub enum Onward {
+pub enum NextStep {
     Ends(End),
     GoesOn(Prefix),
 }
@@ -32,7 +32,8 @@ pub fn mac_of(tables: &Tables, i: u32, a: Addr) -> Option<Mac>
     None
 }
 
-fn hop_end(tables: &Tables, interface: u32, next_hop: Addr) -> End
+/// The Hop end over that interface to that next hop.
+pub fn hop_end(tables: &Tables, interface: u32, next_hop: Addr) -> End
     ensures { result ≡ hop_end tables.now interface next_hop }
 {
     End::Hop {
@@ -42,7 +43,8 @@ fn hop_end(tables: &Tables, interface: u32, next_hop: Addr) -> End
     }
 }
 
-fn attached_end(tables: &Tables, e: Prefix, i: u32) -> End
+/// The end of an Attached path of the entry.
+pub fn attached_end(tables: &Tables, e: Prefix, i: u32) -> End
     ensures { result ≡ attached_end tables.now e i }
 {
     if e.len() == 32 {
@@ -53,33 +55,33 @@ fn attached_end(tables: &Tables, e: Prefix, i: u32) -> End
 }
 
 /// What comes where a path of that kind is taken at an entry.
-fn take(view: View<'_>, e: Prefix, kind: PathKind) -> Onward
+fn take(view: View<'_>, e: Prefix, kind: PathKind) -> NextStep
     requires { IsView view }
-    ensures { Takes view.entry.known.tables.now e kind result }
+    ensures { EndsOrGoesOn view.entry.known.tables.now e kind result }
 {
     let tables = view.known.tables;
     match kind {
-        PathKind::Drop => Onward::Ends(End::Drop),
-        PathKind::Local => Onward::Ends(End::Receive),
-        PathKind::Attached(i) => Onward::Ends(attached_end(tables, e, i)),
+        PathKind::Drop => NextStep::Ends(End::Drop),
+        PathKind::Local => NextStep::Ends(End::Receive),
+        PathKind::Attached(i) => NextStep::Ends(attached_end(tables, e, i)),
         PathKind::Hop {
             next_hop,
             interface,
-        } => Onward::Ends(hop_end(tables, interface, next_hop)),
-        PathKind::Recursive(a) => Onward::GoesOn(Prefix::host(a)),
-        PathKind::Cover => Onward::GoesOn(effective::cover(tables, view.known.short, e.bits())),
+        } => NextStep::Ends(hop_end(tables, interface, next_hop)),
+        PathKind::Recursive(a) => NextStep::GoesOn(Prefix::host(a)),
+        PathKind::Cover => NextStep::GoesOn(effective::cover(tables, view.known.short, e.bits())),
     }
 }
 
 /// What comes after an entry, for a packet with that hash.
-fn step(alloc: Global, view: View<'_>, e: Prefix, hash: u32) -> Result<Onward, AllocError>
+fn step(alloc: Global, view: View<'_>, e: Prefix, hash: u32) -> Result<NextStep, AllocError>
     requires { IsView view }
-    ensures { IfOk result (λ onward. Steps view.entry.known.tables.now e hash onward) }
+    ensures { IfOk result (λ next_step. Steps view.entry.known.tables.now e hash next_step) }
 {
     let paths = view::wanted(alloc, view, e)?;
     match view::at_place(paths.as_slice(), (hash % 16) as usize) {
         Some(p) => Ok(take(view, e, p.kind)),
-        None => Ok(Onward::Ends(End::Drop)),
+        None => Ok(NextStep::Ends(End::Drop)),
     }
 }
 
@@ -101,8 +103,8 @@ pub fn resolve(alloc: Global, view: View<'_>, addr: Addr, hash: u32) -> Result<E
     let mut left = hash;
     for _n in 0..view.known.entries.len() + 1 {
         match step(alloc, view, e, left)? {
-            Onward::Ends(end) => return Ok(end),
-            Onward::GoesOn(next) => e = next,
+            NextStep::Ends(end) => return Ok(end),
+            NextStep::GoesOn(next) => e = next,
         }
         left /= 2;
     }

@@ -25,7 +25,7 @@ fn message(alloc: Global, line: u32, text: &str) -> Result<Vec<u8>, AllocError>
 {
     let mut whole = Vec::new(alloc);
     put_text(&mut whole, "line ")?;
-    put_number(&mut whole, line)?;
+    put_number(&mut whole, u64::from(line))?;
     put_text(&mut whole, ": ")?;
     put_text(&mut whole, text)?;
     put_text(&mut whole, "\n")?;

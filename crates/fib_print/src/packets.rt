@@ -13,9 +13,9 @@ use std::alloc::{AllocError, Global};
 fn put_version(out: &mut Vec<u8>, version: Version) -> Result<(), AllocError>
     ensures { OnOk result (out.new.items ≡ out.old.items ++ version_text version) }
 {
-    put_number(out, version.settled)?;
+    put_number(out, u64::from(version.settled))?;
     put_text(out, ".")?;
-    put_number(out, version.applied)
+    put_number(out, u64::from(version.applied))
 }
 
 #[tactic(auto, unfolding(crate::specs::Packets::window_text))]
@@ -32,11 +32,11 @@ fn put_flow(out: &mut Vec<u8>, number: u32, answer: &Record) -> Result<(), Alloc
     ensures { OnOk result (out.new.items ≡ out.old.items ++ flow_text number answer.now) }
 {
     put_text(out, "packet ")?;
-    put_number(out, number)?;
+    put_number(out, u64::from(number))?;
     put_text(out, " ")?;
     put_addr(out, answer.addr)?;
     put_text(out, " ")?;
-    put_number(out, answer.hash)?;
+    put_number(out, u64::from(answer.hash))?;
     put_text(out, " ")
 }
 
@@ -79,7 +79,7 @@ fn numbered(alloc: Global, before: &str, number: u32, after: &str) -> Result<Vec
 {
     let mut text = Vec::new(alloc);
     put_text(&mut text, before)?;
-    put_number(&mut text, number)?;
+    put_number(&mut text, u64::from(number))?;
     put_text(&mut text, after)?;
     Ok(text)
 }

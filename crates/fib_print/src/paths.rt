@@ -72,9 +72,9 @@ fn put_numbers(out: &mut Vec<u8>, weight: u8, preference: u8) -> Result<(), Allo
     ensures { OnOk result (out.new.items ≡ out.old.items ++ numbers_text weight preference) }
 {
     put_text(out, " weight ")?;
-    put_number(out, u32::from(weight))?;
+    put_number(out, u64::from(weight))?;
     put_text(out, " preference ")?;
-    put_number(out, u32::from(preference))
+    put_number(out, u64::from(preference))
 }
 
 fn need_name(need: Need) -> &'static str

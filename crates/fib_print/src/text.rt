@@ -5,7 +5,7 @@ use itoa::Buffer;
 use std::alloc::AllocError;
 
 /// Appends a number in decimal, without leading zeros. Unchanged on want of memory.
-pub fn put_number(out: &mut Vec<u8>, number: u32) -> Result<(), AllocError>
+pub fn put_number(out: &mut Vec<u8>, number: u64) -> Result<(), AllocError>
     ensures ok { OnOk result (out.new.items ≡ out.old.items ++ decimal number) }
     ensures err { OnErr result (out.new.items ≡ out.old.items) }
 {

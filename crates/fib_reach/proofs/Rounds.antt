@@ -1,16 +1,13 @@
 -- Rounds that only add, over a finite list, are stable after as many rounds as the list is long.
-use Rattle.std.proofs.Common.{◌≡◌, ℕ, zero, suc, ◌<◌, ◌≤◌, Bool, true, false, cond, List, [], ◌∷◌, length, ◌⊎◌, inl, inr, refl, arith}
+use Rattle.std.proofs.Common.{◌≡◌, ℕ, zero, suc, ◌<◌, ◌≤◌, Bool, true, false, List, [], ◌∷◌, length, ◌⊎◌, inl, inr, refl, arith}
 use Rattle.std.specs.List.{AllByRecursion, count_by}
 use Rattle.std.proofs.lemmas.Bool.{false≢true}
 use Rattle.std.proofs.lemmas.List.Sums.{sum_by-cons, count_by-le-length}
+use Rattle.fib_list.proofs.Tests.{unit_of}
 
 -- tests p and q agree at each element
 abbrev pub Agree : {A : Type 0} → (A → Bool) → (A → Bool) → List A → Type 0
 Agree p q xs = AllByRecursion (λ x. p x ≡ q x) xs
-
--- 1 for true
-abbrev unit_of : Bool → ℕ
-unit_of b = cond b 1 0
 
 tests : (b c : Bool) → (b ≡ true → c ≡ true) → ((b ≡ c) × (unit_of b ≡ unit_of c)) ⊎ ((unit_of b ≡ 0) × (unit_of c ≡ 1))
 tests true true h = inl (refl, refl)

@@ -1,14 +1,15 @@
 -- What a search of walks has found so far.
-use Rattle.std.proofs.Common.{arith, ◌≡◌, ℕ, zero, suc, ◌+◌, ◌<◌, ◌≤◌, Bool, true, false, not, cond, List, [], ◌∷◌, ◌++◌, length, get_or, ◌⊎◌, inl, inr, refl, sym, ◌∙◌, ap, subst, Decides, length-append}
+use Rattle.std.proofs.Common.{arith, ◌≡◌, ℕ, zero, suc, ◌+◌, ◌<◌, ◌≤◌, Bool, true, false, not, List, [], ◌∷◌, ◌++◌, length, get_or, ◌⊎◌, inl, inr, refl, sym, ◌∙◌, ap, subst, Decides, length-append}
 use Rattle.std.specs.Prelude.{Contains, count_by}
 use Rattle.std.specs.Set.{is_member}
 use Rattle.std.proofs.lemmas.Bool.{false≢true, cases_lt}
-use Rattle.std.proofs.lemmas.List.Sums.{sum_by-cons}
 use Rattle.std.proofs.lemmas.Map.Views.{list_any-from_Contains, Contains-from_any}
 use Rattle.fib_reach.specs.Walks.{Walk, Reaches, Next}
 use Rattle.fib_reach.specs.Search.{added, add_one}
 use Rattle.fib_reach.proofs.Places.{any_default}
-use Rattle.fib_reach.proofs.Through.{or_cases, or_left, or_right, decides_equiv}
+use Rattle.fib_reach.proofs.Through.{decides_equiv}
+use Rattle.fib_list.proofs.Lists.{either}
+use Rattle.fib_list.proofs.Tests.{or_cases, or_left, or_right, unit_of, count_by-cons}
 use Rattle.fib_reach.proofs.Walking.{then_edge}
 
 -- how many nodes are not seen
@@ -21,16 +22,6 @@ pub record Explored {A : Type 0} (same : A → A → Bool) (next : A → List A)
   pub walked : (x : A) → is_member same seen x ≡ true → (n : ℕ) × Walk (Next next) n from x
   pub closed : (k : ℕ) (d : A) → k < done → (y : A) → is_member same (next (get_or seen k d)) y ≡ true → is_member same nodes y ≡ true → is_member same seen y ≡ true
   pub missed : (k : ℕ) (d : A) → k < done → is_member same (next (get_or seen k d)) to ≡ false
-
-abbrev unit_of : Bool → ℕ
-unit_of b = cond b 1 0
-
-count-cons : {X : Type 0} (p : X → Bool) (x : X) (xs : List X) → count_by p (x ∷ xs) ≡ unit_of (p x) + count_by p xs
-count-cons p x xs = sum_by-cons (λ y. unit_of (p y)) x xs
-
-either : (b : Bool) → (b ≡ true) ⊎ (b ≡ false)
-either true = inl refl
-either false = inr refl
 
 get_front : {A : Type 0} (xs ys : List A) (k : ℕ) (d : A) → k < length xs → get_or (xs ++ ys) k d ≡ get_or xs k d
 get_front [] ys k d h = absurd (omega (arith, h))
@@ -93,13 +84,13 @@ module _ {A : Type 0} (same : A → A → Bool) (is : (x y : A) → Decides (sam
   unseen_no_more : (es t : List A) (x : A) → unseen same es (t ++ x ∷ []) ≤ unseen same es t
   unseen_no_more [] t x = omega arith
   unseen_no_more (e ∷ es) t x =
-      omega (arith, less t x e, unseen_no_more es t x, count-cons (λ d. not (is_member same (t ++ x ∷ []) d)) e es, count-cons (λ d. not (is_member same t d)) e es)
+      omega (arith, less t x e, unseen_no_more es t x, count_by-cons (λ d. not (is_member same (t ++ x ∷ []) d)) e es, count_by-cons (λ d. not (is_member same t d)) e es)
 
   unseen_less : (es t : List A) (x : A) → is_member same es x ≡ true → is_member same t x ≡ false → unseen same es (t ++ x ∷ []) < unseen same es t
   unseen_less [] t x h n = absurd (false≢true h)
   unseen_less (e ∷ es) t x h n =
-      let a = count-cons (λ d. not (is_member same (t ++ x ∷ []) d)) e es in
-      let b = count-cons (λ d. not (is_member same t d)) e es in
+      let a = count_by-cons (λ d. not (is_member same (t ++ x ∷ []) d)) e es in
+      let b = count_by-cons (λ d. not (is_member same t d)) e es in
       elim (or_cases (same x e) _ h) [
         | inl l ↦ (let is_x = (is x e).0 l in
             let new : unit_of (not (is_member same t e)) ≡ 1 = rw (← is_x, n) refl in

@@ -8,22 +8,7 @@ use Rattle.std.proofs.lemmas.Map.Views.{list_any-from_Contains, Contains-from_an
 use Rattle.fib_reach.specs.Walks.{Walk, Reaches, Leads, Next}
 use Rattle.fib_reach.specs.Search.{leads, leads_through}
 use Rattle.fib_reach.proofs.Walking.{reaches_then, reaches_leads}
-
-pub or_cases : (x y : Bool) → (x || y) ≡ true → (x ≡ true) ⊎ (y ≡ true)
-or_cases true y h = inl refl
-or_cases false y h = inr h
-
-pub and_both : (x y : Bool) → (x && y) ≡ true → (x ≡ true) × (y ≡ true)
-and_both true y h = (refl, h)
-and_both false y h = absurd (false≢true h)
-
-pub or_left : (x y : Bool) → x ≡ true → (x || y) ≡ true
-or_left true y h = refl
-or_left false y h = absurd (false≢true h)
-
-pub or_right : (x y : Bool) → y ≡ true → (x || y) ≡ true
-or_right true y h = refl
-or_right false y h = h
+use Rattle.fib_list.proofs.Tests.{or_cases, and_both, or_left, or_right}
 
 and_true : (x y : Bool) → x ≡ true → y ≡ true → (x && y) ≡ true
 and_true true y h k = k

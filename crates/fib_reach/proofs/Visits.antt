@@ -1,5 +1,5 @@
 -- The marks of a search, and the room for what it sees.
-use Rattle.std.proofs.Common.{arith, ◌≡◌, ◌≢◌, ℕ, ◌<◌, ◌≤◌, ◌⊎◌, inl, inr, Bool, true, false, eqb, List, [], ◌∷◌, ◌++◌, length, get_or, set, refl, sym, ◌∙◌, ap, subst, length-append, get_or-set_same, get_or-set_other, length-set}
+use Rattle.std.proofs.Common.{arith, ◌≡◌, ◌≢◌, ℕ, ◌<◌, ◌≤◌, ◌⊎◌, inl, inr, true, false, eqb, List, [], ◌∷◌, ◌++◌, length, get_or, set, refl, sym, ◌∙◌, ap, subst, length-append, get_or-set_same, get_or-set_other, length-set}
 use Rattle.std.specs.Prelude.{Contains}
 use Rattle.std.specs.List.{IsDistinct, list_any}
 use Rattle.std.specs.Cmp.{nat_eq_equiv}
@@ -9,11 +9,8 @@ use Rattle.std.proofs.lemmas.Map.Keys.{IsDistinct-push}
 use Rattle.std.proofs.lemmas.Map.Steps.{length-le_from_distinct_below}
 use Rattle.std.proofs.lemmas.Map.Views.{Contains-from_any}
 use Rattle.std.proofs.lemmas.List.Elements.{Contains-push, Contains-push_cases, Contains-append_left}
-use Rattle.fib_reach.specs.Visits.{IsVisit}
-
-either : (b : Bool) → (b ≡ true) ⊎ (b ≡ false)
-either true = inl refl
-either false = inr refl
+use Rattle.fib_reach.specs.Inner.Visits.{IsVisit}
+use Rattle.fib_list.proofs.Lists.{either}
 
 pub same_or_not : (x y : ℕ) → (x ≡ y) ⊎ (x ≢ y)
 same_or_not x y = elim (either (eqb x y)) [ inl h ↦ inl ((Decides-eqb x y).0 h) | inr h ↦ inr (λ e. false≢true (sym h ∙ (Decides-eqb x y).1 e)) ]

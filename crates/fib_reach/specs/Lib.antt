@@ -1,4 +1,4 @@
 pub mod Graphs
 pub mod Search
-pub mod Visits
 pub mod Walks
+pub mod Inner

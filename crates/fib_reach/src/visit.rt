@@ -2,8 +2,8 @@
 ghost use Rattle.std.specs.Prelude.{◌≡◌, ◌≢◌, ℕ, ◌<◌, ◌≤◌, ◌↔◌, ◌⊎◌, length, IsTrue, Contains, slice_index, vec_capacity};
 ghost use Rattle.std.specs.Bool.{OnTrue, OnFalse};
 ghost use Rattle.fib_reach.specs.Walks.{Reaches};
-ghost use Rattle.fib_reach.specs.Graphs.{Edge};
-ghost use Rattle.fib_reach.specs.Visits.{IsClosed, IsVisit, GrowsBy, GrowsFrom};
+ghost use Rattle.fib_reach.specs.Graphs.{Edge, IsClosed};
+ghost use Rattle.fib_reach.specs.Inner.Visits.{IsVisit, GrowsBy, GrowsFrom};
 
 use fib_list::List;
 

@@ -1,5 +1,5 @@
 -- In well-formed tables a prefix has one list from a source.
-use Rattle.std.proofs.Common.{arith, ◌≡◌, ℕ, zero, suc, Bool, true, false, cond, ◌&&◌, ◌||◌, ◌==◌, List, [], ◌∷◌, ◌++◌, map, length, Option, Some, None, ◌⊎◌, inl, inr, refl, sym, ◌∙◌, ap, subst}
+use Rattle.std.proofs.Common.{arith, ◌≡◌, ℕ, zero, suc, Bool, true, false, cond, ◌&&◌, ◌==◌, List, [], ◌∷◌, ◌++◌, map, length, Option, Some, None, ◌⊎◌, inl, inr, refl, sym, ◌∙◌, ap, subst}
 use Rattle.std.specs.Prelude.{Contains, flat_map, nat_lt, find, option_map, unwrap_or}
 use Rattle.std.specs.List.{AllByRecursion, IsDistinct}
 use Rattle.std.proofs.lemmas.Bool.{false≢true}
@@ -23,6 +23,7 @@ use Rattle.fib_resolve.specs.declared.types.FibSource.{FibSource}
 use Rattle.fib_resolve.specs.declared.types.FibSource.TheVariants as sources
 use Rattle.fib_resolve.specs.declared.types.Tables.{Tables}
 use Rattle.fib_resolve.proofs.PairLaws.{each-all, each-unique}
+use Rattle.fib_list.proofs.Tests.{or_right}
 
 pub each-itself : {X : Type 0} (xs : List X) → AllByRecursion (Contains xs) xs
 each-itself xs = recursion_from_All (Contains xs) xs (All-contains_itself xs)
@@ -110,11 +111,7 @@ list_any_at (x ∷ xs) a (zero, lt, is) = rw (ap (λ (b : Address). b.addr == a.
   where
     own : (n : ℕ) → (n == n) ≡ true
     own n = grind (arith, nat_tests)
-list_any_at (x ∷ xs) a (suc k, lt, is) = or_true (x.addr == a.addr) _ (list_any_at xs a (k, omega (arith, lt), is))
-  where
-    or_true : (b c : Bool) → c ≡ true → (b || c) ≡ true
-    or_true true c e = refl
-    or_true false c e = e
+list_any_at (x ∷ xs) a (suc k, lt, is) = or_right (x.addr == a.addr) _ (list_any_at xs a (k, omega (arith, lt), is))
 
 local_listed : (S : Tables) (a : Address) → Contains S.addresses a → Listed S (one (host a.addr) sources.Interface kinds.Local)
 unfolding list_of

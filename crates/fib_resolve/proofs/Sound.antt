@@ -1,6 +1,6 @@
 -- Edits that aren't refused keep tables well formed.
-use Rattle.std.proofs.Common.{arith, ◌≡◌, ℕ, ◌≤◌, ◌<◌, Bool, true, false, not, cond, ◌&&◌, ◌||◌, zero, suc, List, [], ◌∷◌, ◌++◌, map, length, None, ◌⊎◌, inl, inr, refl, sym, ◌∙◌, ap, subst, length-append}
-use Rattle.std.specs.Prelude.{Contains, filter, nat_lt, nat_le}
+use Rattle.std.proofs.Common.{arith, ◌≡◌, ℕ, ◌≤◌, ◌<◌, Bool, true, false, not, cond, ◌&&◌, zero, suc, List, [], ◌∷◌, ◌++◌, map, length, None, ◌⊎◌, inl, inr, refl, sym, ◌∙◌, ap, subst, length-append}
+use Rattle.std.specs.Prelude.{All, Contains, filter, nat_lt, nat_le}
 use Rattle.std.specs.List.{AllByRecursion, IsDistinct, list_any}
 use Rattle.std.specs.Cmp.{IsEquivalence}
 use Rattle.std.proofs.lemmas.Bool.{false≢true, leb-false, ltb-true, ltb-false, lt-ltb}
@@ -13,7 +13,7 @@ use Rattle.std.proofs.lemmas.List.Sums.{length-filter, count_by-le-length}
 use Rattle.fib_list.proofs.Lists.{either, each-weaker, each-filter, each-append}
 use Rattle.fib_addr.specs.Prefixes.{Prefix}
 use Rattle.fib_addr.proofs.PrefixLaws.{same_prefix_equiv}
-use Rattle.fib_resolve.specs.Keys.{kind_rank, source_rank}
+use Rattle.fib_resolve.specs.Keys.{is_drop_or_local, source_rank}
 use Rattle.fib_resolve.specs.Tables.{fresh, has_name, interface_named, same_name, same_address, same_neighbor, is_route, same_route, connects_elsewhere, is_mixed, IsInRange, NeedsLittle, IsSoundPath, IsSoundList, IsSoundRoute, IsSoundAddress, IsSound}
 use Rattle.fib_resolve.specs.Edits.{edited, number_of, with_state, set_neighbor, kind_of, path_of, source_of, paths_at, set_route, without_route, lacks_key, without_paths, route_left, paths_with, address_at, neighbor_at, with_addresses, with_neighbors, with_routes}
 use Rattle.fib_resolve.specs.Refusals.{when, first_reason, reasons, refused, unknown, names_unknown, some_unknown, has_address, connected_elsewhere}
@@ -35,7 +35,7 @@ use Rattle.fib_resolve.specs.declared.types.Refusal.TheVariants as refusals
 use Rattle.fib_resolve.specs.declared.types.Tables.{Tables}
 use Rattle.fib_resolve.specs.declared.types.Edit.{Edit}
 use Rattle.fib_resolve.specs.declared.types.Edit.TheVariants as edits
-use Rattle.fib_reach.proofs.Through.{or_cases, and_both}
+use Rattle.fib_list.proofs.Tests.{or_cases, and_both, or_right}
 use Rattle.fib_resolve.proofs.Apart.{put, each-fails, apart-push, apart-filter, apart-map, each-put, apart-put, each-without_place, some_place}
 use Rattle.fib_resolve.proofs.KeyOrder.{each-set_paths, sorted-set_paths, sorted-filter, length-set_paths}
 use Rattle.fib_resolve.proofs.Refused.{none_own, first_none}
@@ -310,11 +310,7 @@ fewer : (test : Path → Bool) (ps : List Path) → length (filter test ps) ≤ 
 fewer test ps = omega (arith, length-filter test ps, count_by-le-length test ps)
 
 abbrev is_small : Path → Bool
-is_small p = nat_lt (kind_rank p.kind) 2
-
-or_right : (x y : Bool) → y ≡ true → (x || y) ≡ true
-or_right true y h = refl
-or_right false y h = h
+is_small p = is_drop_or_local p.kind
 
 any_kept : (test : Path → Bool) (ps : List Path) → list_any is_small (filter test ps) ≡ true → list_any is_small ps ≡ true
 any_kept test [] h = h
@@ -407,3 +403,8 @@ sound_all S (e ∷ es) h k = sound_all (edited S e) es (sound_edit S most_object
 
 pub reachable_sound : (S : Tables) → IsReachable S → IsSound S
 reachable_sound S h = subst IsSound h.2 (sound_all fresh h.0 sound_fresh h.1)
+
+-- every address of sound tables has a length of at most 32
+pub short_addresses : (S : Tables) → IsSound S → All (λ a. a.len ≤ 32) S.addresses
+short_addresses S h =
+    All-from_recursion (λ a. a.len ≤ 32) S.addresses (each-weaker (IsSoundAddress (length S.interfaces)) (λ a. a.len ≤ 32) (λ a k. k.short) S.addresses h.addresses)

@@ -1,5 +1,5 @@
 -- More rounds than entries change nothing.
-use Rattle.std.proofs.Common.{arith, add-zero, add-suc, ◌-◌, ◌≡◌, ℕ, zero, suc, ◌+◌, ◌≤◌, Bool, true, false, not, ◌&&◌, ◌||◌, List, [], ◌∷◌, length, inl, inr, refl, sym, ◌∙◌, ap, subst}
+use Rattle.std.proofs.Common.{arith, add-zero, add-suc, ◌-◌, ◌≡◌, ℕ, zero, suc, ◌+◌, ◌≤◌, Bool, true, false, not, ◌&&◌, List, [], ◌∷◌, length, inl, inr, refl, sym, ◌∙◌, ap, subst}
 use mathlib.Core.Path.{fun_ext}
 use Rattle.std.specs.List.{list_any}
 use Rattle.std.specs.Set.{is_member}
@@ -15,7 +15,7 @@ use Rattle.fib_resolve.specs.declared.types.PathKind.TheVariants as kinds
 use Rattle.fib_resolve.specs.declared.types.Tables.{Tables}
 use Rattle.fib_reach.proofs.Rounds.{Agree, stable}
 use Rattle.fib_list.proofs.Lists.{either}
-use Rattle.fib_reach.proofs.Through.{or_cases}
+use Rattle.fib_list.proofs.Tests.{or_cases, or_right}
 use Rattle.fib_resolve.proofs.Entries.{chosen-no_entry}
 
 and_last : (x y z w : Bool) → (z ≡ true → w ≡ true) → (x && (y && z)) ≡ true → (x && (y && w)) ≡ true
@@ -37,12 +37,8 @@ list_any_more p q h [] k = k
 list_any_more p q h (x ∷ xs) k =
     elim (or_cases (p x) (list_any p xs) k) [
       | inl l ↦ rw (h x l) refl
-      | inr r ↦ or_true (q x) _ (list_any_more p q h xs r)
+      | inr r ↦ or_right (q x) _ (list_any_more p q h xs r)
     ]
-  where
-    or_true : (a b : Bool) → b ≡ true → (a || b) ≡ true
-    or_true true b e = refl
-    or_true false b e = e
 
 forwards_more : (S : Tables) (f g : Prefix → Bool) → ((e : Prefix) → f e ≡ true → g e ≡ true) → (e : Prefix) → forwards_by S f e ≡ true → forwards_by S g e ≡ true
 unfolding forwards_by

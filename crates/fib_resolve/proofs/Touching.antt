@@ -9,7 +9,7 @@ use Rattle.std.proofs.lemmas.Bool.{false≢true, cases_lt, lt-ltb, le-ltb}
 use Rattle.std.proofs.lemmas.Bool.Decides.{Decides-eqb}
 use Rattle.std.proofs.lemmas.Map.Views.{Contains-from_any}
 use Rattle.fib_list.proofs.Lists.{either}
-use Rattle.fib_reach.proofs.Through.{and_both}
+use Rattle.fib_list.proofs.Tests.{and_both}
 use Rattle.fib_addr.specs.Prefixes.{Prefix, host, same_prefix}
 use Rattle.fib_addr.proofs.PrefixLaws.{same_prefix-Decides}
 use Rattle.fib_resolve.specs.Keys.{source_rank, kind_rank, next_hop_of, interface_of, need_rank, same_path}
@@ -187,11 +187,15 @@ same_pairs_of : (S T : Tables) (e : Prefix) → untouched S T e → (same_pairs 
 unfolding is_touched
 same_pairs_of S T e h = not_either (same_pairs (pairs_of S e) (pairs_of T e)) (list_any (λ p. kind_changes S T e p.need p.kind) (chosen S e)) h
 
+-- where the test finds the pairs of both the same, each pair of one is one of the other
+pub same_pairs_members : (S T : Tables) (e : Prefix) (x : Pair) → same_pairs (pairs_of S e) (pairs_of T e) ≡ true → e ≡ x.prefix → Contains (pairs S) x ↔ Contains (pairs T) x
+same_pairs_members S T e x h p =
+    let both = and_both (list_all (is_member same_pair (pairs_of T e)) (pairs_of S e)) (list_all (is_member same_pair (pairs_of S e)) (pairs_of T e)) h in
+    (carried S T e both.0 x p, carried T S e both.1 x p)
+
 -- a prefix that isn't touched has the same pairs
 pub untouched_pairs : (S T : Tables) (e : Prefix) (x : Pair) → untouched S T e → e ≡ x.prefix → Contains (pairs S) x ↔ Contains (pairs T) x
-untouched_pairs S T e x h p =
-    let both = and_both (list_all (is_member same_pair (pairs_of T e)) (pairs_of S e)) (list_all (is_member same_pair (pairs_of S e)) (pairs_of T e)) (same_pairs_of S T e h).0 in
-    (carried S T e both.0 x p, carried T S e both.1 x p)
+untouched_pairs S T e x h p = same_pairs_members S T e x (same_pairs_of S T e h).0 p
 
 -- the best pair is one of the prefix, and no other has a better source
 pub record IsBest (e : Prefix) (xs : List Pair) (x : Pair) : Type 0 where
@@ -267,10 +271,13 @@ best_paths_same e xs ys one same (Some x) (Some y) h k =
     let down = h.least y ((same y k.own).1 k.member) k.own in
     one x y there k.member (sym h.own ∙ k.own) (source_by_rank x.source y.source (omega (arith, up, down)))
 
-pub untouched_chosen : (S T : Tables) (e : Prefix) → IsSound T → untouched S T e → chosen S e ≡ chosen T e
+pub same_pairs_chosen : (S T : Tables) (e : Prefix) → IsSound T → same_pairs (pairs_of S e) (pairs_of T e) ≡ true → chosen S e ≡ chosen T e
 unfolding chosen
-untouched_chosen S T e sound h =
-    best_paths_same e (pairs S) (pairs T) (one_list T sound) (λ x p. untouched_pairs S T e x h p) (best_pair e (pairs S)) (best_pair e (pairs T)) (best_of e (pairs S)) (best_of e (pairs T))
+same_pairs_chosen S T e sound h =
+    best_paths_same e (pairs S) (pairs T) (one_list T sound) (λ x p. same_pairs_members S T e x h p) (best_pair e (pairs S)) (best_pair e (pairs T)) (best_of e (pairs S)) (best_of e (pairs T))
+
+pub untouched_chosen : (S T : Tables) (e : Prefix) → IsSound T → untouched S T e → chosen S e ≡ chosen T e
+untouched_chosen S T e sound h = same_pairs_chosen S T e sound (same_pairs_of S T e h).0
 
 same_bits : (b c : Bool) → differ b c ≡ false → b ≡ c
 same_bits true true h = refl

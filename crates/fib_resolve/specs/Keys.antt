@@ -1,5 +1,5 @@
 -- The orders of sources and paths, as numbers, and tests of equality.
-use Rattle.std.specs.Prelude.{ℕ, Bool, ◌==◌, ◌&&◌}
+use Rattle.std.specs.Prelude.{ℕ, Bool, ◌==◌, ◌&&◌, nat_lt}
 use Rattle.std.specs.declared.cmp.Ordering.{Ordering}
 use Rattle.std.specs.Ordering.{is_lt, nat_cmp, ordering_then}
 use Rattle.fib_resolve.specs.declared.keys.Key.{Key}
@@ -24,6 +24,10 @@ source_rank sources.DefaultRoute = 6
 abbrev pub same_source : FibSource → FibSource → Bool
 same_source s t = source_rank s == source_rank t
 
+-- recursive resolution
+abbrev pub is_derived_source : FibSource → Bool
+is_derived_source s = source_rank s == 5
+
 abbrev pub kind_rank : PathKind → ℕ
 kind_rank kinds.Drop = 0
 kind_rank kinds.Local = 1
@@ -31,6 +35,10 @@ kind_rank (kinds.Attached i) = 2
 kind_rank (kinds.Hop a i) = 3
 kind_rank (kinds.Recursive a) = 4
 kind_rank kinds.Cover = 5
+
+-- Drop or Local: a list with such a path has no other
+abbrev pub is_drop_or_local : PathKind → Bool
+is_drop_or_local kind = nat_lt (kind_rank kind) 2
 
 -- an absent part counts as 0
 abbrev pub next_hop_of : PathKind → ℕ

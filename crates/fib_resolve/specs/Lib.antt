@@ -1,3 +1,4 @@
+pub mod Names
 pub mod Keys
 pub mod Pairs
 pub mod Loops
@@ -10,3 +11,4 @@ pub mod Edits
 pub mod Refusals
 pub mod Reachable
 pub mod Touched
+pub mod Aims

@@ -5,7 +5,7 @@ use Rattle.std.specs.Set.{unique_keys}
 use Rattle.std.specs.Cmp.Lexicographic.{pointwise}
 use Rattle.fib_addr.specs.Prefixes.{Prefix, same_prefix, masked, host, size_of}
 use Rattle.fib_addr.specs.Longest.{everything, longest}
-use Rattle.fib_resolve.specs.Keys.{source_rank, same_source, same_path}
+use Rattle.fib_resolve.specs.Keys.{source_rank, is_derived_source, same_source, same_path}
 use Rattle.fib_resolve.specs.declared.pairs.Pair.{Pair}
 use Rattle.fib_resolve.specs.declared.types.Path.{Path}
 use Rattle.fib_resolve.specs.declared.types.PathKind.{PathKind}
@@ -166,7 +166,7 @@ chosen S e = paths_of (best_pair e (pairs S))
 
 abbrev pub is_derived_pair : Option Pair → Bool
 is_derived_pair None = false
-is_derived_pair (Some x) = source_rank x.source == 5
+is_derived_pair (Some x) = is_derived_source x.source
 
 -- the best source is recursive resolution
 unfoldable pub is_derived : Tables → Prefix → Bool

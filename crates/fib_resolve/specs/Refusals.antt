@@ -89,20 +89,20 @@ unfoldable pub refused : Tables → ℕ → Edit → Option Refusal
 refused S room e = first_reason (reasons S e ++ when (nat_lt room (size (edited S e))) refusals.TooLarge ∷ [])
 
 -- the first refused edit of several, and why it is refused
-pub record Stop : Type 0 where
+pub record FirstRefused : Type 0 where
   pub place : ℕ
   pub refusal : Refusal
 
 -- what follows an edit that is refused so or not, at that place
-abbrev pub unless_refused : Option Refusal → ℕ → Result Tables Stop → Result Tables Stop
+abbrev pub unless_refused : Option Refusal → ℕ → Result Tables FirstRefused → Result Tables FirstRefused
 unless_refused None place more = more
 unless_refused (Some refusal) place more = Err (record { place = place; refusal = refusal })
 
 -- the edits from that place on, each on the tables that those before it give
-unfoldable pub edited_from : ℕ → Tables → ℕ → List Edit → Result Tables Stop
+unfoldable pub edited_from : ℕ → Tables → ℕ → List Edit → Result Tables FirstRefused
 edited_from place S room [] = Ok S
 edited_from place S room (e ∷ es) = unless_refused (refused S room e) place (edited_from (place + 1) (edited S e) room es)
 
 -- the tables after all of them, or the first that is refused
-abbrev pub edited_in_turn : Tables → ℕ → List Edit → Result Tables Stop
+abbrev pub edited_in_turn : Tables → ℕ → List Edit → Result Tables FirstRefused
 edited_in_turn S room es = edited_from 0 S room es

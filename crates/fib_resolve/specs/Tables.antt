@@ -2,7 +2,7 @@
 use Rattle.std.specs.Prelude.{◌≡◌, ◌≤◌, ◌<◌, ◌⊎◌, ℕ, Bool, true, false, ◌&&◌, ◌==◌, List, [], ◌∷◌, length, position, Contains, Option, bytes_eq, nat_lt, not}
 use Rattle.std.specs.List.{AllByRecursion, IsDistinct, list_any}
 use Rattle.fib_addr.specs.Prefixes.{Prefix, same_prefix, masked}
-use Rattle.fib_resolve.specs.Keys.{same_source, key_of, key_lt, kind_rank}
+use Rattle.fib_resolve.specs.Keys.{same_source, key_of, key_lt, is_drop_or_local}
 use Rattle.fib_resolve.specs.declared.types.Interface.{Interface}
 use Rattle.fib_resolve.specs.declared.types.Address.{Address}
 use Rattle.fib_resolve.specs.declared.types.Neighbor.{Neighbor}
@@ -48,7 +48,7 @@ connects_elsewhere a b = nat_lt b.len 32 && (not (b.interface == a.interface) &&
 
 -- a Drop or Local path beside another
 abbrev pub is_mixed : List Path → Bool
-is_mixed ps = nat_lt 1 (length ps) && list_any (λ p. nat_lt (kind_rank p.kind) 2) ps
+is_mixed ps = nat_lt 1 (length ps) && list_any (λ p. is_drop_or_local p.kind) ps
 
 -- each path's key is below those of all paths behind it
 abbrev pub IsSortedByKeys : List Path → Type 0

@@ -1,7 +1,6 @@
 // Copies that are equal to what they copy.
 ghost use Rattle.std.specs.Prelude.{◌≡◌, IfOk};
 
-use crate::names::Name;
 use crate::pairs::Pair;
 use crate::types::{Address, Interface, Neighbor, Path, Route, Tables};
 use fib_list::Duplicate;
@@ -22,13 +21,6 @@ impl Duplicate for Address {
 impl Duplicate for Neighbor {
     fn duplicate(&self, _alloc: Global) -> Result<Neighbor, AllocError> {
         Ok(*self)
-    }
-}
-
-impl Duplicate for Name {
-    fn duplicate(&self, alloc: Global) -> Result<Name, AllocError> {
-        let text = self.text().duplicate(alloc)?;
-        Ok(Name::from_text(text))
     }
 }
 

@@ -2,7 +2,7 @@
 
 ghost use Rattle.std.specs.Prelude.{◌≡◌, ℕ, ◌≤◌, ◌<◌};
 ghost use Rattle.std.specs.Ordering.{is_lt, nat_cmp, ordering_then};
-ghost use Rattle.fib_resolve.specs.Keys.{kind_rank, next_hop_of, interface_of, need_rank, source_rank, same_source, key_of, key_lt, same_key, same_path, key_cmp, path_cmp};
+ghost use Rattle.fib_resolve.specs.Keys.{kind_rank, next_hop_of, interface_of, need_rank, is_derived_source, is_drop_or_local, source_rank, same_source, key_of, key_lt, same_key, same_path, key_cmp, path_cmp};
 
 use crate::types::{FibSource, Need, Path, PathKind};
 use fib_addr::Addr;
@@ -31,6 +31,13 @@ impl PathKind {
             PathKind::Recursive(_) => 4,
             PathKind::Cover => 5,
         }
+    }
+
+    /// Whether it is Drop or Local: a list with such a path has no other.
+    pub fn is_drop_or_local(self) -> bool
+        ensures { result ≡ is_drop_or_local self }
+    {
+        self.rank() < 2
     }
 
     /// The next hop's number, or 0 where the kind has none.
@@ -82,6 +89,13 @@ impl FibSource {
             FibSource::RecursiveResolution => 5,
             FibSource::DefaultRoute => 6,
         }
+    }
+
+    /// Whether it is recursive resolution, the source of the entries that next hops make.
+    pub fn is_derived(self) -> bool
+        ensures { result ≡ is_derived_source self }
+    {
+        self.rank() == 5
     }
 }
 

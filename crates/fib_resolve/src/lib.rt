@@ -4,6 +4,7 @@
 //! sizes and touched prefixes. This crate has their types and their laws; `fib_plain` has a plain program beside each.
 #![tactic(auto)]
 
+mod aims;
 mod copies;
 pub mod keys;
 pub mod laws;
@@ -11,8 +12,9 @@ mod names;
 mod pairs;
 mod types;
 
+pub use aims::{Aim, Marked};
 pub use fib_list::{Duplicate, List};
-pub use names::Name;
+pub use names::{Name, starts_with_letter};
 pub use pairs::{Adjacency, Pair};
 pub use types::{
     Address, Edit, End, FibSource, Interface, Need, Neighbor, Path, PathKind, PathSpec, Refusal,

@@ -13,7 +13,7 @@ pub struct Pair {
 }
 
 /// The interface and the next hop of a Hop end, in the order of listings.
-#[derive(Clone, Copy, PartialEq, Eq, PartialOrd, Ord, Debug)]
+#[derive(Clone, Copy, PartialEq, Eq, PartialOrd, Ord, Debug, Hash)]
 pub struct Adjacency {
     pub interface: u32,
     pub next_hop: Addr,

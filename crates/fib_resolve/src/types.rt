@@ -8,7 +8,7 @@ use fib_list::List;
 use std::alloc::Global;
 
 /// Where an effective pair comes from. Of two sources of a prefix the earlier in this order is the better.
-#[derive(Clone, Copy, PartialEq, Eq, PartialOrd, Ord, Debug)]
+#[derive(Clone, Copy, PartialEq, Eq, PartialOrd, Ord, Debug, Hash)]
 pub enum FibSource {
     /// The prefixes that every table has dropped: 0.0.0.0/32, 224.0.0.0/4, 240.0.0.0/4 and 255.255.255.255/32.
     Special,
@@ -27,7 +27,7 @@ pub enum FibSource {
 }
 
 /// What a path does with a packet, in the order of kinds.
-#[derive(Clone, Copy, PartialEq, Eq, PartialOrd, Ord, Debug)]
+#[derive(Clone, Copy, PartialEq, Eq, PartialOrd, Ord, Debug, Hash)]
 pub enum PathKind {
     /// The packet is dropped. Such a path is never usable.
     Drop,
@@ -44,7 +44,7 @@ pub enum PathKind {
 }
 
 /// What a recursive path needs of the entry that it goes on at.
-#[derive(Clone, Copy, PartialEq, Eq, PartialOrd, Ord, Debug)]
+#[derive(Clone, Copy, PartialEq, Eq, PartialOrd, Ord, Debug, Hash)]
 pub enum Need {
     /// Nothing.
     Any,
@@ -56,7 +56,7 @@ pub enum Need {
 
 /// One path of a path-list, ordered by key, then weight, then preference. A path's key is its kind with what belongs to it, and its
 /// need: no list has a key twice.
-#[derive(Clone, Copy, PartialEq, Eq, PartialOrd, Ord, Debug)]
+#[derive(Clone, Copy, PartialEq, Eq, PartialOrd, Ord, Debug, Hash)]
 pub struct Path {
     pub kind: PathKind,
     /// Any, unless the kind is Recursive.

@@ -1,7 +1,7 @@
 // The rounds of a script.
 ghost use Rattle.std.specs.Prelude.{◌≡◌, ◌<◌, ◌≤◌, ◌+◌, ◌/◌, ◌^◌, ◌++◌, ℕ, List, length, drop, OnOk, OnErr, IfOk, IsErrOf};
 ghost use Rattle.fib_outside.specs.Outside.{HasRisen, Appends};
-ghost use Rattle.fib_words.specs.Words.{InRange};
+ghost use Rattle.fib_settings.specs.Ranges.{InRange};
 ghost use Rattle.fib_rounds.specs.Writes.{AppendsSome, Gains};
 ghost use Rattle.fib_rounds.specs.Output.{Output, FirstOutput};
 ghost use Rattle.fib_rounds.specs.Frozen.{frozen_output};
@@ -15,7 +15,7 @@ use fib_capture::Capture;
 use fib_commands::Script;
 use fib_outside::{Failed, Gate, Sink};
 use fib_turns::Router;
-use fib_words::Settings;
+use fib_settings::Settings;
 use std::alloc::{AllocError, Global};
 use std::sync::Wait;
 use std::thread::Threads;

@@ -4,7 +4,7 @@ use fib_addr::Addr;
 use fib_capture::{Capture, Packet};
 use fib_commands::Script;
 use fib_outside::{FreeGate, MemorySink};
-use fib_words::Settings;
+use fib_settings::Settings;
 use std::test::Fail;
 
 const SCRIPT: &[u8] =

@@ -1,7 +1,7 @@
 -- What a line does, and what it prints.
 use Rattle.std.specs.Prelude.{ℕ, ◌++◌, [], List, Option, Some, None, Result, Ok, Err, codes, slice_get, unwrap_or, if◌then◌else◌}
 use Rattle.fib_resolve.specs.Edits.{edited}
-use Rattle.fib_resolve.specs.Refusals.{refused, Stop, edited_in_turn}
+use Rattle.fib_resolve.specs.Refusals.{refused, FirstRefused, edited_in_turn}
 use Rattle.fib_resolve.specs.Resolution.{resolve}
 use Rattle.fib_resolve.specs.declared.types.Edit.{Edit}
 use Rattle.fib_resolve.specs.declared.types.Refusal.{Refusal}
@@ -56,15 +56,15 @@ abbrev pub line_at : Batch → ℕ → ℕ
 line_at b place = unwrap_or (slice_get b.lines place) 0
 
 -- all edits are made as one change, or the first that is refused is named and nothing changes
-abbrev pub by_stop : Router → Batch → Result Tables Stop → Turn
-by_stop r b (Ok tables) = (changed r tables, [])
-by_stop r b (Err stop) = refusal_turn (line_at b stop.place) r (refusal_text stop.refusal)
+abbrev pub by_first_refused : Router → Batch → Result Tables FirstRefused → Turn
+by_first_refused r b (Ok tables) = (changed r tables, [])
+by_first_refused r b (Err stop) = refusal_turn (line_at b stop.place) r (refusal_text stop.refusal)
 
 unfoldable pub commit_turn : ℕ → Router → Batch → Turn
 commit_turn n r b =
     if b.spoiled
     then refusal_turn n r (batch_text faults.Spoiled)
-    else by_stop r b (edited_in_turn r.config.tables r.config.room b.edits)
+    else by_first_refused r b (edited_in_turn r.config.tables r.config.room b.edits)
 
 -- a line that may not stand in a batch spoils it
 abbrev pub spoiling : ℕ → Router → Batch → List ℕ → Turn

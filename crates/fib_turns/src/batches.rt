@@ -4,7 +4,7 @@ ghost use Rattle.std.specs.List.{AllByRecursion};
 ghost use Rattle.fib_commands.specs.Lines.{IsWrittenLine};
 ghost use Rattle.fib_resolve.specs.Reachable.{IsWritten};
 ghost use Rattle.fib_turns.specs.Routers.{Fits, BatchFits, changed, refusing, with_batch, spoiled, with_edit};
-ghost use Rattle.fib_turns.specs.Turns.{line_at, by_stop, commit_turn, spoiling, within};
+ghost use Rattle.fib_turns.specs.Turns.{line_at, by_first_refused, commit_turn, spoiling, within};
 
 use crate::router::{Batch, Router};
 use fib_commands::Line;

@@ -5,7 +5,8 @@ use Rattle.clap.specs.Words.{App, Row, Rule, Text, first_of, matches_of, new_app
 use Rattle.clap.specs.Simple.{on_top}
 use Rattle.clap.specs.Walk.{is_empty}
 use Rattle.clap.specs.declared.builder.action.ArgAction.TheVariants.{Set}
-use Rattle.fib_words.specs.declared.types.Settings.{Settings}
+use Rattle.fib_settings.specs.Ranges.{InRange}
+use Rattle.fib_settings.specs.declared.sizes.Settings.{Settings}
 use Rattle.fib_words.specs.declared.types.Asked.{Asked}
 use Rattle.fib_words.specs.declared.types.Source.{Source}
 use Rattle.fib_words.specs.declared.types.Source.TheVariants.{Soak, Files}
@@ -95,15 +96,6 @@ origin_in (Files commands capture) = files commands.now (option_map (λ s. s.now
 
 abbrev pub asked_in : Asked → Settings × Origin
 asked_in a = (a.settings, origin_in a.source)
-
--- each size lies in its range
-pub record InRange (s : Settings) : Type 0 where
-  pub some_worker : 1 ≤ s.workers
-  pub few_workers : s.workers ≤ 8
-  pub enough_objects : 64 ≤ s.objects
-  pub objects_fit : s.objects ≤ 131072
-  pub even_objects : s.objects % 2 ≡ 0
-  pub short_walk : s.walk ≤ 65535
 
 -- the settings that accepted words ask for lie in their ranges
 abbrev pub AcceptedAreInRange : Type 0

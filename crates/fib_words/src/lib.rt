@@ -22,7 +22,7 @@ mod types;
 mod values;
 mod words;
 
-pub use types::{Asked, Settings, Source};
+pub use types::{Asked, Source};
 pub use words::read_words;
 
 #[cfg(test)]

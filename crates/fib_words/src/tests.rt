@@ -1,5 +1,6 @@
 // Command lines and what they ask for, written by hand.
 use super::*;
+use fib_settings::Settings;
 use std::alloc::{AllocError, Global};
 use std::test::Fail;
 

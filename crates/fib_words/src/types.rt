@@ -1,15 +1,6 @@
 // What the words ask for.
 
-/// The sizes of a run. Those that `read_words` gives lie in the ranges that stand here.
-#[derive(Clone, Copy, Debug, PartialEq, Eq)]
-pub struct Settings {
-    /// How many workers: 1 to 8.
-    pub workers: u32,
-    /// How many objects the forwarding tables may have: an even number, 64 to 131,072.
-    pub objects: u32,
-    /// How many turns a back-walk may take: 0 to 65,535.
-    pub walk: u32,
-}
+use fib_settings::Settings;
 
 /// Where the lines and the packets of a run come from.
 #[derive(Clone, Copy, Debug, PartialEq, Eq)]

@@ -4,9 +4,10 @@ ghost use Rattle.fib_addr.specs.Texts.{Reads};
 ghost use Rattle.clap.specs.Words.{found_of, first_of, rows_of};
 ghost use Rattle.fib_words.specs.Words.{number_or, objects_or, source_of, settings_of, asked_by, origin_in, asked_in};
 
-use crate::{Asked, Settings, Source};
+use crate::{Asked, Source};
 use clap::ArgMatches;
 use fib_addr::{BadText, read_number};
+use fib_settings::Settings;
 
 /// The value of this option or name.
 fn given<'a>(matches: &ArgMatches<'a>, id: &str) -> Option<&'a str>

@@ -1,5 +1,5 @@
 use Rattle.std.proofs.Common.{◌≡◌, drop}
-use Rattle.fib_lines.specs.Words.{words_of}
+use Rattle.fib_lines.specs.LineWords.{words_of}
 use Rattle.fib_lines.proofs.words.skip_blanks.Given as goal
 
 abbrev pub invariant-loop-i : goal.invariant-loop-i

@@ -1,10 +1,10 @@
 use Rattle.std.proofs.Common.{arith, ◌∙◌, sym, ap, length, map, List, false}
-use Rattle.fib_plain.specs.declared.leads.Lead.{Lead}
+use Rattle.fib_plain.specs.declared.facts.PathFacts.{PathFacts}
 use Rattle.fib_plain.proofs.Stability.{first_round-marks, round_makes, stable-marks, last-marks, length-rows_of}
 use Rattle.fib_plain.proofs.rounds.marks.Goals as goal
 
 pub loop-n-init : goal.loop-n-init
-loop-n-init c = c.in_ok-marks.ensures ∙ (ap (λ (rows : List (List Lead)). map (λ _. false) rows) c.requires ∙ first_round-marks c.args.tables.now)
+loop-n-init c = c.in_ok-marks.ensures ∙ (ap (λ (rows : List (List PathFacts)). map (λ _. false) rows) c.requires ∙ first_round-marks c.args.tables.now)
 
 pub returns-then-is_same : goal.returns-then-is_same
 returns-then-is_same c =

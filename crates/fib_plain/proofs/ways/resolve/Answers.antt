@@ -1,8 +1,8 @@
 use Rattle.std.proofs.Common.{◌+◌, ◌-◌, ◌∙◌, ap, subst, length}
 use Rattle.fib_addr.specs.Prefixes.{Prefix}
 use Rattle.fib_resolve.specs.Resolution.{follow}
-use Rattle.fib_plain.specs.Steps.{Steps}
-use Rattle.fib_plain.specs.declared.ways.Onward.{Onward}
+use Rattle.fib_plain.specs.Inner.Steps.{Steps}
+use Rattle.fib_plain.specs.declared.ways.NextStep.{NextStep}
 use Rattle.fib_plain.proofs.Following.{resolve_start, resolve_stop, resolve_end, resolve_on}
 use Rattle.fib_plain.proofs.ways.resolve.Goals as goal
 
@@ -15,12 +15,12 @@ loop-n-init c =
 pub loop-n-preserved : goal.loop-n-preserved
 loop-n-preserved c =
     let S = c.args.view.known.tables.now in
-    resolve_on S c.loop-n.e c.in-GoesOn.next c.loop-n.left c.loop-n._n _ _ c.loop-n-test.true c.loop-n.invariant (subst (λ (o : Onward). Steps S c.loop-n.e c.loop-n.left o) c.in-GoesOn.is c.in_ok-end.ensures)
+    resolve_on S c.loop-n.e c.in-GoesOn.next c.loop-n.left c.loop-n._n _ _ c.loop-n-test.true c.loop-n.invariant (subst (λ (o : NextStep). Steps S c.loop-n.e c.loop-n.left o) c.in-GoesOn.is c.in_ok-end.ensures)
 
 pub returns-in-Ends : goal.returns-in-Ends
 returns-in-Ends c =
     let S = c.args.view.known.tables.now in
-    resolve_end S c.loop-n.e c.loop-n.left c.loop-n._n _ c.in-Ends.end _ c.loop-n-test.true c.loop-n.invariant (subst (λ (o : Onward). Steps S c.loop-n.e c.loop-n.left o) c.in-Ends.is c.in_ok-end.ensures)
+    resolve_end S c.loop-n.e c.loop-n.left c.loop-n._n _ c.in-Ends.end _ c.loop-n-test.true c.loop-n.invariant (subst (λ (o : NextStep). Steps S c.loop-n.e c.loop-n.left o) c.in-Ends.is c.in_ok-end.ensures)
 
 pub returns : goal.returns
 returns c = resolve_stop c.args.view.known.tables.now c.loop-n.e c.loop-n.left c.loop-n._n _ _ c.loop-n-test.false c.loop-n.invariant

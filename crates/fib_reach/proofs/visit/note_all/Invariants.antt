@@ -1,6 +1,6 @@
 use Rattle.std.proofs.Common.{◌≢◌, ℕ, ◌<◌, length, get_or, vec_capacity}
 use Rattle.std.specs.Prelude.{Contains}
-use Rattle.fib_reach.specs.Visits.{IsVisit, GrowsFrom}
+use Rattle.fib_reach.specs.Inner.Visits.{IsVisit, GrowsFrom}
 use Rattle.fib_reach.proofs.visit.note_all.Given as goal
 
 abbrev pub invariant-loop-target : goal.invariant-loop-target

@@ -1,6 +1,6 @@
 use Rattle.std.proofs.Common.{◌≤◌, ◌-◌, length, vec_capacity}
 use Rattle.fib_reach.specs.Graphs.{Edge}
-use Rattle.fib_reach.specs.Visits.{IsVisit}
+use Rattle.fib_reach.specs.Inner.Visits.{IsVisit}
 use Rattle.fib_reach.proofs.Searched.{Searched}
 use Rattle.fib_reach.proofs.visit.search.Given as goal
 

@@ -1,6 +1,7 @@
+use Rattle.std.proofs.Common.{subst, sym}
 use Rattle.std.specs.BTreeSet.{contains}
-use Rattle.fib_cover.specs.Covers.{prefix_cmp}
-use Rattle.fib_cover.proofs.Order.{not_iff, contains_iff, inserted_iff}
+use Rattle.fib_cover.specs.Covers.{prefix_cmp, ArePrefixes}
+use Rattle.fib_cover.proofs.Order.{not_iff, contains_iff, inserted_iff, prefixes_inserted}
 use Rattle.fib_cover.proofs.set.PrefixSet.insert.Goals as goal
 
 pub returns-clause-changed : goal.returns-clause-changed
@@ -9,3 +10,9 @@ returns-clause-changed c =
 
 pub returns-clause-members : goal.returns-clause-members
 returns-clause-members c = rw (← c.self.view_is) (inserted_iff c.self.inside.members c.insert.new.self c.args.prefix c.in_ok-added.ensures.updates.0)
+
+pub invariant_of-self : goal.invariant_of-self
+invariant_of-self c = subst ArePrefixes (sym c.in_err-added.ensures.err) c.self.invariant
+
+pub invariant_of-self-2 : goal.invariant_of-self-2
+invariant_of-self-2 c = prefixes_inserted c.self.inside.members c.insert.new.self c.args.prefix c.in_ok-added.ensures.updates.0 c.len-length.ensures.prefix c.self.invariant

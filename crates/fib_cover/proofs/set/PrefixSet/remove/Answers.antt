@@ -1,4 +1,4 @@
-use Rattle.fib_cover.proofs.Order.{contains_iff, removed_iff}
+use Rattle.fib_cover.proofs.Order.{contains_iff, removed_iff, prefixes_removed}
 use Rattle.fib_cover.proofs.set.PrefixSet.remove.Goals as goal
 
 pub returns-clause-changed : goal.returns-clause-changed
@@ -6,3 +6,6 @@ returns-clause-changed c = rw (c.remove.ensures.test, ← c.self.view_is) (conta
 
 pub returns-clause-members : goal.returns-clause-members
 returns-clause-members c = rw (← c.self.view_is) (removed_iff c.self.inside.members c.remove.new.self c.args.prefix c.remove.ensures.updates.0)
+
+pub invariant_of-self : goal.invariant_of-self
+invariant_of-self c = prefixes_removed c.self.inside.members c.remove.new.self c.args.prefix c.remove.ensures.updates.0 c.self.invariant

@@ -1,5 +1,5 @@
 use Rattle.std.proofs.Common.{◌≡◌, ◌+◌, ◌≤◌, length}
-use Rattle.fib_lines.specs.Words.{words_of}
+use Rattle.fib_lines.specs.LineWords.{words_of}
 use Rattle.fib_lines.proofs.words.Words.count.Given as goal
 
 abbrev pub invariant-loop-after : goal.invariant-loop-after

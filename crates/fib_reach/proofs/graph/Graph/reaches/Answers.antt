@@ -1,5 +1,5 @@
 use Rattle.std.proofs.Common.{ℕ, List, subst, sym}
-use Rattle.fib_reach.specs.Visits.{IsClosed}
+use Rattle.fib_reach.specs.Graphs.{IsClosed}
 use Rattle.fib_reach.proofs.graph.Graph.reaches.Goals as goal
 
 pub search-requires-clause-closed : goal.search-requires-clause-closed

@@ -1,0 +1,12 @@
+pub mod Walks
+pub mod SamePairs
+pub mod CauseLaws
+pub mod Covers
+pub mod Edits
+pub mod Addresses
+pub mod EveryEdit
+pub mod Targets
+pub mod Ranking
+pub mod Cycles
+pub mod EditLaws
+pub mod Prefixed

@@ -1,0 +1,4 @@
+pub mod Sources
+pub mod Causes
+pub mod Affected
+pub mod Ranks

@@ -1,0 +1,4 @@
+pub mod Books
+pub mod Finding
+pub mod Moving
+pub mod Rows

@@ -1,0 +1,7 @@
+use Rattle.std.proofs.Common.{◌≡◌, take}
+use Rattle.std.specs.Prelude.{flat_map}
+use Rattle.fib_plain.specs.Inner.Exits.{exits_of}
+use Rattle.fib_plain.proofs.possible.exits.Given as goal
+
+abbrev pub invariant-loop-e : goal.invariant-loop-e
+invariant-loop-e l = l.out.items ≡ flat_map (exits_of l.view.known.tables.now) (take l.e-index l.view.known.entries.now)

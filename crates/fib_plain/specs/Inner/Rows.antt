@@ -1,0 +1,74 @@
+-- What is known of the entries by their numbers.
+use Rattle.std.specs.Prelude.{◌≡◌, ◌<◌, ◌^◌, ◌&&◌, ℕ, Bool, true, false, List, map, filter_map, position, length, slice_get, Option, Some, None, option_and_then}
+use Rattle.std.specs.Set.{is_member}
+use Rattle.fib_addr.specs.Prefixes.{Prefix, host, same_prefix}
+use Rattle.fib_resolve.specs.Pairs.{pairs, entries, chosen, cover, best_pair, short_prefixes}
+use Rattle.fib_resolve.specs.Loops.{looped_kind}
+use Rattle.fib_resolve.specs.Forwarding.{usable_by}
+use Rattle.fib_resolve.specs.Tables.{IsSound}
+use Rattle.fib_resolve.specs.declared.types.Path.{Path}
+use Rattle.fib_resolve.specs.declared.types.PathKind.{PathKind}
+use Rattle.fib_resolve.specs.declared.types.PathKind.TheVariants as kinds
+use Rattle.fib_resolve.specs.declared.types.Tables.{Tables}
+use Rattle.fib_plain.specs.declared.known.Known.{Known}
+use Rattle.fib_plain.specs.declared.facts.PathFacts.{PathFacts}
+use Rattle.fib_plain.specs.Inner.Places.{pair_at}
+
+-- the number of an entry
+unfoldable pub number_in : Tables → Prefix → Option ℕ
+number_in S p = position (same_prefix p) (entries S)
+
+-- the entry to which a path leads
+abbrev pub goal_of : Tables → Prefix → PathKind → Option Prefix
+goal_of S e (kinds.Recursive a) = Some (host a)
+goal_of S e kinds.Cover = Some (cover S e.bits)
+goal_of S e kinds.Drop = None
+goal_of S e kinds.Local = None
+goal_of S e (kinds.Attached i) = None
+goal_of S e (kinds.Hop a i) = None
+
+-- the number of the entry to which a path leads
+unfoldable pub goal_number : Tables → Prefix → PathKind → Option ℕ
+goal_number S e kind = option_and_then (number_in S) (goal_of S e kind)
+
+-- the numbers of the entries to which an entry has an edge
+unfoldable pub next_numbers : Tables → Prefix → List ℕ
+next_numbers S e = filter_map (λ p. goal_number S e p.kind) (chosen S e)
+
+-- the edges as a graph over the entries' numbers
+unfoldable pub graph_of : Tables → List (List ℕ)
+graph_of S = map (next_numbers S) (entries S)
+
+abbrev pub is_entry : Tables → Prefix → Bool
+is_entry S p = is_member same_prefix (entries S) p
+
+-- what is known of a path of an entry: ready where it is usable if its target forwards
+unfoldable pub facts_of_path : Tables → Prefix → Path → PathFacts
+facts_of_path S e p = record { target = goal_number S e p.kind; looped = looped_kind S e p.kind; ready = usable_by S (is_entry S) e p }
+
+unfoldable pub facts_of : Tables → Prefix → List PathFacts
+facts_of S e = map (facts_of_path S e) (chosen S e)
+
+unfoldable pub rows_of : Tables → List (List PathFacts)
+rows_of S = map (facts_of S) (entries S)
+
+abbrev pub marked : Option Bool → Bool
+marked None = false
+marked (Some b) = b
+
+abbrev pub target_marked : List Bool → Option ℕ → Bool
+target_marked marks None = true
+target_marked marks (Some t) = marked (slice_get marks t)
+
+-- the path is usable where the marks say which entries forward
+abbrev pub usable_now : List Bool → PathFacts → Bool
+usable_now marks x = x.ready && target_marked marks x.target
+
+-- what is kept beside tables is what they mean
+pub record IsKnown (k : Known) : Type 0 where
+  pub sound : IsSound k.tables.now
+  pub short_are : k.short.now ≡ short_prefixes k.tables.now
+  pub pairs_are : k.pairs.now ≡ pairs k.tables.now
+  pub entries_are : k.entries.now ≡ entries k.tables.now
+  pub few : length k.entries.now < 2 ^ 32
+  pub best_are : map (pair_at k.pairs.now) k.best.now ≡ map (λ e. best_pair e (pairs k.tables.now)) (entries k.tables.now)

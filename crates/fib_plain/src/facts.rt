@@ -1,0 +1,140 @@
+// What is known of each path of each entry.
+ghost use Rattle.std.specs.Prelude.{◌≡◌, ◌<◌, ℕ, Some, IfOk, map, take, length};
+ghost use Rattle.fib_resolve.specs.Pairs.{chosen, is_derived};
+ghost use Rattle.fib_resolve.specs.Loops.{looped_kind};
+ghost use Rattle.fib_resolve.specs.Forwarding.{is_up, up_of, kind_ends, is_attached_list, is_met, usable_by};
+ghost use Rattle.fib_plain.specs.Inner.Rows.{IsKnown, number_in, goal_number, graph_of, is_entry, facts_of_path, facts_of, rows_of};
+
+use crate::known::{self, Known};
+use crate::loops;
+use fib_addr::{Addr, Prefix};
+use fib_list::List;
+use fib_reach::Graph;
+use fib_resolve::{Need, Path, PathKind, Tables};
+use std::alloc::{AllocError, Global};
+
+/// What is known of a path of a chosen list.
+#[derive(Clone, Copy)]
+pub struct PathFacts {
+    /// The number of the entry to which it leads.
+    pub target: Option<u32>,
+    /// Whether it is looped.
+    pub looped: bool,
+    /// Whether it is usable if its target, where it has one, forwards.
+    pub ready: bool,
+}
+
+/// Whether the interface is there and up.
+pub fn is_up(tables: &Tables, i: u32) -> bool
+    ensures { result ≡ is_up tables.now i }
+{
+    match tables.interfaces.as_slice().get(i as usize) {
+        Some(interface) => interface.up,
+        None => false,
+    }
+}
+
+fn is_attached_list(paths: &[Path]) -> bool
+    ensures { result ≡ is_attached_list paths.now }
+{
+    match paths {
+        [only] => matches!(only.kind, PathKind::Attached(_) | PathKind::Hop { .. }),
+        _ => false,
+    }
+}
+
+/// Whether the need of a path with that next hop is met.
+pub fn is_met(known: Known<'_>, need: Need, a: Addr) -> bool
+    requires { IsKnown known }
+    ensures { result ≡ is_met known.entry.tables.now need a }
+{
+    match need {
+        Need::Any => true,
+        Need::Host => !known::is_derived(known, Prefix::host(a)),
+        Need::Attached => is_attached_list(known::chosen(known, Prefix::host(a))),
+    }
+}
+
+/// Whether the path is usable if its target forwards.
+#[tactic(auto, using(crate::proofs::Leading::ready_recursive, crate::proofs::Leading::ready_cover))]
+fn is_ready(known: Known<'_>, e: Prefix, p: &Path, looped: bool, target: Option<u32>) -> bool
+    requires known { IsKnown known }
+    requires looped { looped ≡ looped_kind known.tables.now e p.now.kind }
+    requires target { target ≡ goal_number known.tables.now e p.now.kind }
+    ensures { result ≡ usable_by known.entry.tables.now (is_entry known.entry.tables.now) e p.now }
+{
+    match p.kind {
+        PathKind::Drop => false,
+        PathKind::Local => true,
+        PathKind::Attached(i) => is_up(known.tables, i),
+        PathKind::Hop { interface, .. } => is_up(known.tables, interface),
+        PathKind::Recursive(a) => !looped && (is_met(known, p.need, a) && target.is_some()),
+        PathKind::Cover => target.is_some(),
+    }
+}
+
+fn is_looped(graph: &mut Graph, known: Known<'_>, e: Prefix, number: u32, kind: PathKind) -> bool
+    requires known { IsKnown known }
+    requires graph { graph.old ≡ graph_of known.tables.now }
+    requires number { number_in known.tables.now e ≡ Some number }
+    ensures unchanged { graph.new ≡ graph.old }
+    ensures value { result ≡ looped_kind known.entry.tables.now e kind }
+{
+    match kind {
+        PathKind::Recursive(a) => loops::is_looped(graph, known, e, number, a),
+        _ => false,
+    }
+}
+
+#[tactic(auto, unfolding(crate::specs::Inner::Rows::facts_of_path))]
+fn facts_for(graph: &mut Graph, known: Known<'_>, e: Prefix, number: u32, p: &Path) -> PathFacts
+    requires known { IsKnown known }
+    requires graph { graph.old ≡ graph_of known.tables.now }
+    requires number { number_in known.tables.now e ≡ Some number }
+    ensures unchanged { graph.new ≡ graph.old }
+    ensures value { result ≡ facts_of_path known.entry.tables.now e p.now }
+{
+    let target = loops::goal_number(known, e, p.kind);
+    let looped = is_looped(graph, known, e, number, p.kind);
+    let ready = is_ready(known, e, p, looped, target);
+    PathFacts {
+        target,
+        looped,
+        ready,
+    }
+}
+
+#[tactic(auto, unfolding(crate::specs::Inner::Rows::facts_of))]
+fn row(
+    alloc: Global,
+    graph: &mut Graph,
+    known: Known<'_>,
+    e: Prefix,
+    number: u32,
+) -> Result<List<PathFacts>, AllocError>
+    requires known { IsKnown known }
+    requires graph { graph.old ≡ graph_of known.tables.now }
+    requires number { number_in known.tables.now e ≡ Some number }
+    ensures unchanged { graph.new ≡ graph.old }
+    ensures value { IfOk result (λ row. row ≡ facts_of known.entry.tables.now e) }
+{
+    let mut out = List::new(alloc);
+    for p in known::chosen(known, e) {
+        out.push(facts_for(graph, known, e, number, p))?;
+    }
+    Ok(out)
+}
+
+/// What is known of the paths of each entry. Each edge is searched once.
+#[tactic(auto, unfolding(crate::specs::Inner::Rows::rows_of))]
+pub fn rows(alloc: Global, known: Known<'_>) -> Result<Vec<List<PathFacts>>, AllocError>
+    requires { IsKnown known }
+    ensures { IfOk result (λ v. v.items ≡ rows_of known.entry.tables.now) }
+{
+    let mut graph = loops::graph(alloc, known)?;
+    let mut out = Vec::new(alloc);
+    for (i, e) in known.entries.iter().enumerate() {
+        out.push(row(alloc, &mut graph, known, *e, i as u32)?)?;
+    }
+    Ok(out)
+}
