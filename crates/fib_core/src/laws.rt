@@ -5,8 +5,7 @@ ghost use Rattle.fib_union.specs.Marks.{fresh};
 ghost use Rattle.fib_union.specs.Unions as edges;
 ghost use Rattle.fib_core.specs.Words.{goes, target};
 ghost use Rattle.fib_core.specs.Walk.{Arrives, root, walk};
-ghost use Rattle.fib_core.specs.Union.{AreEdges, Edge, Union, Usable};
-ghost use Rattle.fib_core.specs.Union.{edge_in, edges_of, must_retire, scanned, stored};
+ghost use Rattle.fib_core.specs.Union.{AreEdges, Edge, Union, Usable, edge_in, edges_of, must_retire, scanned, stored};
 ghost use Rattle.fib_core.specs.Trails.{Load, Walked, visited};
 
 /// A pass of worker n with the pass word p, each edge of which is current or a retired copy that it may still use,

@@ -39,7 +39,8 @@ use Rattle.fib_core.proofs.Numbers.{decoded-zero, cell_of}
 use Rattle.fib_stands.proofs.Listed.{at_bucket, adjacency_listed, first_in}
 use Rattle.fib_stands.proofs.Balances.{adjacency_says, low16}
 use Rattle.fib_stands.proofs.Nibbles.{ply_root, covering_best, no_longer}
-use Rattle.fib_steady.specs.Aims.{Aim, path_aim, kind_aim, aim}
+use Rattle.fib_resolve.specs.declared.aims.Aim.{Aim}
+use Rattle.fib_resolve.specs.Aims.{path_aim, kind_aim, aim}
 use Rattle.fib_steady.specs.Names.{Names, IsChild, IsWalked}
 use Rattle.fib_steady.specs.Promise.{IsEndWord, IsAimed, IsRight, KeepsBuckets, IsPromised}
 use Rattle.fib_steady.proofs.Ways.{Leads, leads, best_is_entry}

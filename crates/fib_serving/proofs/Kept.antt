@@ -7,7 +7,7 @@ use Rattle.std.proofs.lemmas.Bool.{false≢true}
 use Rattle.std.proofs.lemmas.Bool.Decides.{Decides-eqb}
 use Rattle.std.proofs.lemmas.Map.Views.{list_any-from_Contains}
 use Rattle.fib_list.proofs.Lists.{either}
-use Rattle.fib_reach.proofs.Through.{and_both}
+use Rattle.fib_list.proofs.Tests.{and_both}
 use Rattle.fib_addr.specs.Prefixes.{Prefix, same_prefix}
 use Rattle.fib_addr.proofs.PrefixLaws.{same_prefix-Decides, same_prefix_equiv}
 use Rattle.fib_resolve.specs.Pairs.{entries}
@@ -19,7 +19,10 @@ use Rattle.fib_core.specs.declared.word.Word.{Word}
 use Rattle.fib_union.specs.Unions.{owner}
 use Rattle.fib_core.specs.Walk.{word_at}
 use Rattle.fib_core.proofs.Numbers.{owner_of}
-use Rattle.fib_steady.specs.Aims.{Aim, ends, on, aim, IsLasting, WantsAlike}
+use Rattle.fib_resolve.specs.declared.aims.Aim.{Aim}
+use Rattle.fib_resolve.specs.declared.aims.Aim.TheVariants as aims
+use Rattle.fib_resolve.specs.Aims.{aim}
+use Rattle.fib_steady.specs.Aims.{IsLasting, WantsAlike}
 use Rattle.fib_steady.specs.Loose.{IsLoose}
 use Rattle.fib_serving.specs.Kept.{same_end, same_aim, wants_that, has_object, is_kept, keeps_by}
 
@@ -37,8 +40,8 @@ end_self (answers.Glean i) = self i
 end_self (answers.Hop i a m) = rw (self i, self a, mac_self m) refl
 
 aim_self : (m : Aim) → same_aim m m ≡ true
-aim_self (ends e) = end_self e
-aim_self (on t) = (same_prefix-Decides t t).1 refl
+aim_self (aims.Ends e) = end_self e
+aim_self (aims.On t) = (same_prefix-Decides t t).1 refl
 
 -- all versions want it: then the test finds it
 all_pass : {X : Type 0} (test : X → Bool) (xs : List X) → ((x : X) → Contains xs x → test x ≡ true) → list_all test xs ≡ true

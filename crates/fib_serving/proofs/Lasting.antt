@@ -7,7 +7,9 @@ use Rattle.fib_core.specs.declared.word.Word.{Word}
 use Rattle.fib_core.specs.declared.word.Word.TheVariants as words
 use Rattle.fib_core.specs.Walk.{word_at}
 use Rattle.fib_core.specs.Union.{Union}
-use Rattle.fib_steady.specs.Aims.{Aim, ends, on, IsLasting, WantsAlike}
+use Rattle.fib_resolve.specs.declared.aims.Aim.{Aim}
+use Rattle.fib_resolve.specs.declared.aims.Aim.TheVariants as aims
+use Rattle.fib_steady.specs.Aims.{IsLasting, WantsAlike}
 use Rattle.fib_steady.specs.Names.{Names}
 use Rattle.fib_steady.specs.Promise.{IsAimed, IsRight, IsPromised}
 use Rattle.fib_serving.specs.Matches.{FitsVersions, added, removed}
@@ -20,8 +22,8 @@ with_balances n balances = record { depth = n.depth; value = n.value; balance = 
 
 module _ (J : List Tables) (n : Names) (balances : Prefix → Option ℕ) (same : (e : Prefix) → IsLasting J e → balances e ≡ n.balance e) (u : Union) where
   aimed_too : (e : Prefix) (k : ℕ) (m : Aim) (w : Word) → WantsAlike J e k m → IsAimed n.balance u.cells m w → IsAimed balances u.cells m w
-  aimed_too e k (ends end) w alike is = is
-  aimed_too e k (on t) w alike is = (is.0, is.1, same t (λ S c. bucket_on S e t k (alike S c)) ∙ is.2)
+  aimed_too e k (aims.Ends end) w alike is = is
+  aimed_too e k (aims.On t) w alike is = (is.0, is.1, same t (λ S c. bucket_on S e t k (alike S c)) ∙ is.2)
 
   right_too : (x s : ℕ) (w : Word) → IsRight J n x s w → IsRight J (with_balances n balances) x s w
   right_too x s (words.ToPly c) ok = ok

@@ -27,8 +27,13 @@ use Rattle.fib_resolve.specs.declared.types.End.TheVariants as answers
 use Rattle.fib_resolve.specs.declared.types.Tables.{Tables}
 use Rattle.fib_resolve.proofs.Touching.{untouched_chosen, untouched_pairs}
 use Rattle.fib_resolve.proofs.Entries.{is_entry}
-use Rattle.fib_steady.specs.Aims.{Aim, ends, on, kind_aim, path_aim, aim}
-use Rattle.fib_serving.specs.Marks.{Mark, is_open, mark, marked, leads, is_usable, least, of_least, spread_marks, aim_of, aim_by}
+use Rattle.fib_resolve.specs.declared.aims.Aim.{Aim}
+use Rattle.fib_resolve.specs.declared.aims.Aim.TheVariants as aims
+use Rattle.fib_resolve.specs.Aims.{kind_aim, path_aim, aim}
+use Rattle.fib_resolve.specs.declared.aims.Marked.{Marked}
+use Rattle.fib_resolve.specs.Aims.{kind_counts, marked, marked_list}
+use Rattle.fib_changes.specs.Ranks.{leads_on, is_usable_mark}
+use Rattle.fib_serving.specs.Marks.{least, of_least, spread_marks, aim_of, aim_by}
 
 -- lists under a map
 
@@ -64,17 +69,17 @@ map_map f g h same (x ∷ xs) = ap (λ y. y ∷ map g (map f xs)) (same x) ∙ a
 -- the bucket rule sees weights and preferences alone
 
 module _ (S : Tables) (e : Prefix) where
-  least_same : (n : ℕ) (ps : List Path) → fold (λ m p. min m p.preference) n ps ≡ fold (λ m q. min m q.preference) n (map (mark S e) ps)
+  least_same : (n : ℕ) (ps : List Path) → fold (λ m p. min m p.preference) n ps ≡ fold (λ m q. min m q.preference) n (map (marked S e) ps)
   least_same n [] = refl
   least_same n (p ∷ ps) = least_same (min n p.preference) ps
 
-  of_least_same : (ps : List Path) → map (mark S e) (of_least_preference ps) ≡ of_least (map (mark S e) ps)
-  of_least_same ps = map_filter (mark S e) (λ p. p.preference == least_preference ps) (λ m. m.preference == least (map (mark S e) ps)) (λ p. ap (λ (n : ℕ). p.preference == n) (least_same 255 ps)) ps
+  of_least_same : (ps : List Path) → map (marked S e) (of_least_preference ps) ≡ of_least (map (marked S e) ps)
+  of_least_same ps = map_filter (marked S e) (λ p. p.preference == least_preference ps) (λ m. m.preference == least (map (marked S e) ps)) (λ p. ap (λ (n : ℕ). p.preference == n) (least_same 255 ps)) ps
 
-  spread_same : (ps : List Path) → map (mark S e) (spread ps) ≡ spread_marks (map (mark S e) ps)
+  spread_same : (ps : List Path) → map (marked S e) (spread ps) ≡ spread_marks (map (marked S e) ps)
   spread_same ps =
-      map_places (mark S e) ps (buckets (map (λ p. p.weight) ps))
-      ∙ ap (λ ws. flat_map (λ j. option_to_list (slice_get (map (mark S e) ps) j)) (buckets ws)) (sym (map_map (mark S e) (λ m. m.weight) (λ p. p.weight) (λ p. refl) ps))
+      map_places (marked S e) ps (buckets (map (λ p. p.weight) ps))
+      ∙ ap (λ ws. flat_map (λ j. option_to_list (slice_get (map (marked S e) ps) j)) (buckets ws)) (sym (map_map (marked S e) (λ m. m.weight) (λ p. p.weight) (λ p. refl) ps))
 
   assoc : (a b c : Bool) → a && (b && c) ≡ (a && b) && c
   assoc true b c = refl
@@ -84,7 +89,7 @@ module _ (S : Tables) (e : Prefix) where
   both_true true = refl
   both_true false = refl
 
-  usable_same : (f : Prefix → Bool) (need : Need) (kind : PathKind) → usable_kind S f e need kind ≡ is_open S e need kind && leads f (kind_aim S e kind)
+  usable_same : (f : Prefix → Bool) (need : Need) (kind : PathKind) → usable_kind S f e need kind ≡ kind_counts S e need kind && leads_on f (kind_aim S e kind)
   usable_same f need kinds.Drop = refl
   usable_same f need kinds.Local = refl
   usable_same f need (kinds.Attached i) = both_true (is_up S i)
@@ -92,23 +97,23 @@ module _ (S : Tables) (e : Prefix) where
   usable_same f need (kinds.Recursive a) = assoc (not (looped S e a)) (is_met S need a) (f (host a))
   usable_same f need kinds.Cover = refl
 
-  path_same : (o : Option Path) → path_aim S e o ≡ aim_of (option_map (mark S e) o)
+  path_same : (o : Option Path) → path_aim S e o ≡ aim_of (option_map (marked S e) o)
   path_same None = refl
   path_same (Some p) = refl
 
-  wanted_same : map (mark S e) (wanted S e) ≡ spread_marks (of_least (filter (is_usable (forwards S)) (marked S e)))
-  unfolding wanted used marked usable
+  wanted_same : map (marked S e) (wanted S e) ≡ spread_marks (of_least (filter (is_usable_mark (forwards S)) (marked_list S e)))
+  unfolding wanted used marked_list usable
   wanted_same =
       spread_same (of_least_preference (filter (usable S e) (chosen S e)))
-      ∙ ap spread_marks (of_least_same (filter (usable S e) (chosen S e)) ∙ ap of_least (map_filter (mark S e) (usable S e) (is_usable (forwards S)) (λ p. usable_same (forwards S) p.need p.kind) (chosen S e)))
+      ∙ ap spread_marks (of_least_same (filter (usable S e) (chosen S e)) ∙ ap of_least (map_filter (marked S e) (usable S e) (is_usable_mark (forwards S)) (λ p. usable_same (forwards S) p.need p.kind) (chosen S e)))
 
   -- what the tables want of a bucket, by the marked list and by which entries forward
-  pub aim_is : (k : ℕ) → aim S e k ≡ aim_by (forwards S) (marked S e) k
+  pub aim_is : (k : ℕ) → aim S e k ≡ aim_by (forwards S) (marked_list S e) k
   unfolding aim aim_by
   aim_is k =
       path_same (slice_get (wanted S e) k)
-      ∙ ap aim_of (sym (slice_get-map (mark S e) (wanted S e) k))
-      ∙ ap (λ (ms : List Mark). aim_of (slice_get ms k)) wanted_same
+      ∙ ap aim_of (sym (slice_get-map (marked S e) (wanted S e) k))
+      ∙ ap (λ (ms : List Marked). aim_of (slice_get ms k)) wanted_same
 
 -- a prefix that isn't touched keeps its marked list
 
@@ -152,34 +157,34 @@ attached_same : (S T : Tables) (e : Prefix) (i : ℕ) (b : Bool) → (b && other
 attached_same S T e i true h = hop_same S T i e.bits h
 attached_same S T e i false h = refl
 
-mark_with : Aim → Bool → Path → Mark
+mark_with : Aim → Bool → Path → Marked
 mark_with m b p = record { aim = m; counts = b; weight = p.weight; preference = p.preference }
 
-kind_keeps : (S T : Tables) (e : Prefix) (p : Path) (kind : PathKind) → kind_changes S T e p.need kind ≡ false → mark_with (kind_aim S e kind) (is_open S e p.need kind) p ≡ mark_with (kind_aim T e kind) (is_open T e p.need kind) p
+kind_keeps : (S T : Tables) (e : Prefix) (p : Path) (kind : PathKind) → kind_changes S T e p.need kind ≡ false → mark_with (kind_aim S e kind) (kind_counts S e p.need kind) p ≡ mark_with (kind_aim T e kind) (kind_counts T e p.need kind) p
 unfolding mark_with
 kind_keeps S T e p kinds.Drop h = refl
 kind_keeps S T e p kinds.Local h = refl
 kind_keeps S T e p (kinds.Attached i) h =
     let both = neither (other_flag S T i) ((e.len == 32) && other_mac S T i e.bits) h in
-    ap (λ (end : End). mark_with (ends end) (is_up S i) p) (attached_same S T e i (e.len == 32) both.1) ∙ ap (λ b. mark_with (ends (attached_end T e i)) b p) (same_bits (is_up S i) (is_up T i) both.0)
+    ap (λ (end : End). mark_with (aims.Ends end) (is_up S i) p) (attached_same S T e i (e.len == 32) both.1) ∙ ap (λ b. mark_with (aims.Ends (attached_end T e i)) b p) (same_bits (is_up S i) (is_up T i) both.0)
 kind_keeps S T e p (kinds.Hop a i) h =
     let both = neither (other_flag S T i) (other_mac S T i a) h in
-    ap (λ (end : End). mark_with (ends end) (is_up S i) p) (hop_same S T i a both.1) ∙ ap (λ b. mark_with (ends (hop_end T i a)) b p) (same_bits (is_up S i) (is_up T i) both.0)
+    ap (λ (end : End). mark_with (aims.Ends end) (is_up S i) p) (hop_same S T i a both.1) ∙ ap (λ b. mark_with (aims.Ends (hop_end T i a)) b p) (same_bits (is_up S i) (is_up T i) both.0)
 kind_keeps S T e p (kinds.Recursive a) h =
     let both = neither (differ (looped S e a) (looped T e a)) (differ (is_met S p.need a) (is_met T p.need a)) h in
-    ap (λ b. mark_with (on (host a)) (not b && is_met S p.need a) p) (same_bits (looped S e a) (looped T e a) both.0) ∙ ap (λ b. mark_with (on (host a)) (not (looped T e a) && b) p) (same_bits (is_met S p.need a) (is_met T p.need a) both.1)
+    ap (λ b. mark_with (aims.On (host a)) (not b && is_met S p.need a) p) (same_bits (looped S e a) (looped T e a) both.0) ∙ ap (λ b. mark_with (aims.On (host a)) (not (looped T e a) && b) p) (same_bits (is_met S p.need a) (is_met T p.need a) both.1)
 kind_keeps S T e p kinds.Cover h =
-    ap (λ q. mark_with (on q) true p) ((same_prefix-Decides (cover S e.bits) (cover T e.bits)).0 (not_changed _ h))
+    ap (λ q. mark_with (aims.On q) true p) ((same_prefix-Decides (cover S e.bits) (cover T e.bits)).0 (not_changed _ h))
 
 changes_none : (S T : Tables) (e : Prefix) → is_touched S T e ≡ false → list_any (λ p. kind_changes S T e p.need p.kind) (chosen S e) ≡ false
 unfolding is_touched
 changes_none S T e h = (not_either (same_pairs (pairs_of S e) (pairs_of T e)) (list_any (λ p. kind_changes S T e p.need p.kind) (chosen S e)) h).1
 
-pub untouched_marked : (S T : Tables) (e : Prefix) → IsSound T → is_touched S T e ≡ false → marked S e ≡ marked T e
-unfolding marked mark_with
+pub untouched_marked : (S T : Tables) (e : Prefix) → IsSound T → is_touched S T e ≡ false → marked_list S e ≡ marked_list T e
+unfolding marked_list mark_with
 untouched_marked S T e sound h =
-    map_same (mark S e) (mark T e) (chosen S e) (λ p c. kind_keeps S T e p p.kind (any_fails (λ q. kind_changes S T e q.need q.kind) (chosen S e) p (changes_none S T e h) c))
-    ∙ ap (map (mark T e)) (untouched_chosen S T e sound h)
+    map_same (marked S e) (marked T e) (chosen S e) (λ p c. kind_keeps S T e p p.kind (any_fails (λ q. kind_changes S T e q.need q.kind) (chosen S e) p (changes_none S T e h) c))
+    ∙ ap (map (marked T e)) (untouched_chosen S T e sound h)
 
 -- and stays an entry or stays none
 entry_pair : (S T : Tables) (e : Prefix) (xs : List Pair) → ((x : Pair) → e ≡ x.prefix → Contains xs x → list_any (λ y. same_prefix e y.prefix) (pairs T) ≡ true) → list_any (λ y. same_prefix e y.prefix) xs ≡ true → list_any (λ y. same_prefix e y.prefix) (pairs T) ≡ true
@@ -205,13 +210,13 @@ pub untouched_came : (S T : Tables) (e : Prefix) → is_touched S T e ≡ false 
 untouched_came S T e h member = is_entry S e ∙ entry_pair T S e (pairs T) (λ x p c. any_of e (pairs S) x p ((untouched_pairs S T e x h p).1 c)) (sym (is_entry T e) ∙ member)
 
 -- the aims of a marked list depend on whether its open targets forward
-leads_same : (f g : Prefix → Bool) (m : Mark) → ((t : Prefix) → m.counts ≡ true → m.aim ≡ on t → f t ≡ g t) → is_usable f m ≡ is_usable g m
+leads_same : (f g : Prefix → Bool) (m : Marked) → ((t : Prefix) → m.counts ≡ true → m.aim ≡ aims.On t → f t ≡ g t) → is_usable_mark f m ≡ is_usable_mark g m
 leads_same f g m h = by_count m.counts m.aim (λ t c i. h t c i)
   where
-    by_count : (b : Bool) (w : Aim) → ((t : Prefix) → b ≡ true → w ≡ on t → f t ≡ g t) → b && leads f w ≡ b && leads g w
+    by_count : (b : Bool) (w : Aim) → ((t : Prefix) → b ≡ true → w ≡ aims.On t → f t ≡ g t) → b && leads_on f w ≡ b && leads_on g w
     by_count false w h = refl
-    by_count true (ends x) h = refl
-    by_count true (on t) h = h t refl refl
+    by_count true (aims.Ends x) h = refl
+    by_count true (aims.On t) h = h t refl refl
 
 filter_same : {X : Type 0} (f g : X → Bool) (xs : List X) → ((x : X) → Contains xs x → f x ≡ g x) → filter f xs ≡ filter g xs
 filter_same f g [] h = refl
@@ -220,11 +225,11 @@ filter_same f g (x ∷ xs) h =
     let here = h x (0, omega arith, refl) in
     ap (λ (b : Bool). cond b (x ∷ filter f xs) (filter f xs)) here ∙ ap (λ ys. cond (g x) (x ∷ ys) ys) rest
 
-pub aims_same : (f g : Prefix → Bool) (ms : List Mark) → ((m : Mark) (t : Prefix) → Contains ms m → m.counts ≡ true → m.aim ≡ on t → f t ≡ g t) → (k : ℕ) → aim_by f ms k ≡ aim_by g ms k
+pub aims_same : (f g : Prefix → Bool) (ms : List Marked) → ((m : Marked) (t : Prefix) → Contains ms m → m.counts ≡ true → m.aim ≡ aims.On t → f t ≡ g t) → (k : ℕ) → aim_by f ms k ≡ aim_by g ms k
 unfolding aim_by
-aims_same f g ms h k = ap (λ (qs : List Mark). aim_of (slice_get (spread_marks (of_least qs)) k)) (filter_same (is_usable f) (is_usable g) ms (λ m c. leads_same f g m (λ t counts is. h m t c counts is)))
+aims_same f g ms h k = ap (λ (qs : List Marked). aim_of (slice_get (spread_marks (of_least qs)) k)) (filter_same (is_usable_mark f) (is_usable_mark g) ms (λ m c. leads_same f g m (λ t counts is. h m t c counts is)))
 
 -- so a prefix that no change touches, and whose open targets forward as before, wants the same of each bucket
-pub untouched_aims : (S T : Tables) (e : Prefix) → IsSound T → is_touched S T e ≡ false → ((m : Mark) (t : Prefix) → Contains (marked S e) m → m.counts ≡ true → m.aim ≡ on t → forwards S t ≡ forwards T t) → (k : ℕ) → aim S e k ≡ aim T e k
+pub untouched_aims : (S T : Tables) (e : Prefix) → IsSound T → is_touched S T e ≡ false → ((m : Marked) (t : Prefix) → Contains (marked_list S e) m → m.counts ≡ true → m.aim ≡ aims.On t → forwards S t ≡ forwards T t) → (k : ℕ) → aim S e k ≡ aim T e k
 untouched_aims S T e sound h targets k =
-    aim_is S e k ∙ aims_same (forwards S) (forwards T) (marked S e) targets k ∙ ap (λ (ms : List Mark). aim_by (forwards T) ms k) (untouched_marked S T e sound h) ∙ sym (aim_is T e k)
+    aim_is S e k ∙ aims_same (forwards S) (forwards T) (marked_list S e) targets k ∙ ap (λ (ms : List Marked). aim_by (forwards T) ms k) (untouched_marked S T e sound h) ∙ sym (aim_is T e k)

@@ -9,7 +9,10 @@ use Rattle.fib_core.specs.declared.word.Word.{Word}
 use Rattle.fib_union.specs.Unions.{owner}
 use Rattle.fib_core.specs.Walk.{word_at}
 use Rattle.fib_core.proofs.Numbers.{owner_of}
-use Rattle.fib_steady.specs.Aims.{Aim, ends, on, aim, IsLasting, WantsAlike}
+use Rattle.fib_resolve.specs.declared.aims.Aim.{Aim}
+use Rattle.fib_resolve.specs.declared.aims.Aim.TheVariants as aims
+use Rattle.fib_resolve.specs.Aims.{aim}
+use Rattle.fib_steady.specs.Aims.{IsLasting, WantsAlike}
 use Rattle.fib_steady.specs.Promise.{IsEndWord, IsAimed, KeepsBuckets}
 use Rattle.fib_serving.specs.Stack.{is_some, Objects, Ledger, to_balance, to_adjacency, end_word, aim_word, EndAnchored, Anchored, IsSteadyStack, HasRecords, IsMoment}
 use Rattle.fib_steady.proofs.Lists.{some_same}
@@ -28,8 +31,8 @@ end_aimed at l cells records e (answers.Hop i a m) anchored w is =
     (x.0, is ∙ ap to_adjacency x.1, records.written (answers.Hop i a m) x.0 x.1)
 
 aimed : (at : Objects) (l : Ledger) (cells : List ℕ) → HasRecords at l cells → (e : Prefix) (m : Aim) → Anchored at l e m → (w : Word) → w ≡ aim_word at m → IsAimed at.balance cells m w
-aimed at l cells records e (ends end) anchored w is = end_aimed at l cells records e end anchored w is
-aimed at l cells records e (on t) anchored w is =
+aimed at l cells records e (aims.Ends end) anchored w is = end_aimed at l cells records e end anchored w is
+aimed at l cells records e (aims.On t) anchored w is =
     let x = some_of (at.balance t) anchored in
     (x.0, is ∙ ap to_balance x.1, x.1)
 
@@ -50,8 +53,8 @@ end_same at now l moment e (answers.Glean i) anchored = refl
 end_same at now l moment e (answers.Hop i a m) anchored = ap to_adjacency (moment.records e (answers.Hop i a m) anchored)
 
 word_same : (at now : Objects) (l : Ledger) → IsMoment at l now → (e : Prefix) (m : Aim) → Anchored at l e m → aim_word now m ≡ aim_word at m
-word_same at now l moment e (ends end) anchored = end_same at now l moment e end anchored
-word_same at now l moment e (on t) anchored = ap to_balance (moment.balances t anchored)
+word_same at now l moment e (aims.Ends end) anchored = end_same at now l moment e end anchored
+word_same at now l moment e (aims.On t) anchored = ap to_balance (moment.balances t anchored)
 
 cell_parts : (o k : ℕ) → k < 16 → (owner (16 * o + k) ≡ o) × ((16 * o + k) % 16 ≡ k)
 cell_parts o k lt = (owner_of o k lt, remainder o k lt)

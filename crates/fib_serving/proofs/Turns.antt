@@ -15,7 +15,10 @@ use Rattle.fib_resolve.specs.declared.types.End.TheVariants as answers
 use Rattle.fib_resolve.specs.declared.types.Tables.{Tables}
 use Rattle.fib_resolve.proofs.Taken.{IsTaken, wanted_taken}
 use Rattle.fib_core.specs.Walk.{word_at}
-use Rattle.fib_steady.specs.Aims.{Aim, ends, on, path_aim, kind_aim, aim, IsLasting, WantsAlike}
+use Rattle.fib_resolve.specs.declared.aims.Aim.{Aim}
+use Rattle.fib_resolve.specs.declared.aims.Aim.TheVariants as aims
+use Rattle.fib_resolve.specs.Aims.{path_aim, kind_aim, aim}
+use Rattle.fib_steady.specs.Aims.{IsLasting, WantsAlike}
 use Rattle.fib_serving.specs.Stack.{is_some, Objects, Ledger, to_balance, to_adjacency, aim_word, Anchored, Holding, IsSteadyStack}
 use Rattle.fib_serving.specs.Turns.{Stack, HasEnd, IsRestacked, IsRemoved, IsQuietStack}
 use Rattle.fib_steady.proofs.Lists.{some_same}
@@ -24,20 +27,20 @@ use Rattle.fib_steady.proofs.Ways.{Leads, leads}
 
 -- what a bucket leads to
 
-aim_on : (S : Tables) (e t : Prefix) (o : Option Path) → IfSome o (λ p. Leads S e p.kind) → path_aim S e o ≡ on t → Contains (entries S) t
+aim_on : (S : Tables) (e t : Prefix) (o : Option Path) → IfSome o (λ p. Leads S e p.kind) → path_aim S e o ≡ aims.On t → Contains (entries S) t
 aim_on S e t None l is = absurd (apart is)
   where
-    apart : ends answers.Drop ≡ on t → ⊥
+    apart : aims.Ends answers.Drop ≡ aims.On t → ⊥
     apart e = cc
 aim_on S e t (Some p) l is = by_kind p.kind l is
   where
-    ends_on : (x : End) → ends x ≡ on t → ⊥
+    ends_on : (x : End) → aims.Ends x ≡ aims.On t → ⊥
     ends_on x e = cc
 
-    on_same : (q : Prefix) → on q ≡ on t → q ≡ t
+    on_same : (q : Prefix) → aims.On q ≡ aims.On t → q ≡ t
     on_same q e = cc
 
-    by_kind : (kind : PathKind) → Leads S e kind → kind_aim S e kind ≡ on t → Contains (entries S) t
+    by_kind : (kind : PathKind) → Leads S e kind → kind_aim S e kind ≡ aims.On t → Contains (entries S) t
     by_kind kinds.Drop l is = absurd (ends_on _ is)
     by_kind kinds.Local l is = absurd (ends_on _ is)
     by_kind (kinds.Attached i) l is = absurd (ends_on _ is)
@@ -45,42 +48,42 @@ aim_on S e t (Some p) l is = by_kind p.kind l is
     by_kind (kinds.Recursive a) l is = subst (Contains (entries S)) (on_same (host a) is) l
     by_kind kinds.Cover l is = subst (Contains (entries S)) (on_same (cover S e.bits) is) l
 
-pub bucket_on : (S : Tables) (e t : Prefix) (k : ℕ) → aim S e k ≡ on t → Contains (entries S) t
+pub bucket_on : (S : Tables) (e t : Prefix) (k : ℕ) → aim S e k ≡ aims.On t → Contains (entries S) t
 unfolding aim
 bucket_on S e t k is = aim_on S e t (slice_get (wanted S e) k) (leads S e k) is
 
-aim_hop : (S : Tables) (e : Prefix) (i a : ℕ) (m : Option ℕ) (o : Option Path) → IfSome o (IsTaken S e) → path_aim S e o ≡ ends (answers.Hop i a m) → HasEnd S e (answers.Hop i a m)
+aim_hop : (S : Tables) (e : Prefix) (i a : ℕ) (m : Option ℕ) (o : Option Path) → IfSome o (IsTaken S e) → path_aim S e o ≡ aims.Ends (answers.Hop i a m) → HasEnd S e (answers.Hop i a m)
 aim_hop S e i a m None t is = absurd (drops is)
   where
-    drops : ends answers.Drop ≡ ends (answers.Hop i a m) → ⊥
+    drops : aims.Ends answers.Drop ≡ aims.Ends (answers.Hop i a m) → ⊥
     drops e = cc
 aim_hop S e i a m (Some p) t is = (p, t.0, is)
 
-pub bucket_hop : (S : Tables) (e : Prefix) (k i a : ℕ) (m : Option ℕ) → aim S e k ≡ ends (answers.Hop i a m) → HasEnd S e (answers.Hop i a m)
+pub bucket_hop : (S : Tables) (e : Prefix) (k i a : ℕ) (m : Option ℕ) → aim S e k ≡ aims.Ends (answers.Hop i a m) → HasEnd S e (answers.Hop i a m)
 unfolding aim
 bucket_hop S e k i a m is = aim_hop S e i a m (slice_get (wanted S e) k) (each-at (IsTaken S e) (wanted S e) k (wanted_taken S e)) is
 
 -- anchors
 
-anchored_by : (at : Objects) (l : Ledger) (e : Prefix) (m : Aim) → ((t : Prefix) → m ≡ on t → is_some (at.balance t) ≡ true) → ((i a : ℕ) (x : Option ℕ) → m ≡ ends (answers.Hop i a x) → l.holds e (answers.Hop i a x) ≡ true) → Anchored at l e m
-anchored_by at l e (ends answers.Drop) balances hops = tt
-anchored_by at l e (ends answers.Receive) balances hops = tt
-anchored_by at l e (ends (answers.Glean i)) balances hops = tt
-anchored_by at l e (ends (answers.Hop i a x)) balances hops = hops i a x refl
-anchored_by at l e (on t) balances hops = balances t refl
+anchored_by : (at : Objects) (l : Ledger) (e : Prefix) (m : Aim) → ((t : Prefix) → m ≡ aims.On t → is_some (at.balance t) ≡ true) → ((i a : ℕ) (x : Option ℕ) → m ≡ aims.Ends (answers.Hop i a x) → l.holds e (answers.Hop i a x) ≡ true) → Anchored at l e m
+anchored_by at l e (aims.Ends answers.Drop) balances hops = tt
+anchored_by at l e (aims.Ends answers.Receive) balances hops = tt
+anchored_by at l e (aims.Ends (answers.Glean i)) balances hops = tt
+anchored_by at l e (aims.Ends (answers.Hop i a x)) balances hops = hops i a x refl
+anchored_by at l e (aims.On t) balances hops = balances t refl
 
-anchor_on : (at : Objects) (l : Ledger) (e t : Prefix) (m : Aim) → Anchored at l e m → m ≡ on t → is_some (at.balance t) ≡ true
+anchor_on : (at : Objects) (l : Ledger) (e t : Prefix) (m : Aim) → Anchored at l e m → m ≡ aims.On t → is_some (at.balance t) ≡ true
 anchor_on at l e t m a is = subst (Anchored at l e) is a
 
-anchor_hop : (at : Objects) (l : Ledger) (e : Prefix) (i a : ℕ) (x : Option ℕ) (m : Aim) → Anchored at l e m → m ≡ ends (answers.Hop i a x) → l.holds e (answers.Hop i a x) ≡ true
+anchor_hop : (at : Objects) (l : Ledger) (e : Prefix) (i a : ℕ) (x : Option ℕ) (m : Aim) → Anchored at l e m → m ≡ aims.Ends (answers.Hop i a x) → l.holds e (answers.Hop i a x) ≡ true
 anchor_hop at l e i a x m anchored is = subst (Anchored at l e) is anchored
 
-word_same : (at to : Objects) (m : Aim) → ((t : Prefix) → m ≡ on t → to.balance t ≡ at.balance t) → ((i a : ℕ) (x : Option ℕ) → m ≡ ends (answers.Hop i a x) → to.record_of (answers.Hop i a x) ≡ at.record_of (answers.Hop i a x)) → aim_word to m ≡ aim_word at m
-word_same at to (ends answers.Drop) balances records = refl
-word_same at to (ends answers.Receive) balances records = refl
-word_same at to (ends (answers.Glean i)) balances records = refl
-word_same at to (ends (answers.Hop i a x)) balances records = ap to_adjacency (records i a x refl)
-word_same at to (on t) balances records = ap to_balance (balances t refl)
+word_same : (at to : Objects) (m : Aim) → ((t : Prefix) → m ≡ aims.On t → to.balance t ≡ at.balance t) → ((i a : ℕ) (x : Option ℕ) → m ≡ aims.Ends (answers.Hop i a x) → to.record_of (answers.Hop i a x) ≡ at.record_of (answers.Hop i a x)) → aim_word to m ≡ aim_word at m
+word_same at to (aims.Ends answers.Drop) balances records = refl
+word_same at to (aims.Ends answers.Receive) balances records = refl
+word_same at to (aims.Ends (answers.Glean i)) balances records = refl
+word_same at to (aims.Ends (answers.Hop i a x)) balances records = ap to_adjacency (records i a x refl)
+word_same at to (aims.On t) balances records = ap to_balance (balances t refl)
 
 same_or_not : (d e : Prefix) → (d ≡ e) ⊎ (d ≡ e → ⊥)
 same_or_not d e = elim (either (same_prefix d e)) [
@@ -110,7 +113,7 @@ module _ (J : List Tables) (S : Tables) (here : Contains J S) (e : Prefix) (o : 
     old : Holding s.objects s.ledger s.cells d k m
     old = steady.holding d k m lt lasting alike
 
-    keeps_hold : (i a : ℕ) (x : Option ℕ) → m ≡ ends (answers.Hop i a x) → t.ledger.holds d (answers.Hop i a x) ≡ true
+    keeps_hold : (i a : ℕ) (x : Option ℕ) → m ≡ aims.Ends (answers.Hop i a x) → t.ledger.holds d (answers.Hop i a x) ≡ true
     keeps_hold i a x is = ⊎_elim
         (λ (at : d ≡ e). subst (λ p. t.ledger.holds p (answers.Hop i a x) ≡ true) (sym at) (r.holding (answers.Hop i a x) (subst (λ p. HasEnd S p (answers.Hop i a x)) at (bucket_hop S d k i a x (alike S here ∙ is)))))
         (λ (ne : d ≡ e → ⊥). r.others_holding d (answers.Hop i a x) ne ∙ anchor_hop s.objects s.ledger d i a x m old.anchored is)
@@ -154,10 +157,10 @@ module _ (J : List Tables) (S : Tables) (here : Contains J S) (e : Prefix) (s t 
     ne : d ≡ e → ⊥
     ne = other_entry d (lasting S here)
 
-    target_stays : (x : Prefix) → m ≡ on x → x ≡ e → ⊥
+    target_stays : (x : Prefix) → m ≡ aims.On x → x ≡ e → ⊥
     target_stays x is = other_entry x (bucket_on S d x k (alike S here ∙ is))
 
-    holds_still : (i a : ℕ) (x : Option ℕ) → m ≡ ends (answers.Hop i a x) → t.ledger.holds d (answers.Hop i a x) ≡ true
+    holds_still : (i a : ℕ) (x : Option ℕ) → m ≡ aims.Ends (answers.Hop i a x) → t.ledger.holds d (answers.Hop i a x) ≡ true
     holds_still i a x is = r.others_holding d (answers.Hop i a x) ne ∙ anchor_hop s.objects s.ledger d i a x m held.anchored is
 
     word_still : aim_word t.objects m ≡ aim_word s.objects m

@@ -10,7 +10,9 @@ use Rattle.fib_resolve.specs.declared.types.End.TheVariants as answers
 use Rattle.fib_resolve.specs.declared.types.Tables.{Tables}
 use Rattle.fib_core.specs.declared.word.Word.{Word}
 use Rattle.fib_core.specs.Walk.{word_at}
-use Rattle.fib_steady.specs.Aims.{Aim, ends, on, aim}
+use Rattle.fib_resolve.specs.declared.aims.Aim.{Aim}
+use Rattle.fib_resolve.specs.declared.aims.Aim.TheVariants as aims
+use Rattle.fib_resolve.specs.Aims.{aim}
 
 abbrev pub is_drop : End → Bool
 is_drop answers.Drop = true
@@ -43,16 +45,16 @@ same_end (answers.Glean i) f = is_glean i f
 same_end (answers.Hop i a m) f = is_hop i a m f
 
 abbrev pub ends_at : End → Aim → Bool
-ends_at e (ends f) = same_end e f
-ends_at e (on t) = false
+ends_at e (aims.Ends f) = same_end e f
+ends_at e (aims.On t) = false
 
 abbrev pub goes_on_at : Prefix → Aim → Bool
-goes_on_at t (on u) = same_prefix t u
-goes_on_at t (ends f) = false
+goes_on_at t (aims.On u) = same_prefix t u
+goes_on_at t (aims.Ends f) = false
 
 abbrev pub same_aim : Aim → Aim → Bool
-same_aim (ends e) m = ends_at e m
-same_aim (on t) m = goes_on_at t m
+same_aim (aims.Ends e) m = ends_at e m
+same_aim (aims.On t) m = goes_on_at t m
 
 -- the tables have the entry, and want that of its bucket
 abbrev pub wants_that : Prefix → ℕ → Aim → Tables → Bool

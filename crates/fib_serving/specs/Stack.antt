@@ -7,7 +7,9 @@ use Rattle.fib_resolve.specs.declared.types.Tables.{Tables}
 use Rattle.fib_core.specs.declared.word.Word.{Word}
 use Rattle.fib_core.specs.declared.word.Word.TheVariants as words
 use Rattle.fib_core.specs.Walk.{word_at, adjacency_end}
-use Rattle.fib_steady.specs.Aims.{Aim, ends, on, IsLasting, WantsAlike}
+use Rattle.fib_resolve.specs.declared.aims.Aim.{Aim}
+use Rattle.fib_resolve.specs.declared.aims.Aim.TheVariants as aims
+use Rattle.fib_steady.specs.Aims.{IsLasting, WantsAlike}
 
 abbrev pub is_some : {A : Type 0} → Option A → Bool
 is_some None = false
@@ -39,8 +41,8 @@ end_word at (answers.Hop i a m) = to_adjacency (at.record_of (answers.Hop i a m)
 
 -- the word that a turn puts for an aim
 abbrev pub aim_word : Objects → Aim → Word
-aim_word at (ends end) = end_word at end
-aim_word at (on e) = to_balance (at.balance e)
+aim_word at (aims.Ends end) = end_word at end
+aim_word at (aims.On e) = to_balance (at.balance e)
 
 -- what the word of a steady bucket rests on
 abbrev pub EndAnchored : Ledger → Prefix → End → Type 0
@@ -50,8 +52,8 @@ EndAnchored l e (answers.Glean i) = Unit {0}
 EndAnchored l e (answers.Hop i a m) = l.holds e (answers.Hop i a m) ≡ true
 
 abbrev pub Anchored : Objects → Ledger → Prefix → Aim → Type 0
-Anchored at l e (ends end) = EndAnchored l e end
-Anchored at l e (on t) = is_some (at.balance t) ≡ true
+Anchored at l e (aims.Ends end) = EndAnchored l e end
+Anchored at l e (aims.On t) = is_some (at.balance t) ≡ true
 
 -- the bucket holds its word, it isn't left for later, and what the word rests on is there
 pub record Holding (at : Objects) (l : Ledger) (cells : List ℕ) (e : Prefix) (k : ℕ) (m : Aim) : Type 0 where

@@ -6,7 +6,8 @@ use Rattle.fib_resolve.specs.declared.types.Path.{Path}
 use Rattle.fib_resolve.specs.declared.types.End.{End}
 use Rattle.fib_resolve.specs.declared.types.Tables.{Tables}
 use Rattle.fib_core.specs.Walk.{word_at}
-use Rattle.fib_steady.specs.Aims.{ends, kind_aim, aim}
+use Rattle.fib_resolve.specs.declared.aims.Aim.TheVariants as aims
+use Rattle.fib_resolve.specs.Aims.{kind_aim, aim}
 use Rattle.fib_serving.specs.Stack.{is_some, Objects, Ledger, aim_word}
 
 pub record Stack : Type 0 where
@@ -16,7 +17,7 @@ pub record Stack : Type 0 where
 
 -- a path of the entry's chosen list, usable or not, ends there
 abbrev pub HasEnd : Tables → Prefix → End → Type 0
-HasEnd S e end = (p : Path) × Contains (chosen S e) p × (kind_aim S e p.kind ≡ ends end)
+HasEnd S e end = (p : Path) × Contains (chosen S e) p × (kind_aim S e p.kind ≡ aims.Ends end)
 
 -- a turn of an entry, whose balance is o
 pub record IsRestacked (S : Tables) (e : Prefix) (o : ℕ) (s t : Stack) : Type 0 where

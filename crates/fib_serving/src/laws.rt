@@ -9,7 +9,10 @@ ghost use Rattle.fib_resolve.specs.declared.types.Tables.{Tables};
 ghost use Rattle.fib_core.specs.Union.{Union};
 ghost use Rattle.fib_core.specs.Walk.{word_at};
 ghost use Rattle.fib_core.specs.declared.word.Word.{Word};
-ghost use Rattle.fib_steady.specs.Aims.{IsLasting, aim, on};
+ghost use Rattle.fib_resolve.specs.Aims.{aim, marked_list};
+ghost use Rattle.fib_resolve.specs.declared.aims.Aim.TheVariants as aims;
+ghost use Rattle.fib_resolve.specs.declared.aims.Marked.{Marked};
+ghost use Rattle.fib_steady.specs.Aims.{IsLasting};
 ghost use Rattle.fib_steady.specs.Names.{Names};
 ghost use Rattle.fib_steady.specs.Promise.{IsPromised, KeepsBuckets};
 ghost use Rattle.fib_steady.specs.Loose.{IsLoose};
@@ -17,7 +20,6 @@ ghost use Rattle.fib_serving.specs.Matches.{FitsVersions, IsSometime, Promised, 
 ghost use Rattle.fib_serving.specs.Stack.{HasRecords, IsSteadyStack, Ledger, Objects};
 ghost use Rattle.fib_serving.specs.Turns.{IsQuietStack, IsRemoved, IsRestacked, Stack};
 ghost use Rattle.fib_serving.specs.Kept.{keeps_by};
-ghost use Rattle.fib_serving.specs.Marks.{Mark, marked};
 
 /// A prefix table that fits the versions answers each address that has one best entry in all of them with that entry's
 /// object.
@@ -74,7 +76,7 @@ pub fn a_quiet_stack_is_steady()
 /// count forward as before.
 pub fn untouched_entries_aim_alike()
     ensures { (S T : Tables) (e : Prefix) → IsSound T → is_touched S T e ≡ false
-        → ((m : Mark) (t : Prefix) → Contains (marked S e) m → m.counts ≡ true → m.aim ≡ on t
+        → ((m : Marked) (t : Prefix) → Contains (marked_list S e) m → m.counts ≡ true → m.aim ≡ aims.On t
         → forwards S t ≡ forwards T t)
         → (k : ℕ) → aim S e k ≡ aim T e k }
 {}

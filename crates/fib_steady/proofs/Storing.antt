@@ -16,7 +16,9 @@ use Rattle.fib_core.specs.Union.{Union, Goes, stored}
 use Rattle.fib_core.proofs.Numbers.{goes_of, target_of, owner_of, cell_of}
 use Rattle.fib_core.proofs.Unions.{goes_stored}
 use Rattle.fib_core.proofs.Walks.{adjacency_stored}
-use Rattle.fib_steady.specs.Aims.{Aim, ends, on, IsLasting, WantsAlike}
+use Rattle.fib_resolve.specs.declared.aims.Aim.{Aim}
+use Rattle.fib_resolve.specs.declared.aims.Aim.TheVariants as aims
+use Rattle.fib_steady.specs.Aims.{IsLasting, WantsAlike}
 use Rattle.fib_steady.specs.Names.{Names, IsChild, IsWalked}
 use Rattle.fib_steady.specs.Loose.{IsLoose}
 use Rattle.fib_steady.specs.Promise.{IsEndWord, IsAimed, KeepsBuckets, IsRight, IsPromised}
@@ -55,8 +57,8 @@ module _ (J : List Tables) (n : Names) (u : Union) (keep : Bool) (fresh : List M
   same_end o s (answers.Hop i a m) is = (is.0, is.1, same_adjacency o s is.0 is.1 ∙ is.2)
 
   same_aim : (o s : ℕ) (m : Aim) → IsAimed n.balance u.cells m (word_at u.cells o s) → IsAimed n.balance (slice_set u.cells k w) m (word_at u.cells o s)
-  same_aim o s (ends end) is = same_end o s end is
-  same_aim o s (on t) is = is
+  same_aim o s (aims.Ends end) is = same_end o s end is
+  same_aim o s (aims.On t) is = is
 
   pub buckets_kept : IsLoose J n.balance k → KeepsBuckets J n.balance u.cells → KeepsBuckets J n.balance (slice_set u.cells k w)
   buckets_kept loose ok = record {

@@ -5,7 +5,7 @@ use Rattle.std.specs.Prelude.{Contains, slice_get, drop, IfSome}
 use Rattle.std.specs.Set.{is_member}
 use Rattle.std.proofs.lemmas.Map.Views.{Contains-from_any}
 use Rattle.fib_list.proofs.Lists.{either, each-at}
-use Rattle.fib_reach.proofs.Through.{and_both}
+use Rattle.fib_list.proofs.Tests.{and_both}
 use Rattle.fib_addr.specs.Prefixes.{Prefix, host, same_prefix}
 use Rattle.fib_addr.specs.Longest.{everything}
 use Rattle.fib_addr.proofs.PrefixLaws.{same_prefix-Decides, same_prefix_equiv}
@@ -28,7 +28,9 @@ use Rattle.fib_resolve.proofs.Touching.{same_pair-Decides, same_pair_equiv}
 use Rattle.fib_resolve.proofs.PairLaws.{longest_has}
 use Rattle.fib_resolve.proofs.OneList.{each-itself}
 use Rattle.fib_core.specs.Walk.{halved}
-use Rattle.fib_steady.specs.Aims.{on, aim, path_aim, kind_aim, way_from, shown, shown_by}
+use Rattle.fib_resolve.specs.declared.aims.Aim.TheVariants as aims
+use Rattle.fib_resolve.specs.Aims.{aim, path_aim, kind_aim}
+use Rattle.fib_steady.specs.Aims.{way_from, shown, shown_by}
 use Rattle.fib_steady.proofs.Lists.{some_same, none_some, map_in}
 
 -- the way without a limit
@@ -60,7 +62,7 @@ pub begins : (S : Tables) → IsSound S → (e : Prefix) (h : ℕ) → Begins e 
 begins S sound e h = subst (Begins e) (sym (way_from-step S sound e h)) (path_begins S (way_from S) e h (slice_get (wanted S e) (h % 16)))
 
 -- its first bucket shows in it
-shown_on : (s : Step) (e : Prefix) (trip : Trip) → Begins e trip → shown_by (s ∷ trip.steps) trip.end ≡ on e
+shown_on : (s : Step) (e : Prefix) (trip : Trip) → Begins e trip → shown_by (s ∷ trip.steps) trip.end ≡ aims.On e
 shown_on s e trip b = ap (λ (steps : List Step). shown_by (s ∷ steps) trip.end) b.2
 
 kind_shown : (S : Tables) → IsSound S → (e : Prefix) (h : ℕ) (kind : PathKind) → shown (take_kind S (way_from S) e h kind) ≡ kind_aim S e kind

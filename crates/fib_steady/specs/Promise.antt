@@ -10,7 +10,9 @@ use Rattle.fib_union.specs.Unions.{owner}
 use Rattle.fib_core.specs.Words.{decoded}
 use Rattle.fib_core.specs.Walk.{word_at, adjacency_end}
 use Rattle.fib_core.specs.Union.{Union, Goes}
-use Rattle.fib_steady.specs.Aims.{Aim, ends, on, IsLasting, WantsAlike, BestAlike}
+use Rattle.fib_resolve.specs.declared.aims.Aim.{Aim}
+use Rattle.fib_resolve.specs.declared.aims.Aim.TheVariants as aims
+use Rattle.fib_steady.specs.Aims.{IsLasting, WantsAlike, BestAlike}
 use Rattle.fib_steady.specs.Names.{Names, IsChild, IsIn, IsWalked}
 
 -- the word ends a packet there
@@ -23,8 +25,8 @@ IsEndWord cells (answers.Hop i a m) w =
 
 -- the word does what is aimed at
 abbrev pub IsAimed : (Prefix → Option ℕ) → List ℕ → Aim → Word → Type 0
-IsAimed balances cells (ends end) w = IsEndWord cells end w
-IsAimed balances cells (on e) w = (x : ℕ) × (w ≡ words.ToBalance x) × (balances e ≡ Some x)
+IsAimed balances cells (aims.Ends end) w = IsEndWord cells end w
+IsAimed balances cells (aims.On e) w = (x : ℕ) × (w ≡ words.ToBalance x) × (balances e ≡ Some x)
 
 -- first point: an entry of all versions has a balance, and a bucket for which all want the same holds its word
 pub record KeepsBuckets (J : List Tables) (balances : Prefix → Option ℕ) (cells : List ℕ) : Type 0 where
