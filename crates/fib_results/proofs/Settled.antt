@@ -1,12 +1,11 @@
 -- A result whose pass saw one settled version.
-use Rattle.std.proofs.Common.{arith, ◌≡◌, ◌≤◌, ◌<◌, ℕ, List, Option, Some, None, length, refl, sym, ◌∙◌, ap}
-use Rattle.std.specs.Prelude.{slice_get, Contains}
-use Rattle.fib_resolve.specs.Resolution.{Trip, way, resolve}
+use Rattle.std.proofs.Common.{arith, ◌≡◌, ◌<◌, ℕ, List, Option, Some, length, refl, sym, ◌∙◌, ap}
+use Rattle.std.specs.Prelude.{slice_get}
+use Rattle.fib_resolve.specs.Resolution.{Trip, resolve}
 use Rattle.fib_resolve.specs.declared.types.Tables.{Tables}
-use Rattle.fib_results.specs.declared.record.Record.{Record}
 use Rattle.fib_results.specs.declared.record.Version.{Version}
-use Rattle.fib_results.specs.Trails.{IsRecordOk, IsAt, AtLeast, version_at, settled_answer}
-use Rattle.fib_results.specs.Steady.{IsSteady, KeepsWay}
+use Rattle.fib_results.specs.Trails.{IsRecordOk, version_at, settled_answer}
+use Rattle.fib_results.specs.Steady.{IsSteady}
 
 some_is : (S T : Tables) (o : Option Tables) → o ≡ Some S → o ≡ Some T → S ≡ T
 some_is S T o p q = cc

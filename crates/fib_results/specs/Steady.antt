@@ -1,5 +1,5 @@
 -- When a result is undisturbed by the changes that its pass spanned.
-use Rattle.std.specs.Prelude.{◌≡◌, ◌≤◌, ℕ, List, Option, Some, slice_get}
+use Rattle.std.specs.Prelude.{◌≡◌, ◌≤◌, ℕ, List, Some, slice_get}
 use Rattle.fib_resolve.specs.Resolution.{Trip, way}
 use Rattle.fib_resolve.specs.declared.types.Tables.{Tables}
 use Rattle.fib_results.specs.declared.record.Record.{Record}

@@ -1,5 +1,5 @@
 -- When a result is an answer of the versions that its pass spanned.
-use Rattle.std.specs.Prelude.{◌≡◌, ◌≤◌, ◌<◌, ℕ, List, Option, Some, None, length, slice_get, Contains, ◌⊎◌}
+use Rattle.std.specs.Prelude.{◌≡◌, ◌≤◌, ◌<◌, ℕ, List, Some, length, slice_get, Contains, ◌⊎◌}
 use Rattle.fib_resolve.specs.Resolution.{resolve, ends}
 use Rattle.fib_resolve.specs.declared.types.Tables.{Tables}
 use Rattle.fib_resolve.specs.declared.types.End.TheVariants as answers

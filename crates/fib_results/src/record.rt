@@ -1,6 +1,7 @@
 // What a pass answers.
 ghost use Rattle.std.specs.Prelude.{◌≡◌};
 ghost use Rattle.fib_results.specs.Trails.{version_at};
+ghost use Rattle.fib_results.specs.Versions.{packed, unpacked};
 
 use fib_addr::Addr;
 use fib_resolve::End;
@@ -20,6 +21,26 @@ impl Version {
         Version {
             settled: changes,
             applied: changes,
+        }
+    }
+
+    /// The version as one word: `settled` in its upper 32 bits, `applied` in its lower.
+    #[tactic(auto, using(crate::proofs::Versions::unpacked_packed), unfolding(crate::specs::Versions::packed))]
+    pub fn encode(self) -> u64
+        ensures code { result ≡ packed self }
+        ensures read_back { unpacked result ≡ self }
+    {
+        self.settled as u64 * 0x1_0000_0000 + self.applied as u64
+    }
+
+    /// The version of such a word.
+    #[tactic(auto, unfolding(crate::specs::Versions::unpacked))]
+    pub fn decode(word: u64) -> Version
+        ensures { result ≡ unpacked word }
+    {
+        Version {
+            settled: (word / 0x1_0000_0000) as u32,
+            applied: (word % 0x1_0000_0000) as u32,
         }
     }
 }

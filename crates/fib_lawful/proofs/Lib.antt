@@ -1,0 +1,13 @@
+pub mod Views
+pub mod Framing
+pub mod Histories
+pub mod Claiming
+pub mod Seating
+pub mod Fresh
+pub mod Parts
+pub mod Typing
+pub mod Events
+pub mod Moves
+pub mod Sockets
+pub mod Begins
+pub mod Tells

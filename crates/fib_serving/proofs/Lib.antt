@@ -1,0 +1,9 @@
+pub mod Matches
+pub mod Plies
+pub mod PlyStores
+pub mod Answers
+pub mod Stack
+pub mod Turns
+pub mod Lasting
+pub mod Marks
+pub mod Kept

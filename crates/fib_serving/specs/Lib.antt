@@ -1,0 +1,5 @@
+pub mod Matches
+pub mod Stack
+pub mod Marks
+pub mod Turns
+pub mod Kept
