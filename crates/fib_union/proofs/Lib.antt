@@ -7,7 +7,9 @@ pub mod Leaving
 pub mod Looking
 pub mod Marks
 pub mod Noting
+pub mod Scans
 pub mod Setting
 pub mod Stale
 pub mod Stores
+pub mod Telling
 pub mod Views

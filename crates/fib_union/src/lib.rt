@@ -5,6 +5,7 @@
 //! `specs/inner` only carries proofs.
 #![tactic(auto)]
 
+pub mod laws;
 mod links;
 mod reach;
 mod retired;
@@ -12,3 +13,6 @@ mod steps;
 mod union;
 
 pub use union::Union;
+
+#[cfg(test)]
+mod tests;

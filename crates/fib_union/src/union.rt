@@ -2,8 +2,8 @@
 ghost use Rattle.std.specs.Prelude.{◌≡◌, ℕ, ◌+◌, ◌*◌, ◌-◌, ◌<◌, ◌≤◌, ◌^◌, ◌↔◌, ◌++◌, ◌∷◌, [], Bool, true, false, length, map, take, drop, slice_index, slice_set, IfOk, IfNone, OnOk, OnErr, IsTrue, Some, None, option_to_list, Contains, vec_capacity, count_by, eqb, ltb, ◌||◌};
 ghost use Rattle.std.specs.List.{All};
 ghost use Rattle.std.specs.Bool.{OnTrue, OnFalse};
-ghost use Rattle.fib_reach.specs.Walks.{Leads, Reaches};
-ghost use Rattle.fib_union.specs.Unions.{owner, edge_at, one, into, Edge, HasIn, must_retire, stored, left_at_once, scanned, gone_to, scan_from, no_edges, unmarked};
+ghost use Rattle.fib_reach.specs.Walks.{Leads, Reaches, IsAcyclic, HasCycle, Plus};
+ghost use Rattle.fib_union.specs.Unions.{owner, edge_at, one, into, Edge, HasIn, must_retire, stored, left_at_once, scanned, gone_to, scan_from, gone_from, no_edges, unmarked};
 ghost use Rattle.fib_union.specs.declared.retired.RetiredEdge.{RetiredEdge as Copies};
 ghost use Rattle.fib_union.specs.inner.Fields.{ins_of, plain, IsGrown, Runs, IsLinked, StartsBelow};
 
@@ -197,12 +197,24 @@ impl Union {
 
     /// Whether the edge would close a cycle among current and retired edges.
     ///
-    /// Costs what is reachable from its target: 16 cells an object, and its retired edges.
+    /// Costs nothing where no edge leads to its object, and else what is reachable from its target: 16 cells an object, and its retired
+    /// edges.
     pub fn would_cycle(&mut self, from: u32, to: u32) -> bool
         requires from_in { 16 * from < length self.old.union.edges }
         requires to_in { 16 * to < length self.old.union.edges }
         ensures unchanged { self.new ≡ self.old }
-        ensures cycle { IsTrue result ↔ Leads (Edge self.old.union) to from }
+        ensures leads { IsTrue result ↔ Leads (Edge self.old.union) to from }
+        ensures cycle { IsAcyclic (Edge self.old.union) → IsTrue result ↔ HasCycle (Plus (Edge self.old.union) from to) }
+    {
+        self.leads(to, from)
+    }
+
+    /// Whether a walk of edges leads from the first object to the second.
+    fn leads(&mut self, to: u32, from: u32) -> bool
+        requires from_in { 16 * from < length self.old.union.edges }
+        requires to_in { 16 * to < length self.old.union.edges }
+        ensures unchanged { self.new ≡ self.old }
+        ensures leads { IsTrue result ↔ Leads (Edge self.old.union) to from }
     {
         if from == to {
             return true;
@@ -294,6 +306,7 @@ impl Union {
     pub fn scan(&mut self, words: &[u64]) -> u32
         requires { length words.now ≡ self.old.workers }
         ensures union { self.new.union ≡ scan_from 0 words.now self.old.union }
+        ensures left { self.new.left ≡ self.old.left ++ gone_from 0 words.now self.old.union }
         ensures retired { result ≡ length self.new.union.retired }
         ensures workers { self.new.workers ≡ self.old.workers }
         ensures spare { self.old.spare ≤ self.new.spare }
