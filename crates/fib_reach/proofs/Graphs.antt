@@ -34,13 +34,11 @@ module _ (g : List (List ℕ)) (x y : ℕ) (x_in : x < length g) where
       ]
       back (inr p) = subst (λ l. Contains l b) (sym (next_at a p.0)) (subst (λ (k : ℕ). Contains (next_of g x ++ y ∷ []) k) (sym p.1) (Contains-push (next_of g x) y))
 
-  pub graph-with_edge : (marks : List ℕ) (visit room : ℕ) → y < length g → IsGraph g marks visit room → IsGraph (with_edge g x y) marks visit room
-  graph-with_edge marks visit room y_in s =
+  pub graph-with_edge : (nodes : ℕ) → y < length g → IsGraph g nodes → IsGraph (with_edge g x y) nodes
+  graph-with_edge nodes y_in s =
       let same : length (with_edge g x y) ≡ length g = length-set g x (next_of g x ++ y ∷ []) in
       record {
         closed = λ a b e. elim ((with_edge-iff a b).0 e) [ inl old ↦ omega (arith, same, s.closed a b old) | inr p ↦ omega (arith, same, p.1, y_in) ];
         few = omega (arith, same, s.few);
-        marks_len = s.marks_len ∙ sym same;
-        roomy = omega (arith, same, s.roomy);
-        passed = s.passed;
+        size = s.size ∙ sym same;
       }

@@ -1,9 +1,9 @@
 pub mod Graphs
 pub mod Places
 pub mod Rounds
-pub mod Search
 pub mod Searched
 pub mod Steps
 pub mod Through
 pub mod Visits
 pub mod Walking
+pub mod Worklist

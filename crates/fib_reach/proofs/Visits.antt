@@ -1,16 +1,18 @@
 -- The marks of a search, and the room for what it sees.
 use Rattle.std.proofs.Common.{arith, ◌≡◌, ◌≢◌, ℕ, ◌<◌, ◌≤◌, ◌⊎◌, inl, inr, true, false, eqb, List, [], ◌∷◌, ◌++◌, length, get_or, set, refl, sym, ◌∙◌, ap, subst, length-append, get_or-set_same, get_or-set_other, length-set}
-use Rattle.std.specs.Prelude.{Contains}
+use Rattle.std.specs.Prelude.{Contains, replicate}
 use Rattle.std.specs.List.{IsDistinct, list_any}
 use Rattle.std.specs.Cmp.{nat_eq_equiv}
-use Rattle.std.proofs.lemmas.Bool.{false≢true}
+use Rattle.std.proofs.lemmas.Bool.{false≢true, cases_lt}
 use Rattle.std.proofs.lemmas.Bool.Decides.{Decides-eqb}
 use Rattle.std.proofs.lemmas.Map.Keys.{IsDistinct-push}
 use Rattle.std.proofs.lemmas.Map.Steps.{length-le_from_distinct_below}
 use Rattle.std.proofs.lemmas.Map.Views.{Contains-from_any}
+use Rattle.std.proofs.lemmas.List.{get_or-replicate, get_or_past, length-replicate}
 use Rattle.std.proofs.lemmas.List.Elements.{Contains-push, Contains-push_cases, Contains-append_left}
-use Rattle.fib_reach.specs.Inner.Visits.{IsVisit}
+use Rattle.fib_reach.specs.Inner.Visits.{IsVisit, IsSearch}
 use Rattle.fib_list.proofs.Lists.{either}
+use Rattle.fib_reach.proofs.Places.{any_default}
 
 pub same_or_not : (x y : ℕ) → (x ≡ y) ⊎ (x ≢ y)
 same_or_not x y = elim (either (eqb x y)) [ inl h ↦ inl ((Decides-eqb x y).0 h) | inr h ↦ inr (λ e. false≢true (sym h ∙ (Decides-eqb x y).1 e)) ]
@@ -77,3 +79,28 @@ visit_start n room visit marks seen len roomy fresh e = record {
   below = λ x c. absurd (omega (arith, c.1, ap (λ l. length l) e));
   differ = subst (λ l. IsDistinct eqb l) (sym e) none_differ;
 }
+
+pub search_start : (nodes room : ℕ) (marks seen : List ℕ) → length marks ≡ nodes → nodes ≤ room → ((k : ℕ) → get_or marks k 0 < 1) → seen ≡ [] → IsSearch nodes room marks 1 seen 0
+search_start nodes room marks seen len roomy zeros e = record {
+  kept = visit_start nodes room 1 marks seen len roomy zeros e;
+  within = omega arith;
+}
+
+pub zeros_low : (n k : ℕ) → get_or (replicate n 0) k 0 < 1
+zeros_low n k = elim (cases_lt k n) [
+  | inl lt ↦ (let e : ◌≡◌ {A = ℕ} (get_or (replicate n 0) k 0) 0 = get_or-replicate n k 0 0 lt in omega (arith, e))
+  | inr ge ↦ (let e : ◌≡◌ {A = ℕ} (get_or (replicate n 0) k 0) 0 = get_or_past (replicate n 0) k 0 (let l : ◌≡◌ {A = ℕ} (length (replicate {A = ℕ} n 0)) n = length-replicate n 0 in omega arith) in omega (arith, e))
+]
+
+module _ {nodes room visit done : ℕ} {marks seen : List ℕ} (s : IsSearch nodes room marks visit seen done) where
+  pub done_few : done < length seen → done < nodes
+  done_few lt = omega (arith, seen_few s.kept)
+
+  pub seen_below : (x : ℕ) → done < length seen → x ≡ get_or seen done x → x < nodes
+  seen_below x lt e = s.kept.below x (done, lt, sym e)
+
+pub read_at : (xs : List ℕ) (k x : ℕ) → k < length xs → x ≡ get_or xs k x → x ≡ get_or xs k 0
+read_at xs k x lt e = e ∙ any_default xs k x 0 lt
+
+pub zeros_roomy : (n : ℕ) (marks : List ℕ) (room : ℕ) → marks ≡ replicate n 0 → room ≡ n → length marks ≤ room
+zeros_roomy n marks room e exact = let l : ◌≡◌ {A = ℕ} (length marks) n = ap (λ (xs : List ℕ). length xs) e ∙ length-replicate n 0 in omega arith

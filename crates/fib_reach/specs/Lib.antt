@@ -1,4 +1,5 @@
 pub mod Graphs
 pub mod Search
+pub mod Seen
 pub mod Walks
 pub mod Inner

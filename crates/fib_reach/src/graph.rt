@@ -1,10 +1,11 @@
 // A graph over numbers, with the room for a search.
-ghost use Rattle.std.specs.Prelude.{◌≡◌, ℕ, ◌<◌, ◌↔◌, List, [], replicate, length, OnOk, OnErr, IfOk, IsTrue, vec_capacity};
+ghost use Rattle.std.specs.Prelude.{◌≡◌, ℕ, ◌<◌, ◌↔◌, List, [], replicate, length, OnOk, OnErr, IfOk, IsTrue};
 ghost use Rattle.fib_reach.specs.Walks.{Reaches, Plus};
 ghost use Rattle.fib_reach.specs.Graphs.{Edge, next_of, with_edge};
 ghost use Rattle.fib_reach.specs.Inner.Visits.{IsGraph};
 
-use crate::visit;
+use crate::reach;
+use crate::visit::Search;
 use fib_list::List;
 use std::alloc::{AllocError, Global};
 use std::marker::Model;
@@ -15,11 +16,7 @@ use std::marker::Model;
 #[derive(Drop)]
 pub struct Graph {
     rows: Vec<List<u32>>,
-    /// The number of the last search that saw each node.
-    marks: Vec<u64>,
-    visit: u64,
-    /// The nodes that the last search saw, with room for all.
-    seen: Vec<u32>,
+    search: Search,
 }
 
 impl Model for Graph {
@@ -27,7 +24,7 @@ impl Model for Graph {
 
     ghost view = { λ g. g.rows.items };
 
-    ghost invariant = { λ g. IsGraph g.rows.items g.marks.items g.visit (vec_capacity g.seen) };
+    ghost invariant = { λ g. IsGraph g.rows.items g.search.nodes };
 }
 
 /// A list of no targets for each node.
@@ -46,14 +43,9 @@ impl Graph {
     pub fn new(alloc: Global, nodes: u32) -> Result<Graph, AllocError>
         ensures { IfOk result (λ g. g ≡ replicate nodes []) }
     {
-        let rows = empty_rows(alloc, nodes)?;
-        let marks = Vec::from_elem(alloc, 0, nodes as usize)?;
-        let seen = Vec::with_capacity(alloc, nodes as usize)?;
         Ok(Graph {
-            rows,
-            marks,
-            visit: 0,
-            seen,
+            rows: empty_rows(alloc, nodes)?,
+            search: Search::new(alloc, nodes)?,
         })
     }
 
@@ -94,15 +86,6 @@ impl Graph {
         ensures unchanged { self.new ≡ self.old }
         ensures walk { IsTrue result ↔ Reaches (Edge self.old) from to }
     {
-        let visit = visit::next_visit(&mut self.marks, self.visit);
-        self.visit = visit;
-        visit::search(
-            self.rows.as_slice(),
-            &mut self.marks,
-            &mut self.seen,
-            visit,
-            from,
-            to,
-        )
+        reach::reaches(self.rows.as_slice(), &mut self.search, from, to)
     }
 }

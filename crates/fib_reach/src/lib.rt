@@ -3,9 +3,11 @@
 
 mod graph;
 pub mod laws;
+mod reach;
 mod visit;
 
 pub use graph::Graph;
+pub use visit::Search;
 
 #[cfg(test)]
 mod tests;

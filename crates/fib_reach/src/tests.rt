@@ -1,4 +1,4 @@
-use crate::{Graph, laws};
+use crate::{Graph, Search, laws};
 use std::alloc::Global;
 use std::test::Fail;
 
@@ -68,6 +68,19 @@ fn walks_are_found(rt: HostRuntime) -> Result<(), Fail> {
     if 1 < graph.nodes() {
         assert_eq!(rt; graph.targets(1), [3, 3].as_slice());
     }
+    Ok(())
+}
+
+/// A search whose edges the caller knows: from 2 to 1.
+#[test]
+fn a_search_sees_each_node_once(rt: HostRuntime) -> Result<(), Fail> {
+    let mut search = Search::new(rt.alloc(), 3)?;
+    search.begin(2);
+    assert_eq!(rt; search.next(), Some(2));
+    search.note(1);
+    search.note(2);
+    assert_eq!(rt; search.next(), Some(1));
+    assert_eq!(rt; search.next(), None);
     Ok(())
 }
 

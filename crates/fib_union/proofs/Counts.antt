@@ -1,7 +1,7 @@
 -- What is counted is there.
-use Rattle.std.proofs.Common.{◌≡◌, ◌≢◌, ℕ, zero, suc, ◌<◌, ◌⊎◌, inl, inr, Bool, true, false, cond, eqb, eq-eqb, eqb-true, List, [], ◌∷◌, length, get_or, Option, Some, None, refl, ap, ◌∙◌, arith}
+use Rattle.std.proofs.Common.{ltb, ◌≡◌, ◌≢◌, ℕ, zero, suc, ◌<◌, ◌⊎◌, inl, inr, Bool, true, false, cond, eqb, eq-eqb, eqb-true, List, [], ◌∷◌, length, get_or, Option, Some, None, refl, ap, ◌∙◌, arith, ◌||◌, ◌↔◌}
 use Rattle.std.specs.Prelude.{count_by}
-use Rattle.std.proofs.lemmas.Bool.{cases_lt, false≢true}
+use Rattle.std.proofs.lemmas.Bool.{cases_lt, false≢true, ltb-true, lt-ltb}
 use Rattle.std.proofs.lemmas.List.Elements.{Contains-get_or}
 use Rattle.std.proofs.lemmas.List.Sums.{sum_by-cons, get_or-le-sum_by}
 use Rattle.std.proofs.lemmas.Bool.Decides.{nat_tests}
@@ -56,3 +56,14 @@ counted_has_in u o h = elim (cases_lt 0 (count_by (leads_to o) u.edges)) [
 pub no_retire : (u : Union) (k : ℕ) → owner k ≢ 0 → into u (owner k) ≡ 0 → must_retire u k ≡ false
 unfolding must_retire
 no_retire u k ne none = grind (arith, nat_tests)
+
+either_of : (b c : Bool) (P Q : Type 0) → (b ≡ true → P) → (P → b ≡ true) → (c ≡ true → Q) → (Q → c ≡ true) → (b || c) ≡ true ↔ (P ⊎ Q)
+either_of true c P Q p p' q q' = (λ e. inl (p refl), λ h. refl)
+either_of false c P Q p p' q q' = (λ e. inr (q e), λ h. elim h [ inl x ↦ absurd (false≢true (p' x)) | inr y ↦ q' y ])
+
+-- what a store replaces is retired exactly where its object is object 0 or an edge leads to it
+pub retire_iff : (u : Union) (k : ℕ) → (must_retire u k ≡ true) ↔ ((owner k ≡ 0) ⊎ HasIn u (owner k))
+unfolding must_retire
+retire_iff u k = either_of (eqb (owner k) 0) (ltb 0 (into u (owner k))) (owner k ≡ 0) (HasIn u (owner k))
+    (eqb-true (owner k) 0) (eq-eqb (owner k) 0)
+    (λ e. counted_has_in u (owner k) (ltb-true 0 (into u (owner k)) e)) (λ h. lt-ltb 0 (into u (owner k)) (has_in_counted u (owner k) h))

@@ -1,4 +1,15 @@
 pub mod Backed
+pub mod Chains
 pub mod Counts
+pub mod Cycling
+pub mod Keeping
+pub mod Leaving
+pub mod Looking
+pub mod Marks
+pub mod Noting
+pub mod Scans
+pub mod Setting
 pub mod Stale
 pub mod Stores
+pub mod Telling
+pub mod Views

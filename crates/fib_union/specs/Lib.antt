@@ -1,3 +1,4 @@
 pub mod Backed
 pub mod Marks
 pub mod Unions
+pub mod inner

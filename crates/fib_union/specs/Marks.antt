@@ -2,7 +2,7 @@
 --
 -- A worker's pass word is odd while a pass of it runs, and grows by one as each pass starts and stops. So a pass that may still stand on the
 -- edge is over once a look finds the word even, or another word than the first look found.
-use Rattle.std.specs.Prelude.{ℕ, ◌%◌, Bool, true, false, cond, eqb, List, replicate, slice_index_or, slice_set}
+use Rattle.std.specs.Prelude.{◌≡◌, ◌≢◌, ℕ, ◌%◌, ◌⊎◌, Bool, true, false, cond, eqb, List, [], ◌∷◌, Contains, fold, replicate, slice_index_or, slice_set}
 use Rattle.std.specs.List.{list_all}
 
 -- of one worker: no look yet; the first look found this odd word, and no look another one; no pass of it that began before is left
@@ -41,3 +41,12 @@ looked n w marks = slice_set marks n (next_mark w (mark_at marks n))
 -- passed for every worker
 abbrev pub all_passed : List Mark → Bool
 all_passed marks = list_all is_passed marks
+
+-- the mark after looks that found these words since the edge was retired
+abbrev pub mark_after : List ℕ → Mark
+mark_after words = fold (λ m w. next_mark w m) unseen words
+
+-- no pass that ran as the edge was retired runs still: a word was even, or another one than the first
+abbrev pub IsOver : List ℕ → Type 0
+IsOver [] = ⊥
+IsOver (w ∷ ws) = (is_even w ≡ true) ⊎ ((v : ℕ) × Contains ws v × (v ≢ w))

@@ -2,7 +2,7 @@
 --
 -- Cell k belongs to object k / 16. Each cell holds one current edge or none. Where an edge is replaced while a pass may still come over it, a
 -- copy of it stays, retired, until it is passed for every worker. Each retirement is a copy of its own.
-use Rattle.std.specs.Prelude.{◌≡◌, ℕ, ◌+◌, ◌*◌, ◌/◌, ◌⊎◌, Bool, true, false, cond, not, eqb, ltb, ◌||◌, List, [], ◌∷◌, Option, Some, None, Contains, map, filter, reverse, replicate, count_by, slice_index_or, slice_set}
+use Rattle.std.specs.Prelude.{◌≡◌, ℕ, ◌+◌, ◌*◌, ◌/◌, ◌⊎◌, Bool, true, false, cond, not, eqb, ltb, ◌||◌, List, [], ◌∷◌, ◌++◌, Option, Some, None, Contains, map, filter, reverse, replicate, count_by, slice_index_or, slice_set}
 use Rattle.fib_union.specs.Marks.{Mark, fresh, looked, all_passed}
 
 -- a copy of an edge that was replaced in this cell
@@ -93,6 +93,15 @@ gone_to n w u = map (λ r. r.to) (filter is_gone (reverse (map (marked n w) u.re
 abbrev pub scan_from : ℕ → List ℕ → Union → Union
 scan_from n [] u = u
 scan_from n (w ∷ ws) u = scan_from (n + 1) ws (scanned n w u)
+
+-- where the edges led that leave at these looks, in order
+abbrev pub gone_from : ℕ → List ℕ → Union → List ℕ
+gone_from n [] u = []
+gone_from n (w ∷ ws) u = gone_to n w u ++ gone_from (n + 1) ws (scanned n w u)
+
+-- how often a number stands in a list
+abbrev pub times : ℕ → List ℕ → ℕ
+times o xs = count_by (λ x. eqb x o) xs
 
 -- what contracts see of a `Union`
 pub record Kept : Type 0 where

@@ -1,12 +1,18 @@
-//! The union of current and retired edges between numbered objects.
+//! The union of current and retired edges between numbered objects: which copies of replaced edges stay, until when, and whether an
+//! edge would close a cycle among all of them.
+//!
+//! What contracts say stands in `specs/Marks.antt` and `specs/Unions.antt`; `specs/Backed.antt` serves the rule of the shared words, and
+//! `specs/inner` only carries proofs.
 #![tactic(auto)]
 
-ghost use Rattle.std.specs.Prelude.{◌≡◌};
-ghost use Rattle.fib_union.specs.Unions.{owner};
+pub mod laws;
+mod links;
+mod reach;
+mod retired;
+mod steps;
+mod union;
 
-/// The object to which a cell belongs.
-pub fn owner_of(cell: u64) -> u64
-    ensures { result ≡ owner cell }
-{
-    cell / 16
-}
+pub use union::Union;
+
+#[cfg(test)]
+mod tests;
