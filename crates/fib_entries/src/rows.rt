@@ -1,0 +1,19 @@
+// What is kept of an entry.
+use fib_addr::Prefix;
+use fib_list::List;
+use fib_paths::PathListId;
+use fib_resolve::FibSource;
+
+/// What is known of an entry.
+#[derive(Drop)]
+pub struct Row {
+    pub prefix: Prefix,
+    /// Its sources with the numbers of their lists, the best first.
+    pub pairs: List<(FibSource, PathListId)>,
+    /// For each path of the chosen list, whether it is looped.
+    pub looped: List<bool>,
+    /// The entries with an edge to it, each once.
+    pub dependants: List<Prefix>,
+    /// A number that falls along each edge that isn't looped.
+    pub rank: u32,
+}
