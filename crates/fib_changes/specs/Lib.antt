@@ -2,3 +2,4 @@ pub mod Sources
 pub mod Causes
 pub mod Affected
 pub mod Ranks
+pub mod Differ

@@ -1,0 +1,10 @@
+pub mod Telling
+pub mod Picking
+pub mod Deriving
+pub mod Standing
+pub mod Anew
+pub mod Taking
+pub mod Ranking
+pub mod KeptEdges
+pub mod Looking
+pub mod Covering

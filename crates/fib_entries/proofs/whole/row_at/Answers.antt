@@ -1,0 +1,24 @@
+use Rattle.std.proofs.Common.{rules, arith, ◌≡◌, ◌<◌, ◌≤◌, ℕ, length, map, filter, sym, ap, ◌∙◌, subst, refl, ◌↔◌}
+use Rattle.std.specs.Prelude.{Contains}
+use Rattle.fib_reach.specs.Walks.{AllDiffer}
+use Rattle.fib_resolve.specs.Pairs.{pairs, entries}
+use Rattle.fib_resolve.specs.Loops.{targets}
+use Rattle.fib_entries.specs.inner.Building.{ArePicked, has_edge}
+use Rattle.fib_entries.proofs.Picking.{picked_all, zip_length}
+use Rattle.fib_entries.proofs.Anew.{dependants_are, dependants_once}
+use Rattle.fib_entries.proofs.whole.row_at.Goals as goal
+
+pub held_of-requires : goal.held_of-requires
+held_of-requires c = zip_length c.args.lists.now (pairs c.args.snapshot.now) c.args.ids.now c.requires.taken.each ∙ ap length (sym c.pairs.ensures)
+
+pub returns-clause-row : goal.returns-clause-row
+returns-clause-row c = record {
+  prefix = c.len-len.ensures.prefix;
+  pairs = picked_all c.args.snapshot.now c.args.lists.now c.args.prefix c.args.ids.now c.in_ok-held_of.field-0 c.requires.sound c.requires.taken
+    (subst (λ l. ArePicked c.args.prefix l c.args.ids.now 7 c.in_ok-held_of.field-0) c.pairs.ensures c.in_ok-held_of.ensures);
+  looped = c.in_ok-marks_of.ensures;
+  met = c.in_ok-mets_of.ensures;
+  marked = c.in_ok-marked_of.ensures;
+  dependants = λ d. subst (λ l. Contains l d ↔ Contains (targets c.args.snapshot.now d) c.args.prefix) (sym c.in_ok-dependants_of.ensures) (dependants_are c.args.snapshot.now c.args.prefix d);
+  dependants_once = subst AllDiffer (sym c.in_ok-dependants_of.ensures) (dependants_once c.args.snapshot.now c.args.prefix);
+}

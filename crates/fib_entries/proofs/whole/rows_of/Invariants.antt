@@ -1,0 +1,6 @@
+use Rattle.std.proofs.Common.{◌≡◌}
+use Rattle.fib_entries.specs.inner.Building.{AreRows}
+use Rattle.fib_entries.proofs.whole.rows_of.Given as goal
+
+abbrev pub invariant-loop-place : goal.invariant-loop-place
+invariant-loop-place l = AreRows l.lists l.snapshot l.order l.ranks l.place l.out.items

@@ -1,0 +1,3 @@
+pub mod Known
+pub mod Changes
+pub mod inner

@@ -1,0 +1,197 @@
+// Entries that stand for tables.
+ghost use Rattle.std.specs.Prelude.{◌≡◌, ◌<◌, ◌↔◌, IfOk, Some, [], length, map, option_copied, slice_get, Contains};
+ghost use Rattle.fib_reach.specs.Walks.{AllDiffer};
+ghost use Rattle.fib_addr.specs.Prefixes.{Prefix as PrefixValue, IsPrefix};
+ghost use Rattle.fib_resolve.specs.Aims.{marked_list};
+ghost use Rattle.fib_resolve.specs.Pairs.{cover};
+ghost use Rattle.fib_resolve.specs.Loops.{targets, looped_at};
+ghost use Rattle.fib_resolve.specs.Tables.{IsSound, fresh};
+ghost use Rattle.fib_resolve.specs.declared.types.Tables.{Tables as TablesValue};
+ghost use Rattle.fib_entries.specs.Known.{StandsFor, ArePairs, rank_of, chosen_of, prefix_of};
+
+use crate::build::take_all;
+use crate::edges::edges_of;
+use crate::look::row;
+use crate::ranks::ranks;
+use crate::rows::Row;
+use crate::whole;
+use fib_addr::{Addr, Prefix};
+use fib_cover::PrefixSet;
+use fib_paths::{PathListId, PathLists};
+use fib_plain::Snapshot;
+use fib_resolve::{FibSource, Marked, Path, Tables};
+use std::alloc::{AllocError, Global};
+use std::marker::Model;
+
+/// The effective entries of tables. Contracts see their rows in order, with the interned path-lists; `StandsFor` says of which tables
+/// they are.
+#[derive(Drop)]
+pub struct Entries {
+    rows: Vec<Row>,
+    lists: PathLists,
+    order: PrefixSet,
+    objects: u32,
+    alloc: Global,
+}
+
+impl Model for Entries {
+    ghost use Rattle.fib_entries.specs.Known.{Known};
+
+    ghost Value = { Known };
+
+    ghost view = { λ s. record { rows = s.rows.items; lists = s.lists; objects = s.objects } };
+
+    ghost use Rattle.fib_entries.specs.inner.Fields.{AreFields};
+
+    ghost invariant = { λ s. AreFields s.rows.items s.lists s.order };
+}
+
+impl Entries {
+    /// The entries of the tables as they begin: the five prefixes that every table has.
+    pub fn new(alloc: Global) -> Result<Entries, AllocError>
+        ensures { IfOk result (λ v. StandsFor v fresh) }
+    {
+        Entries::of(alloc, &Tables::fresh(alloc))
+    }
+
+    /// The entries of the tables, made anew.
+    pub fn of(alloc: Global, tables: &Tables) -> Result<Entries, AllocError>
+        requires { IsSound tables.now }
+        ensures { IfOk result (λ v. StandsFor v tables.now) }
+    {
+        let snapshot = Snapshot::new(alloc, tables)?;
+        let order = whole::set_of(alloc, snapshot.entries())?;
+        let listed = order.listed(alloc)?;
+        let Ok(nodes) = u32::try_from(listed.len()) else {
+            return Err(AllocError);
+        };
+        let edges = edges_of(alloc, &snapshot, listed.as_slice())?;
+        let ranks = ranks(alloc, nodes, edges.as_slice())?;
+        let mut lists = PathLists::new(alloc);
+        let ids = take_all(alloc, &mut lists, snapshot.pairs())?;
+        let rows = whole::rows_of(
+            alloc,
+            &snapshot,
+            &lists,
+            ids.as_slice(),
+            listed.as_slice(),
+            ranks.as_slice(),
+        )?;
+        let objects = snapshot.size(alloc)?;
+        Ok(Entries {
+            rows,
+            lists,
+            order,
+            objects,
+            alloc,
+        })
+    }
+
+    /// The number of effective entries.
+    pub fn len(&self) -> usize
+        ensures { result ≡ length self.now.rows }
+    {
+        self.rows.len()
+    }
+
+    /// The entry at that place, in order of bits, then length. Its calls tell that it is a prefix.
+    pub fn at(&self, place: usize) -> Prefix
+        requires { place < length self.now.rows }
+        ensures { slice_get (map prefix_of self.now.rows) place ≡ Some result }
+    {
+        self.rows[place].prefix
+    }
+
+    /// The size of the tables, in objects: plies, entries and Hop ends; or 4,294,967,295 where it is greater.
+    pub fn size(&self) -> u32
+        ensures { result ≡ self.now.objects }
+    {
+        self.objects
+    }
+
+    /// The interned path-lists.
+    pub fn lists(&self) -> &PathLists
+        ensures { result.now ≡ self.now.lists }
+    {
+        &self.lists
+    }
+
+    /// The prefix's sources with the numbers of their lists, the best first; empty where the prefix isn't effective.
+    pub fn pairs(&self, prefix: Prefix) -> &[(FibSource, PathListId)]
+        ensures { (S : TablesValue) → StandsFor self.now S → ArePairs self.now.lists S prefix result.now }
+    {
+        match row(self.rows.as_slice(), prefix) {
+            Some(r) => r.pairs.as_slice(),
+            None => &[],
+        }
+    }
+
+    /// The chosen list: that of the best source. None exactly where the prefix isn't effective.
+    pub fn chosen(&self, prefix: Prefix) -> Option<&[Path]>
+        ensures { (S : TablesValue) → StandsFor self.now S → option_copied result ≡ chosen_of S prefix }
+    {
+        match row(self.rows.as_slice(), prefix) {
+            Some(r) => match r.pairs.as_slice().first() {
+                Some((_, id)) => Some(self.lists.content(*id)),
+                None => None,
+            },
+            None => None,
+        }
+    }
+
+    /// Whether the path at that place of the chosen list is there and looped.
+    pub fn looped(&self, prefix: Prefix, place: usize) -> bool
+        ensures { (S : TablesValue) → StandsFor self.now S → result ≡ looped_at S prefix place }
+    {
+        match row(self.rows.as_slice(), prefix) {
+            Some(r) => match r.looped.as_slice().get(place) {
+                Some(mark) => *mark,
+                None => false,
+            },
+            None => false,
+        }
+    }
+
+    /// What the paths of the chosen list are for, and whether they count; empty where the prefix isn't effective.
+    pub fn marked(&self, prefix: Prefix) -> &[Marked]
+        ensures { (S : TablesValue) → StandsFor self.now S → result.now ≡ marked_list S prefix }
+    {
+        match row(self.rows.as_slice(), prefix) {
+            Some(r) => r.marked.as_slice(),
+            None => &[],
+        }
+    }
+
+    /// The prefixes with an edge to it, looped or not, each once.
+    pub fn dependants(&self, prefix: Prefix) -> &[Prefix]
+        ensures once { (S : TablesValue) → StandsFor self.now S → AllDiffer result.now }
+        ensures all { (S : TablesValue) → StandsFor self.now S → (d : PrefixValue) → Contains result.now d ↔ Contains (targets S d) prefix }
+    {
+        match row(self.rows.as_slice(), prefix) {
+            Some(r) => r.dependants.as_slice(),
+            None => &[],
+        }
+    }
+
+    /// The cover of an address: the longest effective prefix below 32 that contains it.
+    pub fn cover(&self, addr: Addr) -> Prefix
+        ensures { (S : TablesValue) → StandsFor self.now S → result ≡ cover S addr }
+    {
+        // Read so that the proof knows its range.
+        let _number = addr.0;
+        match self.order.cover(addr) {
+            Some(prefix) => prefix,
+            None => Prefix::masked(Addr(0), 0),
+        }
+    }
+
+    /// A number that falls along each edge that isn't looped, as `StandsFor` says of `rank_of`; 0 where the prefix isn't effective.
+    pub fn rank(&self, prefix: Prefix) -> u32
+        ensures { result ≡ rank_of self.now.rows prefix }
+    {
+        match row(self.rows.as_slice(), prefix) {
+            Some(r) => r.rank,
+            None => 0,
+        }
+    }
+}

@@ -1,0 +1,20 @@
+//! The effective entries of tables: sources, chosen lists, looped paths, dependants, covers and ranks; and what a change touches.
+//!
+//! What a contract says stands in `specs/Known.antt` (rows and lists, and the tables for which they stand) and `specs/Changes.antt`;
+//! `specs/inner` only carries proofs.
+#![tactic(auto)]
+
+mod build;
+mod changes;
+mod edges;
+mod entries;
+mod look;
+mod parts;
+mod ranks;
+mod rows;
+mod whole;
+
+pub use changes::{FollowError, Followed, Moved, Touched};
+pub use entries::Entries;
+pub use fib_changes::Change;
+pub use rows::Row;

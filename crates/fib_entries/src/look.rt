@@ -1,0 +1,37 @@
+// Rows by their prefixes.
+ghost use Rattle.std.specs.Prelude.{◌≡◌, map, length, option_copied, option_and_then, slice_get, IfSome, ◌<◌};
+ghost use Rattle.fib_addr.specs.Prefixes.{same_prefix};
+ghost use Rattle.fib_cover.specs.Covers.{IsAscending};
+ghost use Rattle.fib_entries.specs.Known.{prefix_of, row_of};
+
+use crate::rows::Row;
+use fib_addr::Prefix;
+
+pub fn is_same(p: Prefix, q: Prefix) -> bool
+    ensures { result ≡ same_prefix p q }
+{
+    p == q
+}
+
+/// The place of the prefix's row.
+fn place_of(rows: &[Row], prefix: Prefix) -> Option<usize>
+    requires { IsAscending (map prefix_of rows.now) }
+    ensures value { option_and_then (slice_get rows.now) result ≡ row_of rows.now prefix }
+    ensures inside { IfSome result (λ k. k < length rows.now) }
+{
+    match rows.binary_search_by_key(&prefix, |r| r.prefix) {
+        Ok(place) => Some(place),
+        Err(_) => None,
+    }
+}
+
+/// The prefix's row.
+pub fn row<'a>(rows: &'a [Row], prefix: Prefix) -> Option<&'a Row>
+    requires { IsAscending (map prefix_of rows.now) }
+    ensures { option_copied result ≡ row_of rows.now prefix }
+{
+    match place_of(rows, prefix) {
+        Some(place) => rows.get(place),
+        None => None,
+    }
+}

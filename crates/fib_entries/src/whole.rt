@@ -1,0 +1,76 @@
+// Entries made anew from tables.
+ghost use Rattle.std.specs.Prelude.{◌≡◌, ◌<◌, ◌^◌, ◌↔◌, ℕ, [], IfOk, Some, Contains, length, map, slice_get, slice_index};
+ghost use Rattle.fib_addr.specs.Prefixes.{Prefix as PrefixValue};
+ghost use Rattle.fib_cover.specs.Covers.{IsAscending};
+ghost use Rattle.fib_resolve.specs.Pairs.{pairs, entries};
+ghost use Rattle.fib_resolve.specs.Tables.{IsSound};
+ghost use Rattle.fib_entries.specs.Known.{IsRow};
+ghost use Rattle.fib_entries.specs.inner.Building.{AreTaken, AreRows};
+
+use crate::parts;
+use crate::rows::Row;
+use fib_addr::Prefix;
+use fib_cover::PrefixSet;
+use fib_plain::Snapshot;
+use fib_paths::{PathListId, PathLists};
+use std::alloc::{AllocError, Global};
+
+/// The set of these prefixes.
+pub fn set_of(alloc: Global, entries: &[Prefix]) -> Result<PrefixSet, AllocError>
+    ensures { IfOk result (λ v. (e : PrefixValue) → Contains v e ↔ Contains entries.now e) }
+{
+    let mut set = PrefixSet::new(alloc);
+    for e in entries {
+        set.insert(*e)?;
+    }
+    Ok(set)
+}
+
+/// The row of an entry.
+fn row_at(
+    alloc: Global,
+    snapshot: &Snapshot<'_>,
+    lists: &PathLists,
+    ids: &[PathListId],
+    prefix: Prefix,
+    rank: u32,
+) -> Result<Row, AllocError>
+    requires sound { IsSound snapshot.now }
+    requires taken { AreTaken lists.now (pairs snapshot.now) ids.now }
+    ensures row { IfOk result (λ r. IsRow lists.now snapshot.now r) }
+    ensures own { IfOk result (λ r. (r.prefix ≡ prefix) × (r.rank ≡ rank)) }
+{
+    let _count = lists.count();
+    // Read so that the proof knows that it is a prefix.
+    let _len = prefix.len();
+    Ok(Row {
+        prefix,
+        pairs: parts::held_of(alloc, prefix, snapshot.pairs(), ids)?,
+        looped: parts::marks_of(alloc, snapshot, prefix)?,
+        met: parts::mets_of(alloc, snapshot, prefix)?,
+        marked: parts::marked_of(alloc, snapshot, prefix)?,
+        dependants: parts::dependants_of(alloc, snapshot, prefix)?,
+        rank,
+    })
+}
+
+/// The rows of the entries.
+pub fn rows_of(
+    alloc: Global,
+    snapshot: &Snapshot<'_>,
+    lists: &PathLists,
+    ids: &[PathListId],
+    order: &[Prefix],
+    ranks: &[u32],
+) -> Result<Vec<Row>, AllocError>
+    requires sound { IsSound snapshot.now }
+    requires taken { AreTaken lists.now (pairs snapshot.now) ids.now }
+    requires ranks { length ranks.now ≡ length order.now }
+    ensures { IfOk result (λ v. AreRows lists.now snapshot.now order.now ranks.now (length order.now) v.items) }
+{
+    let mut out = Vec::new(alloc);
+    for place in 0..order.len() {
+        out.push(row_at(alloc, snapshot, lists, ids, order[place], ranks[place])?)?;
+    }
+    Ok(out)
+}

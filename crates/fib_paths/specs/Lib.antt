@@ -1,0 +1,2 @@
+pub mod PathLists
+pub mod inner

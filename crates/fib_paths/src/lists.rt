@@ -1,0 +1,126 @@
+// Kept path-lists.
+ghost use Rattle.std.specs.Prelude.{◌≡◌, ◌<◌, ◌-◌, ◌^◌, [], length, Some, IsSome, IsTrue, ◌↔◌, IfOk, OnErr, slice_get, option_map};
+ghost use Rattle.fib_interned.specs.Interned.{kept_of, users_of, AreInterned, Takes, Gives};
+ghost use Rattle.fib_paths.specs.PathLists.{IsUsedLess};
+
+use fib_interned::Numbered;
+use fib_resolve::Path;
+use std::alloc::{AllocError, Global};
+use std::marker::Model;
+
+/// The number of a kept path-list. No number is given twice.
+#[derive(Clone, Copy, PartialEq, Eq, PartialOrd, Ord, Debug, Hash)]
+pub struct PathListId(u64);
+
+impl Model for PathListId {
+    ghost use Rattle.std.specs.Prelude.{ℕ};
+
+    ghost Value = { ℕ };
+
+    ghost view = { λ s. s.0 };
+
+    ghost inverse = { λ n. record { 0 = n } };
+}
+
+/// Path-lists that are kept once, however many use them. Contracts see them in the order of their places.
+#[derive(Drop)]
+pub struct PathLists {
+    rows: Numbered<Vec<Path>>,
+    alloc: Global,
+}
+
+impl Model for PathLists {
+    ghost use Rattle.std.specs.Prelude.{List, map};
+    ghost use Rattle.fib_resolve.specs.declared.types.Path.{Path as PathValue};
+    ghost use Rattle.fib_interned.specs.Interned.{Kept};
+    ghost use Rattle.fib_paths.specs.inner.Vectors.{listed, AreApart};
+
+    ghost Value = { List (Kept (List PathValue)) };
+
+    ghost view = { λ s. map listed s.rows };
+
+    ghost invariant = { λ s. AreApart s.rows };
+}
+
+impl PathLists {
+    /// No list is kept. Takes no memory yet.
+    pub fn new(alloc: Global) -> PathLists
+        ensures { result ≡ [] }
+    {
+        PathLists {
+            rows: Numbered::new(alloc),
+            alloc,
+        }
+    }
+
+    /// The number of kept lists.
+    pub fn count(&self) -> usize
+        ensures count { result ≡ length self.now }
+        ensures interned { AreInterned self.now }
+    {
+        self.rows.count()
+    }
+
+    /// The number of the list at that place: places are the numbers below `count`, and any `give` may change the order.
+    pub fn at(&self, place: usize) -> PathListId
+        requires { place < length self.now }
+        ensures { Some result ≡ option_map (λ k. k.id) (slice_get self.now place) }
+    {
+        PathListId(self.rows.at(place))
+    }
+
+    /// The paths of a kept list.
+    pub fn content(&self, id: PathListId) -> &[Path]
+        requires { IsSome (kept_of self.now id) }
+        ensures { option_map (λ k. k.content) (kept_of self.now id) ≡ Some result.now }
+    {
+        self.rows.content(id.0).as_slice()
+    }
+
+    /// How many use a kept list.
+    pub fn users(&self, id: PathListId) -> u32
+        requires { IsSome (kept_of self.now id) }
+        ensures count { result ≡ users_of self.now id }
+        ensures some { 0 < result }
+    {
+        self.rows.users(id.0)
+    }
+
+    /// Whether the list with that content, if there is one, may have a user more.
+    pub fn has_room(&self, content: &[Path]) -> bool
+        ensures { IsTrue result ↔ IsUsedLess self.now content.now (2 ^ 32 - 1) }
+    {
+        let _count = self.rows.count();
+        match self.rows.find(content) {
+            Some(id) => self.rows.users(id) < u32::MAX,
+            None => true,
+        }
+    }
+
+    /// The number of the content: that of the equal list that is kept, which gets one user more, or that of a new list with one user.
+    /// After want of memory all is as before.
+    pub fn take(&mut self, content: &[Path]) -> Result<PathListId, AllocError>
+        requires { IsUsedLess self.old content.now (2 ^ 32 - 1) }
+        ensures taken { IfOk result (λ id. Takes self.old self.new content.now id) }
+        ensures interned { AreInterned self.new }
+        ensures err { OnErr result (self.new ≡ self.old) }
+    {
+        let _count = self.rows.count();
+        if let Some(id) = self.rows.find(content) {
+            self.rows.hold(id);
+            return Ok(PathListId(id));
+        }
+        let copied = content.to_vec(self.alloc)?;
+        let id = self.rows.add(copied)?;
+        Ok(PathListId(id))
+    }
+
+    /// One user less: the list is forgotten with its last one. Takes no memory.
+    pub fn give(&mut self, id: PathListId)
+        requires { IsSome (kept_of self.old id) }
+        ensures given { Gives self.old self.new id }
+        ensures interned { AreInterned self.new }
+    {
+        self.rows.give(id.0);
+    }
+}

@@ -1,0 +1,30 @@
+// Each public call once, with ample memory.
+use super::*;
+use fib_addr::Addr;
+use fib_resolve::{Need, Path, PathKind};
+use std::test::Fail;
+
+fn via(hop: u32) -> Path {
+    Path {
+        kind: PathKind::Recursive(Addr(hop)),
+        need: Need::Any,
+        weight: 1,
+        preference: 0,
+    }
+}
+
+#[test]
+fn equal_lists_are_one(rt: HostRuntime) -> Result<(), Fail> {
+    let mut lists = PathLists::new(rt.alloc());
+    let one = [via(1)];
+    let two = [via(1), via(2)];
+    let first = lists.take(&one)?;
+    assert!(rt; lists.has_room(&two));
+    let second = lists.take(&two)?;
+    assert!(rt; lists.has_room(&one));
+    let again = lists.take(&one)?;
+    assert_eq!(rt; first, again);
+    assert_ne!(rt; first, second);
+    assert_eq!(rt; lists.count(), 2);
+    Ok(())
+}
