@@ -12,7 +12,7 @@ use Rattle.fib_reach.specs.Walks.{Leads}
 use Rattle.fib_reach.specs.Graphs.{Edge}
 use Rattle.fib_reach.proofs.Walking.{leads_self}
 use Rattle.fib_reach.proofs.Visits.{same_or_not}
-use Rattle.fib_loops.specs.Inner.Entering.{IsEntering, AreStacked, unset}
+use Rattle.fib_loops.specs.inner.Entering.{IsEntering, AreStacked, unset}
 
 abbrev unit_of : ℕ → ℕ
 unit_of s = cond (eqb s 0) 1 0

@@ -8,7 +8,7 @@ use Rattle.fib_reach.specs.Walks.{Leads}
 use Rattle.fib_reach.specs.Graphs.{IsClosed, Edge, next_of}
 use Rattle.fib_reach.proofs.Places.{any_default}
 use Rattle.fib_reach.proofs.Walking.{leads_then, edge_leads}
-use Rattle.fib_loops.specs.Inner.Entering.{IsEntering, IsPassed, ArePassed, KeepsEntered, nodes_of, unset}
+use Rattle.fib_loops.specs.inner.Entering.{IsEntering, IsPassed, ArePassed, KeepsEntered, nodes_of, unset}
 use Rattle.fib_loops.specs.declared.enter.Frame.{Frame}
 use Rattle.fib_loops.proofs.Entered.{node_entered, node_left_now, entered_kept, pairs_last, unset_less}
 

@@ -4,7 +4,7 @@ use Rattle.std.specs.Prelude.{Contains}
 use Rattle.std.proofs.lemmas.List.Elements.{All-contains, Contains-push, Contains-push_cases, Contains-append_left}
 use Rattle.fib_reach.specs.Graphs.{IsClosed, with_edge, next_of}
 use Rattle.fib_reach.proofs.Graphs.{with_edge-iff}
-use Rattle.fib_loops.specs.Inner.Entering.{Joins, JoinsBack}
+use Rattle.fib_loops.specs.inner.Entering.{Joins, JoinsBack}
 use Rattle.fib_loops.specs.Loops.{AreEdges}
 
 -- one more pair at the end of a list

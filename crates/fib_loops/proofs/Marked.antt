@@ -8,7 +8,7 @@ use Rattle.std.proofs.lemmas.List.Elements.{recursion_from_All, Contains-get_or}
 use Rattle.fib_reach.specs.Walks.{Walk, Among, AllDiffer}
 use Rattle.fib_reach.proofs.Places.{any_default}
 use Rattle.fib_loops.specs.Loops.{AreEdges, IsLooped, StandsBefore, IsMarked}
-use Rattle.fib_loops.specs.Inner.Parting.{IsOrdered, IsParted}
+use Rattle.fib_loops.specs.inner.Parting.{IsOrdered, IsParted}
 use Rattle.fib_loops.proofs.Parted.{rank_some}
 
 -- the two ends are in one part

@@ -10,8 +10,8 @@ use Rattle.fib_reach.proofs.Places.{any_default}
 use Rattle.fib_reach.proofs.Walking.{leads-map}
 use Rattle.fib_loops.specs.declared.enter.Entering.{Entering}
 use Rattle.fib_loops.specs.declared.enter.Frame.{Frame}
-use Rattle.fib_loops.specs.Inner.Entering.{IsEntering, HasLeft, nodes_of}
-use Rattle.fib_loops.specs.Inner.Parting.{IsOrdered, IsParted}
+use Rattle.fib_loops.specs.inner.Entering.{IsEntering, HasLeft, nodes_of}
+use Rattle.fib_loops.specs.inner.Parting.{IsOrdered, IsParted}
 
 module _ (g : List (List ℕ)) (starts ranks order : List ℕ) (v : IsEntering g starts ranks order []) (all : (x : ℕ) → x < length g → 0 < get_or ranks x 0) where
   at : (x : ℕ) → x < length g → (k : ℕ) × (k < length order) × (get_or order k 0 ≡ x) × (get_or ranks x 0 ≡ k + 1)

@@ -9,8 +9,8 @@ use Rattle.fib_reach.specs.Walks.{Leads}
 use Rattle.fib_reach.proofs.Places.{any_default}
 use Rattle.fib_reach.proofs.Walking.{leads_self, leads_then, edge_leads}
 use Rattle.fib_reach.proofs.Visits.{same_or_not}
-use Rattle.fib_loops.specs.Inner.Entering.{unset}
-use Rattle.fib_loops.specs.Inner.Parting.{IsOrdered, IsParted, IsGrowing, take_one}
+use Rattle.fib_loops.specs.inner.Entering.{unset}
+use Rattle.fib_loops.specs.inner.Parting.{IsOrdered, IsParted, IsGrowing, take_one}
 use Rattle.fib_loops.proofs.Entered.{unset_less}
 use Rattle.fib_list.proofs.Lists.{either}
 

@@ -1,7 +1,7 @@
 // Edges as pairs, made into graphs.
 ghost use Rattle.std.specs.Prelude.{◌≡◌, ℕ, IfOk};
 ghost use Rattle.fib_loops.specs.Loops.{AreEdges};
-ghost use Rattle.fib_loops.specs.Inner.Entering.{Joins, JoinsBack};
+ghost use Rattle.fib_loops.specs.inner.Entering.{Joins, JoinsBack};
 
 use fib_reach::Graph;
 use std::alloc::{AllocError, Global};

@@ -1,7 +1,7 @@
 // A walk over all nodes, depth first, that lists each as it is left.
 ghost use Rattle.std.specs.Prelude.{◌≡◌, ℕ, ◌+◌, ◌<◌, ◌≤◌, ◌^◌, [], ◌∷◌, ◌++◌, length, Contains, slice_index, slice_set, replicate, OnOk, IfOk};
 ghost use Rattle.fib_reach.specs.Graphs.{IsClosed, next_of};
-ghost use Rattle.fib_loops.specs.Inner.Entering.{IsEntering, ArePassed, Enters, KeepsEntered, HasLeft, nodes_of, steps_left};
+ghost use Rattle.fib_loops.specs.inner.Entering.{IsEntering, ArePassed, Enters, KeepsEntered, HasLeft, nodes_of, steps_left};
 
 use fib_reach::Graph;
 use std::alloc::{AllocError, Global};

@@ -1,7 +1,7 @@
 // Nodes parted into those that lead to one another.
 ghost use Rattle.std.specs.Prelude.{◌≡◌, ℕ, ◌+◌, ◌<◌, ◌^◌, length, slice_index, OnOk, IfOk};
 ghost use Rattle.std.specs.List.{All};
-ghost use Rattle.fib_loops.specs.Inner.Parting.{BackEdge, IsOrdered, IsParted, take_all};
+ghost use Rattle.fib_loops.specs.inner.Parting.{BackEdge, IsOrdered, IsParted, take_all};
 ghost use Rattle.fib_reach.specs.Graphs.{IsClosed};
 
 use crate::enter::Entering;

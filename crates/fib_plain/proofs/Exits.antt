@@ -12,7 +12,7 @@ use Rattle.fib_resolve.specs.declared.types.Path.{Path}
 use Rattle.fib_resolve.specs.declared.types.PathKind.{PathKind}
 use Rattle.fib_resolve.specs.declared.types.PathKind.TheVariants as kinds
 use Rattle.fib_resolve.specs.declared.types.Tables.{Tables}
-use Rattle.fib_plain.specs.Inner.Exits.{exit_of, exits_of, exits, exit_end}
+use Rattle.fib_plain.specs.inner.Exits.{exit_of, exits_of, exits, exit_end}
 use Rattle.fib_plain.specs.declared.possible.Exit.{Exit}
 
 -- one path more

@@ -12,7 +12,7 @@ use Rattle.fib_resolve.specs.declared.types.Path.{Path}
 use Rattle.fib_resolve.specs.declared.types.Tables.{Tables}
 use Rattle.fib_plain.specs.declared.ways.NextStep.{NextStep}
 use Rattle.fib_plain.specs.declared.ways.NextStep.TheVariants as next_steps
-use Rattle.fib_plain.specs.Inner.Steps.{EndsOrGoesOn, Steps}
+use Rattle.fib_plain.specs.inner.Steps.{EndsOrGoesOn, Steps}
 
 follow_suc : (S : Tables) (n : ℕ) (e : Prefix) (h : ℕ) → follow S (suc n) e h ≡ take_path S (follow S n) e h (slice_get (wanted S e) (h % 16))
 unfolding follow

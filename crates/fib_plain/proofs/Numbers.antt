@@ -16,8 +16,8 @@ use Rattle.fib_resolve.proofs.Covering.{entries_apart}
 use Rattle.fib_resolve.proofs.Entries.{is_entry, no_pair}
 use Rattle.fib_resolve.specs.declared.pairs.Pair.{Pair}
 use Rattle.fib_resolve.specs.declared.types.Tables.{Tables}
-use Rattle.fib_plain.specs.Inner.Rows.{number_in}
-use Rattle.fib_plain.specs.Inner.Places.{pair_at}
+use Rattle.fib_plain.specs.inner.Rows.{number_in}
+use Rattle.fib_plain.specs.inner.Places.{pair_at}
 
 nothing : Prefix
 nothing = record { bits = 0; len = 0 }

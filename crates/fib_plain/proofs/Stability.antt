@@ -10,7 +10,7 @@ use Rattle.fib_resolve.specs.Pairs.{entries, chosen}
 use Rattle.fib_resolve.specs.Forwarding.{forwards, forwards_in, forwards_by, limit, usable_by}
 use Rattle.fib_resolve.specs.declared.types.Tables.{Tables}
 use Rattle.fib_resolve.proofs.Steady.{never, forwards_in-steady, agree_everywhere, next_round}
-use Rattle.fib_plain.specs.Inner.Rows.{rows_of, facts_of, facts_of_path, usable_now}
+use Rattle.fib_plain.specs.inner.Rows.{rows_of, facts_of, facts_of_path, usable_now}
 use Rattle.fib_plain.specs.declared.facts.PathFacts.{PathFacts}
 use Rattle.fib_plain.proofs.Leading.{Marks, usable_now-is}
 

@@ -5,7 +5,7 @@ ghost use Rattle.std.specs.Cmp.Lexicographic.{pointwise};
 ghost use Rattle.fib_resolve.specs.Keys.{same_path};
 ghost use Rattle.fib_resolve.specs.Pairs.{base_pairs, short_prefixes, cover, attached_by, is_interface, neighbor_pairs, derived_kind, derived_pair, recursive_kind, recursive_of, recursive_hops, all_pairs, same_pair, pairs, entries, one};
 ghost use Rattle.fib_resolve.specs.Tables.{IsSound};
-ghost use Rattle.fib_plain.specs.Inner.Bases.{IsBase};
+ghost use Rattle.fib_plain.specs.inner.Bases.{IsBase};
 
 use crate::{base, search};
 use fib_addr::{Addr, Prefix};

@@ -3,7 +3,7 @@ ghost use Rattle.std.specs.Prelude.{◌≡◌, ◌<◌, ℕ, Some, IfOk, map, ta
 ghost use Rattle.fib_resolve.specs.Pairs.{chosen, is_derived};
 ghost use Rattle.fib_resolve.specs.Loops.{looped_kind};
 ghost use Rattle.fib_resolve.specs.Forwarding.{is_up, up_of, kind_ends, is_attached_list, is_met, usable_by};
-ghost use Rattle.fib_plain.specs.Inner.Rows.{IsKnown, number_in, goal_number, graph_of, is_entry, facts_of_path, facts_of, rows_of};
+ghost use Rattle.fib_plain.specs.inner.Rows.{IsKnown, number_in, goal_number, graph_of, is_entry, facts_of_path, facts_of, rows_of};
 
 use crate::known::{self, Known};
 use crate::loops;
@@ -86,7 +86,7 @@ fn is_looped(graph: &mut Graph, known: Known<'_>, e: Prefix, number: u32, kind: 
     }
 }
 
-#[tactic(auto, unfolding(crate::specs::Inner::Rows::facts_of_path))]
+#[tactic(auto, unfolding(crate::specs::inner::Rows::facts_of_path))]
 fn facts_for(graph: &mut Graph, known: Known<'_>, e: Prefix, number: u32, p: &Path) -> PathFacts
     requires known { IsKnown known }
     requires graph { graph.old ≡ graph_of known.tables.now }
@@ -104,7 +104,7 @@ fn facts_for(graph: &mut Graph, known: Known<'_>, e: Prefix, number: u32, p: &Pa
     }
 }
 
-#[tactic(auto, unfolding(crate::specs::Inner::Rows::facts_of))]
+#[tactic(auto, unfolding(crate::specs::inner::Rows::facts_of))]
 fn row(
     alloc: Global,
     graph: &mut Graph,
@@ -126,7 +126,7 @@ fn row(
 }
 
 /// What is known of the paths of each entry. Each edge is searched once.
-#[tactic(auto, unfolding(crate::specs::Inner::Rows::rows_of))]
+#[tactic(auto, unfolding(crate::specs::inner::Rows::rows_of))]
 pub fn rows(alloc: Global, known: Known<'_>) -> Result<Vec<List<PathFacts>>, AllocError>
     requires { IsKnown known }
     ensures { IfOk result (λ v. v.items ≡ rows_of known.entry.tables.now) }

@@ -4,8 +4,8 @@ ghost use Rattle.std.specs.Set.{is_member};
 ghost use Rattle.fib_addr.specs.Prefixes.{Prefix as PrefixValue, same_prefix};
 ghost use Rattle.fib_resolve.specs.Pairs.{pairs, entries, chosen, best_pair, paths_of, is_derived, is_derived_pair};
 ghost use Rattle.fib_resolve.specs.Loops.{targets, kind_targets};
-ghost use Rattle.fib_plain.specs.Inner.Places.{pair_at};
-ghost use Rattle.fib_plain.specs.Inner.Rows.{IsKnown, number_in, goal_of};
+ghost use Rattle.fib_plain.specs.inner.Places.{pair_at};
+ghost use Rattle.fib_plain.specs.inner.Rows.{IsKnown, number_in, goal_of};
 
 use crate::{effective, search};
 use fib_addr::Prefix;
@@ -44,7 +44,7 @@ fn place_of(entries: &[Prefix], p: Prefix) -> Option<usize>
 }
 
 /// The number of an entry.
-#[tactic(auto, using(crate::proofs::Numbers::number_below), unfolding(crate::specs::Inner::Rows::number_in))]
+#[tactic(auto, using(crate::proofs::Numbers::number_below), unfolding(crate::specs::inner::Rows::number_in))]
 pub fn number_of(known: Known<'_>, p: Prefix) -> Option<usize>
     requires { IsKnown known }
     ensures value { result ≡ number_in known.entry.tables.now p }

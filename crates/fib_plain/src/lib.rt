@@ -1,7 +1,7 @@
 //! The answers that tables mean, by plain programs over lists: each equals its definition, and want of memory is its only other
 //! answer.
 //!
-//! A `Snapshot` holds what many answers share, and is made once a table. Relations that carry proofs alone stand in `specs/Inner`.
+//! A `Snapshot` holds what many answers share, and is made once a table. Relations that carry proofs alone stand in `specs/inner`.
 #![tactic(auto)]
 
 mod answers;

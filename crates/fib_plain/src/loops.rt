@@ -3,7 +3,7 @@ ghost use Rattle.std.specs.Prelude.{◌≡◌, ◌<◌, ◌^◌, ◌++◌, ℕ, 
 ghost use Rattle.fib_reach.specs.Graphs.{next_of, with_edge};
 ghost use Rattle.fib_resolve.specs.Pairs.{chosen};
 ghost use Rattle.fib_resolve.specs.Loops.{looped, looped_kind};
-ghost use Rattle.fib_plain.specs.Inner.Rows.{IsKnown, number_in, goal_of, goal_number, next_numbers, graph_of};
+ghost use Rattle.fib_plain.specs.inner.Rows.{IsKnown, number_in, goal_of, goal_number, next_numbers, graph_of};
 
 use crate::known::{self, Known};
 use fib_addr::{Addr, Prefix};
@@ -12,7 +12,7 @@ use fib_resolve::PathKind;
 use std::alloc::{AllocError, Global};
 
 /// The number of the entry to which a path leads.
-#[tactic(auto, unfolding(crate::specs::Inner::Rows::goal_number))]
+#[tactic(auto, unfolding(crate::specs::inner::Rows::goal_number))]
 pub fn goal_number(known: Known<'_>, e: Prefix, kind: PathKind) -> Option<u32>
     requires { IsKnown known }
     ensures value { result ≡ goal_number known.entry.tables.now e kind }
@@ -24,7 +24,7 @@ pub fn goal_number(known: Known<'_>, e: Prefix, kind: PathKind) -> Option<u32>
 }
 
 /// The numbers of the entries to which an entry has an edge.
-#[tactic(auto, unfolding(crate::specs::Inner::Rows::next_numbers))]
+#[tactic(auto, unfolding(crate::specs::inner::Rows::next_numbers))]
 fn next_numbers(alloc: Global, known: Known<'_>, e: Prefix) -> Result<Vec<u32>, AllocError>
     requires { IsKnown known }
     ensures { IfOk result (λ v. v.items ≡ next_numbers known.entry.tables.now e) }
@@ -48,7 +48,7 @@ fn add_row(graph: &mut Graph, from: u32, row: &[u32]) -> Result<(), AllocError>
 }
 
 /// The graph of all edges.
-#[tactic(auto, unfolding(crate::specs::Inner::Rows::graph_of))]
+#[tactic(auto, unfolding(crate::specs::inner::Rows::graph_of))]
 pub fn graph(alloc: Global, known: Known<'_>) -> Result<Graph, AllocError>
     requires { IsKnown known }
     ensures { IfOk result (λ g. g ≡ graph_of known.entry.tables.now) }

@@ -3,8 +3,8 @@ ghost use Rattle.std.specs.Prelude.{◌≡◌, ◌++◌, ◌∷◌, [], OnOk, If
 ghost use Rattle.fib_resolve.specs.Pairs.{chosen, entries};
 ghost use Rattle.fib_resolve.specs.Forwarding.{usable};
 ghost use Rattle.fib_resolve.specs.Resolution.{ends};
-ghost use Rattle.fib_plain.specs.Inner.Views.{IsView};
-ghost use Rattle.fib_plain.specs.Inner.Exits.{exit_of, exits_of, exits, end_of, exit_end};
+ghost use Rattle.fib_plain.specs.inner.Views.{IsView};
+ghost use Rattle.fib_plain.specs.inner.Exits.{exit_of, exits_of, exits, end_of, exit_end};
 
 use crate::view::{self, View};
 use crate::ways;

@@ -4,7 +4,7 @@ ghost use Rattle.std.specs.Prelude.{◌≡◌, ◌+◌, ◌≤◌, ℕ, false, I
 ghost use Rattle.std.specs.List.{list_any};
 ghost use Rattle.fib_resolve.specs.Pairs.{entries};
 ghost use Rattle.fib_resolve.specs.Forwarding.{forwards, forwards_in};
-ghost use Rattle.fib_plain.specs.Inner.Rows.{marked, target_marked, usable_now, rows_of};
+ghost use Rattle.fib_plain.specs.inner.Rows.{marked, target_marked, usable_now, rows_of};
 
 use crate::facts::PathFacts;
 use fib_list::List;

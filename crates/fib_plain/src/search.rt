@@ -5,7 +5,7 @@ ghost use Rattle.fib_addr.specs.Prefixes.{same_prefix};
 ghost use Rattle.fib_addr.specs.Longest.{longest, longer};
 ghost use Rattle.fib_resolve.specs.Pairs.{best_pair, better, paths_of, attached_of, is_short, prefix_of, same_pair};
 ghost use Rattle.fib_resolve.specs.declared.pairs.Pair.{Pair as PairValue};
-ghost use Rattle.fib_plain.specs.Inner.Places.{pair_at};
+ghost use Rattle.fib_plain.specs.inner.Places.{pair_at};
 
 use fib_addr::{Addr, Prefix};
 use fib_resolve::{Pair, Path, PathKind};

@@ -5,7 +5,7 @@ ghost use Rattle.fib_addr.specs.Prefixes.{same_prefix};
 ghost use Rattle.fib_addr.specs.Longest.{everything};
 ghost use Rattle.fib_resolve.specs.Pairs.{entries, chosen};
 ghost use Rattle.fib_resolve.specs.Sizes.{plies_of, plies, kind_adjacency, same_adjacency, adjacencies_of, adjacencies, size};
-ghost use Rattle.fib_plain.specs.Inner.Rows.{IsKnown};
+ghost use Rattle.fib_plain.specs.inner.Rows.{IsKnown};
 
 use crate::known::{self, Known};
 use crate::search;

@@ -8,8 +8,8 @@ ghost use Rattle.fib_resolve.specs.Resolution.{resolve, mac_of, ends};
 ghost use Rattle.fib_resolve.specs.Touched.{touched};
 ghost use Rattle.fib_resolve.specs.Sizes.{adjacencies, size};
 ghost use Rattle.fib_resolve.specs.Tables.{IsSound};
-ghost use Rattle.fib_plain.specs.Inner.Rows.{IsKnown};
-ghost use Rattle.fib_plain.specs.Inner.Views.{IsView};
+ghost use Rattle.fib_plain.specs.inner.Rows.{IsKnown};
+ghost use Rattle.fib_plain.specs.inner.Views.{IsView};
 
 use crate::effective::{self, Base};
 use crate::facts::{self, PathFacts};
@@ -42,7 +42,7 @@ impl<'a> Model for Snapshot<'a> {
 
     ghost Value = { TablesValue };
 
-    ghost use Rattle.fib_plain.specs.Inner.Snapshots.{IsSnapshot};
+    ghost use Rattle.fib_plain.specs.inner.Snapshots.{IsSnapshot};
 
     ghost view = { λ s. s.tables.now };
 

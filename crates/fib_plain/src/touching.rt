@@ -5,7 +5,7 @@ ghost use Rattle.std.specs.Set.{is_member, unique_keys};
 ghost use Rattle.fib_addr.specs.Prefixes.{same_prefix};
 ghost use Rattle.fib_resolve.specs.Pairs.{same_pair, chosen, entries, pairs};
 ghost use Rattle.fib_resolve.specs.Touched.{other_flag, other_mac, kind_changes, same_pairs, pairs_of, is_touched, touched};
-ghost use Rattle.fib_plain.specs.Inner.Views.{IsView};
+ghost use Rattle.fib_plain.specs.inner.Views.{IsView};
 
 use crate::view::{self, View};
 use crate::{effective, facts, known, search, ways};

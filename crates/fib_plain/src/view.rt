@@ -4,8 +4,8 @@ ghost use Rattle.fib_resolve.specs.Pairs.{chosen};
 ghost use Rattle.fib_resolve.specs.Loops.{looped_at};
 ghost use Rattle.fib_resolve.specs.Forwarding.{usable, usable_at};
 ghost use Rattle.fib_resolve.specs.Buckets.{least_preference, of_least_preference, used, spread, wanted, IsShort};
-ghost use Rattle.fib_plain.specs.Inner.Rows.{facts_of};
-ghost use Rattle.fib_plain.specs.Inner.Views.{IsView};
+ghost use Rattle.fib_plain.specs.inner.Rows.{facts_of};
+ghost use Rattle.fib_plain.specs.inner.Views.{IsView};
 
 use crate::facts::PathFacts;
 use crate::known::{self, Known};

@@ -4,8 +4,8 @@ ghost use Rattle.fib_resolve.specs.Pairs.{entries, best, cover};
 ghost use Rattle.fib_resolve.specs.Forwarding.{limit};
 ghost use Rattle.fib_resolve.specs.Buckets.{wanted};
 ghost use Rattle.fib_resolve.specs.Resolution.{mac_of, hop_end, attached_end, follow, resolve, way};
-ghost use Rattle.fib_plain.specs.Inner.Views.{IsView};
-ghost use Rattle.fib_plain.specs.Inner.Steps.{Steps, EndsOrGoesOn};
+ghost use Rattle.fib_plain.specs.inner.Views.{IsView};
+ghost use Rattle.fib_plain.specs.inner.Steps.{Steps, EndsOrGoesOn};
 
 use crate::view::{self, View};
 use crate::{effective, search};

@@ -4,7 +4,7 @@ use Rattle.std.specs.Prelude.{Contains}
 use Rattle.std.proofs.lemmas.List.Elements.{Contains-push, Contains-push_cases, Contains-append_left}
 use Rattle.fib_reach.specs.Walks.{Plus}
 use Rattle.fib_reach.specs.Graphs.{next_of, Edge, with_edge}
-use Rattle.fib_reach.specs.Inner.Visits.{IsGraph}
+use Rattle.fib_reach.specs.inner.Visits.{IsGraph}
 use Rattle.fib_reach.proofs.Visits.{same_or_not}
 
 module _ (g : List (List ℕ)) (x y : ℕ) (x_in : x < length g) where

@@ -7,7 +7,7 @@ use Rattle.std.proofs.lemmas.List.Elements.{All-push, All-nil, All-contains, Con
 use Rattle.fib_reach.specs.Walks.{Reaches}
 use Rattle.fib_reach.specs.Graphs.{next_of, Edge}
 use Rattle.fib_reach.specs.Seen.{GrowsBy}
-use Rattle.fib_reach.specs.Inner.Visits.{GrowsFrom}
+use Rattle.fib_reach.specs.inner.Visits.{GrowsFrom}
 use Rattle.fib_reach.proofs.Places.{any_default}
 use Rattle.fib_reach.proofs.Searched.{Searched, searched_found, searched_more}
 

@@ -10,7 +10,7 @@ use Rattle.std.proofs.lemmas.Map.Steps.{length-le_from_distinct_below}
 use Rattle.std.proofs.lemmas.Map.Views.{Contains-from_any}
 use Rattle.std.proofs.lemmas.List.{get_or-replicate, get_or_past, length-replicate}
 use Rattle.std.proofs.lemmas.List.Elements.{Contains-push, Contains-push_cases, Contains-append_left}
-use Rattle.fib_reach.specs.Inner.Visits.{IsVisit, IsSearch}
+use Rattle.fib_reach.specs.inner.Visits.{IsVisit, IsSearch}
 use Rattle.fib_list.proofs.Lists.{either}
 use Rattle.fib_reach.proofs.Places.{any_default}
 

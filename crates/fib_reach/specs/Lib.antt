@@ -2,4 +2,4 @@ pub mod Graphs
 pub mod Search
 pub mod Seen
 pub mod Walks
-pub mod Inner
+pub mod inner

@@ -2,7 +2,7 @@
 ghost use Rattle.std.specs.Prelude.{◌≡◌, ℕ, ◌<◌, ◌↔◌, List, [], replicate, length, OnOk, OnErr, IfOk, IsTrue};
 ghost use Rattle.fib_reach.specs.Walks.{Reaches, Plus};
 ghost use Rattle.fib_reach.specs.Graphs.{Edge, next_of, with_edge};
-ghost use Rattle.fib_reach.specs.Inner.Visits.{IsGraph};
+ghost use Rattle.fib_reach.specs.inner.Visits.{IsGraph};
 
 use crate::reach;
 use crate::visit::Search;

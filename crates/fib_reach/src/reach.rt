@@ -3,7 +3,7 @@ ghost use Rattle.std.specs.Prelude.{◌≡◌, ◌≢◌, ℕ, ◌<◌, ◌↔�
 ghost use Rattle.std.specs.Bool.{OnTrue, OnFalse};
 ghost use Rattle.fib_reach.specs.Walks.{Reaches};
 ghost use Rattle.fib_reach.specs.Graphs.{Edge, IsClosed};
-ghost use Rattle.fib_reach.specs.Inner.Visits.{GrowsFrom};
+ghost use Rattle.fib_reach.specs.inner.Visits.{GrowsFrom};
 
 use crate::visit::Search;
 use fib_list::List;

@@ -1,7 +1,7 @@
 // Searches over numbered nodes, one after another, over room that stands ready.
 ghost use Rattle.std.specs.Prelude.{◌≡◌, ℕ, ◌+◌, ◌<◌, ◌≤◌, [], ◌∷◌, length, IfOk, IfSome, IfNone, Contains, slice_index, vec_capacity};
 ghost use Rattle.fib_reach.specs.Seen.{IsNext, GrowsBy};
-ghost use Rattle.fib_reach.specs.Inner.Visits.{IsVisit};
+ghost use Rattle.fib_reach.specs.inner.Visits.{IsVisit};
 
 use std::alloc::{AllocError, Global};
 use std::marker::Model;
@@ -21,7 +21,7 @@ pub struct Search {
 impl Model for Search {
     ghost use Rattle.std.specs.Prelude.{length, vec_capacity};
     ghost use Rattle.fib_reach.specs.Seen.{Seen};
-    ghost use Rattle.fib_reach.specs.Inner.Visits.{IsSearch};
+    ghost use Rattle.fib_reach.specs.inner.Visits.{IsSearch};
 
     ghost Value = { Seen };
 

@@ -1,4 +1,4 @@
-use Rattle.fib_loops.specs.Inner.Entering.{JoinsBack}
+use Rattle.fib_loops.specs.inner.Entering.{JoinsBack}
 use Rattle.std.proofs.Common.{take}
 use Rattle.fib_loops.proofs.edges.backward.Given as goal
 

@@ -1,7 +1,7 @@
 use Rattle.std.proofs.Common.{ℕ, List, take, get_or, sym, subst}
 use Rattle.std.proofs.lemmas.List.{take_more, take_all}
 use Rattle.fib_reach.specs.Graphs.{with_edge}
-use Rattle.fib_loops.specs.Inner.Entering.{Joins}
+use Rattle.fib_loops.specs.inner.Entering.{Joins}
 use Rattle.fib_loops.proofs.Joined.{joins_more}
 use Rattle.fib_loops.proofs.edges.forward.Goals as goal
 

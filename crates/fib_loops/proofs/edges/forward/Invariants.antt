@@ -1,4 +1,4 @@
-use Rattle.fib_loops.specs.Inner.Entering.{Joins}
+use Rattle.fib_loops.specs.inner.Entering.{Joins}
 use Rattle.std.proofs.Common.{take}
 use Rattle.fib_loops.proofs.edges.forward.Given as goal
 

@@ -1,6 +1,6 @@
 use Rattle.std.proofs.Common.{◌≡◌, [], ℕ, ◌<◌}
 use Rattle.std.specs.Prelude.{slice_index}
-use Rattle.fib_loops.specs.Inner.Entering.{Enters}
+use Rattle.fib_loops.specs.inner.Entering.{Enters}
 use Rattle.fib_loops.proofs.enter.enter_all.Given as goal
 
 abbrev pub invariant-loop-root : goal.invariant-loop-root

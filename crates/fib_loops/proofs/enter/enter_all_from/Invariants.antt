@@ -1,6 +1,6 @@
 use Rattle.std.proofs.Common.{◌<◌}
 use Rattle.std.specs.Prelude.{slice_index}
-use Rattle.fib_loops.specs.Inner.Entering.{Enters, KeepsEntered, steps_left}
+use Rattle.fib_loops.specs.inner.Entering.{Enters, KeepsEntered, steps_left}
 use Rattle.fib_loops.proofs.enter.enter_all_from.Given as goal
 
 abbrev pub invariant-loop-newest : goal.invariant-loop-newest

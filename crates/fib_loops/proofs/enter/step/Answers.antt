@@ -1,6 +1,6 @@
 use Rattle.std.proofs.Common.{arith, ℕ, List, [], ◌∷◌, ◌++◌, ◌+◌, length, length-append, ap, ◌∙◌}
 use Rattle.std.specs.Prelude.{slice_index}
-use Rattle.fib_loops.specs.Inner.Entering.{unset}
+use Rattle.fib_loops.specs.inner.Entering.{unset}
 use Rattle.fib_loops.specs.declared.enter.Frame.{Frame}
 use Rattle.fib_loops.proofs.Frames.{on_ok_two, newest_in, newest_passed, target_in, enters_one, passes_one, enters_shorter, leaves_one, passed_front, enters_same}
 use Rattle.fib_loops.proofs.enter.step.Goals as goal

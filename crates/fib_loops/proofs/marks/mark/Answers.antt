@@ -1,7 +1,7 @@
 use Rattle.std.proofs.Common.{◌≡◌, ◌↔◌, ℕ, List, length, sym, ◌∙◌, subst}
 use Rattle.fib_reach.specs.Walks.{Among}
 use Rattle.fib_reach.specs.Graphs.{Edge}
-use Rattle.fib_loops.specs.Inner.Parting.{BackEdge, IsOrdered, IsParted}
+use Rattle.fib_loops.specs.inner.Parting.{BackEdge, IsOrdered, IsParted}
 use Rattle.fib_loops.proofs.Joined.{joins_closed, joins_back_closed}
 use Rattle.fib_loops.proofs.Ordered.{ordered_from_left, ordered_map, parted_map}
 use Rattle.fib_loops.proofs.Marked.{is_marked}

@@ -1,8 +1,8 @@
 use Rattle.std.proofs.Common.{arith, ℕ, List, ◌+◌, ◌<◌, length, get_or, ap, refl, sym, subst}
 use Rattle.std.specs.Prelude.{Contains}
 use Rattle.std.proofs.lemmas.List.Elements.{Contains-get_or}
-use Rattle.fib_loops.specs.Inner.Entering.{unset}
-use Rattle.fib_loops.specs.Inner.Parting.{BackEdge}
+use Rattle.fib_loops.specs.inner.Entering.{unset}
+use Rattle.fib_loops.specs.inner.Parting.{BackEdge}
 use Rattle.fib_loops.proofs.Parted.{rank_some, part_starts, part_whole, step_grows, step_sized}
 use Rattle.fib_loops.proofs.part.grow.Goals as goal
 

@@ -1,6 +1,6 @@
 use Rattle.std.proofs.Common.{◌+◌, ◌-◌, length}
-use Rattle.fib_loops.specs.Inner.Entering.{unset}
-use Rattle.fib_loops.specs.Inner.Parting.{BackEdge, IsGrowing}
+use Rattle.fib_loops.specs.inner.Entering.{unset}
+use Rattle.fib_loops.specs.inner.Parting.{BackEdge, IsGrowing}
 use Rattle.fib_loops.proofs.part.grow.Given as goal
 
 abbrev pub invariant-loop-place : goal.invariant-loop-place

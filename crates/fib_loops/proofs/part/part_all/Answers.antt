@@ -1,5 +1,5 @@
 use Rattle.std.proofs.Common.{arith, ◌-◌, ◌<◌, length, get_or}
-use Rattle.fib_loops.specs.Inner.Parting.{BackEdge}
+use Rattle.fib_loops.specs.inner.Parting.{BackEdge}
 use Rattle.fib_loops.proofs.Parted.{rank_read, rank_tells, rank_most, parted_none, parted_skip, all_zero, positive}
 use Rattle.fib_loops.proofs.part.part_all.Goals as goal
 use Rattle.fib_loops.proofs.part.part_all.Goals.{then-index-eq0+in_ok-grow, else-index-eq0}

@@ -1,5 +1,5 @@
 use Rattle.std.proofs.Common.{length}
-use Rattle.fib_loops.specs.Inner.Parting.{BackEdge, IsParted}
+use Rattle.fib_loops.specs.inner.Parting.{BackEdge, IsParted}
 use Rattle.fib_loops.proofs.part.part_all.Given as goal
 
 abbrev pub invariant-loop-done : goal.invariant-loop-done

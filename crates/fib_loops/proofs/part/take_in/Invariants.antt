@@ -1,5 +1,5 @@
 use Rattle.std.proofs.Common.{◌≡◌, length, take}
-use Rattle.fib_loops.specs.Inner.Parting.{take_all}
+use Rattle.fib_loops.specs.inner.Parting.{take_all}
 use Rattle.fib_loops.proofs.part.take_in.Given as goal
 
 abbrev pub invariant-loop-source : goal.invariant-loop-source

@@ -1,5 +1,5 @@
 use Rattle.std.proofs.Common.{◌≡◌, take, map}
-use Rattle.fib_plain.specs.Inner.Rows.{facts_of_path}
+use Rattle.fib_plain.specs.inner.Rows.{facts_of_path}
 use Rattle.fib_plain.proofs.facts.row.Given as goal
 
 abbrev pub invariant-loop-p : goal.invariant-loop-p

@@ -1,6 +1,6 @@
 use Rattle.std.proofs.Common.{arith, ◌∙◌, ap, length, get_or, List}
 use Rattle.fib_addr.specs.Prefixes.{Prefix}
-use Rattle.fib_plain.specs.Inner.Rows.{number_in}
+use Rattle.fib_plain.specs.inner.Rows.{number_in}
 use Rattle.fib_plain.proofs.Numbers.{number_at}
 use Rattle.fib_plain.proofs.facts.rows.Goals as goal
 

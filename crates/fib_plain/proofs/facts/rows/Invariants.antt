@@ -1,5 +1,5 @@
 use Rattle.std.proofs.Common.{◌≡◌, take, map}
-use Rattle.fib_plain.specs.Inner.Rows.{facts_of, graph_of}
+use Rattle.fib_plain.specs.inner.Rows.{facts_of, graph_of}
 use Rattle.fib_plain.proofs.facts.rows.Given as goal
 
 abbrev pub invariant-loop-i : goal.invariant-loop-i

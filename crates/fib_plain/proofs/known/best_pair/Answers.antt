@@ -1,6 +1,6 @@
 use Rattle.std.proofs.Common.{arith, sym, ◌∙◌, ap, length}
 use Rattle.fib_resolve.specs.Pairs.{pairs, entries, best_pair}
-use Rattle.fib_plain.specs.Inner.Places.{pair_at}
+use Rattle.fib_plain.specs.inner.Places.{pair_at}
 use Rattle.fib_plain.proofs.Numbers.{best_numbered, no_best, length_from_maps}
 use Rattle.fib_plain.proofs.known.best_pair.Goals as goal
 

@@ -1,6 +1,6 @@
 use Rattle.std.proofs.Common.{◌≡◌, take, map}
 use Rattle.fib_resolve.specs.Pairs.{best_pair}
-use Rattle.fib_plain.specs.Inner.Places.{pair_at}
+use Rattle.fib_plain.specs.inner.Places.{pair_at}
 use Rattle.fib_plain.proofs.known.best_places.Given as goal
 
 abbrev pub invariant-loop-e : goal.invariant-loop-e

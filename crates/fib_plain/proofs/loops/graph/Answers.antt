@@ -1,7 +1,7 @@
 use Rattle.std.proofs.Common.{arith, ◌≡◌, ◌∙◌, ap, length, List, ℕ}
 use Rattle.std.specs.Prelude.{slice_set, ◌++◌}
 use Rattle.fib_reach.specs.Graphs.{next_of}
-use Rattle.fib_plain.specs.Inner.Rows.{next_numbers}
+use Rattle.fib_plain.specs.inner.Rows.{next_numbers}
 use Rattle.fib_resolve.specs.Pairs.{entries}
 use Rattle.fib_plain.proofs.Edges.{graph_more, length_rows, next_below}
 use Rattle.fib_plain.proofs.loops.graph.Goals as goal

@@ -1,5 +1,5 @@
 use Rattle.std.proofs.Common.{◌≡◌, ◌++◌, ◌-◌, take, map, length, replicate, []}
-use Rattle.fib_plain.specs.Inner.Rows.{next_numbers}
+use Rattle.fib_plain.specs.inner.Rows.{next_numbers}
 use Rattle.fib_plain.proofs.loops.graph.Given as goal
 
 abbrev pub invariant-loop-i : goal.invariant-loop-i

@@ -3,7 +3,7 @@ use Rattle.std.proofs.lemmas.Bool.Decides.{Decides-eqb}
 use Rattle.fib_reach.specs.Walks.{Reaches}
 use Rattle.fib_reach.specs.Graphs.{Edge}
 use Rattle.fib_addr.specs.Prefixes.{host}
-use Rattle.fib_plain.specs.Inner.Rows.{number_in, graph_of}
+use Rattle.fib_plain.specs.inner.Rows.{number_in, graph_of}
 use Rattle.fib_plain.proofs.Numbers.{numbered}
 use Rattle.fib_plain.proofs.Edges.{looped_by, looped_none, length-graph}
 use Rattle.fib_plain.proofs.loops.is_looped.Goals as goal

@@ -1,5 +1,5 @@
 use Rattle.std.proofs.Common.{◌≡◌, ◌++◌, map, take}
-use Rattle.fib_plain.specs.Inner.Exits.{exit_of}
+use Rattle.fib_plain.specs.inner.Exits.{exit_of}
 use Rattle.fib_plain.proofs.possible.add_exits.Given as goal
 
 abbrev pub invariant-loop-p : goal.invariant-loop-p

@@ -2,7 +2,7 @@ use Rattle.std.proofs.Common.{◌≡◌, List, [], ◌∷◌, ◌++◌, sym, ◌
 use Rattle.std.specs.Prelude.{filter_map}
 use Rattle.fib_resolve.specs.declared.types.End.{End}
 use Rattle.fib_resolve.specs.declared.types.End.TheVariants as answers
-use Rattle.fib_plain.specs.Inner.Exits.{exits, exit_end}
+use Rattle.fib_plain.specs.inner.Exits.{exits, exit_end}
 use Rattle.fib_plain.specs.declared.possible.Exit.{Exit}
 use Rattle.fib_plain.proofs.Exits.{ends_are}
 use Rattle.fib_plain.proofs.possible.ends.Goals as goal

@@ -1,6 +1,6 @@
 use Rattle.std.proofs.Common.{◌≡◌, take}
 use Rattle.std.specs.Prelude.{flat_map}
-use Rattle.fib_plain.specs.Inner.Exits.{exits_of}
+use Rattle.fib_plain.specs.inner.Exits.{exits_of}
 use Rattle.fib_plain.proofs.possible.exits.Given as goal
 
 abbrev pub invariant-loop-e : goal.invariant-loop-e

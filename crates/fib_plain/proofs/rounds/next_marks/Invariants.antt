@@ -1,6 +1,6 @@
 use Rattle.std.proofs.Common.{◌≡◌, take, map}
 use Rattle.std.specs.List.{list_any}
-use Rattle.fib_plain.specs.Inner.Rows.{usable_now}
+use Rattle.fib_plain.specs.inner.Rows.{usable_now}
 use Rattle.fib_plain.proofs.rounds.next_marks.Given as goal
 
 abbrev pub invariant-loop-row : goal.invariant-loop-row

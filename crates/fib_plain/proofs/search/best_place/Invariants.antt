@@ -1,7 +1,7 @@
 use Rattle.std.proofs.Common.{◌≡◌, ◌<◌, drop, length}
 use Rattle.std.specs.Prelude.{IfSome}
 use Rattle.fib_resolve.specs.Pairs.{best_pair}
-use Rattle.fib_plain.specs.Inner.Places.{pair_at}
+use Rattle.fib_plain.specs.inner.Places.{pair_at}
 use Rattle.fib_plain.proofs.search.best_place.Given as goal
 
 abbrev pub invariant-loop-i : goal.invariant-loop-i

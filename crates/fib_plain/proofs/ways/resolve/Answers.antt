@@ -1,7 +1,7 @@
 use Rattle.std.proofs.Common.{◌+◌, ◌-◌, ◌∙◌, ap, subst, length}
 use Rattle.fib_addr.specs.Prefixes.{Prefix}
 use Rattle.fib_resolve.specs.Resolution.{follow}
-use Rattle.fib_plain.specs.Inner.Steps.{Steps}
+use Rattle.fib_plain.specs.inner.Steps.{Steps}
 use Rattle.fib_plain.specs.declared.ways.NextStep.{NextStep}
 use Rattle.fib_plain.proofs.Following.{resolve_start, resolve_stop, resolve_end, resolve_on}
 use Rattle.fib_plain.proofs.ways.resolve.Goals as goal

@@ -1,6 +1,6 @@
 use Rattle.std.proofs.Common.{◌≡◌, ◌≢◌, ℕ, ◌<◌, get_or}
 use Rattle.std.specs.Prelude.{Contains}
-use Rattle.fib_reach.specs.Inner.Visits.{GrowsFrom}
+use Rattle.fib_reach.specs.inner.Visits.{GrowsFrom}
 use Rattle.fib_reach.proofs.reach.note_all.Given as goal
 
 abbrev pub invariant-loop-target : goal.invariant-loop-target

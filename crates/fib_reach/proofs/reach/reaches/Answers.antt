@@ -3,7 +3,7 @@ use Rattle.std.specs.Prelude.{Contains}
 use Rattle.std.proofs.lemmas.Bool.{false≢true}
 use Rattle.fib_reach.specs.Graphs.{Edge}
 use Rattle.fib_reach.specs.Seen.{Seen, IsNext}
-use Rattle.fib_reach.specs.Inner.Visits.{GrowsFrom}
+use Rattle.fib_reach.specs.inner.Visits.{GrowsFrom}
 use Rattle.fib_reach.proofs.Places.{any_default}
 use Rattle.fib_reach.proofs.Searched.{Searched, searched_none}
 use Rattle.fib_reach.proofs.Steps.{row_is, step_found, step_more}

@@ -12,7 +12,7 @@ use Rattle.fib_resolve.specs.declared.types.PathKind.TheVariants as kinds
 use Rattle.fib_resolve.specs.declared.types.Tables.{Tables}
 use Rattle.fib_plain.specs.declared.known.Known.{Known}
 use Rattle.fib_plain.specs.declared.facts.PathFacts.{PathFacts}
-use Rattle.fib_plain.specs.Inner.Places.{pair_at}
+use Rattle.fib_plain.specs.inner.Places.{pair_at}
 
 -- the number of an entry
 unfoldable pub number_in : Tables → Prefix → Option ℕ

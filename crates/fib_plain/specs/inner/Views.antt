@@ -2,7 +2,7 @@
 use Rattle.std.specs.Prelude.{◌≡◌, map}
 use Rattle.fib_resolve.specs.Pairs.{entries}
 use Rattle.fib_resolve.specs.Forwarding.{forwards}
-use Rattle.fib_plain.specs.Inner.Rows.{IsKnown, rows_of}
+use Rattle.fib_plain.specs.inner.Rows.{IsKnown, rows_of}
 use Rattle.fib_plain.specs.declared.view.View.{View}
 
 pub record IsView (v : View) : Type 0 where

@@ -6,8 +6,8 @@ use Rattle.fib_resolve.specs.Forwarding.{forwards}
 use Rattle.fib_resolve.specs.Tables.{IsSound}
 use Rattle.fib_resolve.specs.declared.pairs.Pair.{Pair}
 use Rattle.fib_resolve.specs.declared.types.Tables.{Tables}
-use Rattle.fib_plain.specs.Inner.Rows.{rows_of}
-use Rattle.fib_plain.specs.Inner.Places.{pair_at}
+use Rattle.fib_plain.specs.inner.Rows.{rows_of}
+use Rattle.fib_plain.specs.inner.Places.{pair_at}
 use Rattle.fib_plain.specs.declared.facts.PathFacts.{PathFacts}
 
 pub record IsSnapshot (S : Tables) (short_list : List Prefix) (pair_list : List Pair) (entry_list : List Prefix) (best_list : List (Option ℕ)) (row_list : List (List PathFacts)) (mark_list : List Bool) : Type 0 where
