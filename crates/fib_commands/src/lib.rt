@@ -1,6 +1,7 @@
 //! The lines of a command file: what each of them says.
 //!
-//! A line is read by its words. `specs/Grammar.antt` has the rules of names, paths and lines, a rule a line's form.
+//! A line is read by its words. `specs/Lines.antt` has a rule for each form of a line, `specs/Paths.antt` those of paths and
+//! `specs/Names.antt` those of words; `specs/Canonical.antt` the text that is printed for an edit and read back.
 #![tactic(auto)]
 
 pub mod laws;
