@@ -6,7 +6,7 @@ use Rattle.std.specs.Set.{is_member}
 use Rattle.std.proofs.lemmas.Bool.{false≢true}
 use Rattle.fib_list.proofs.Lists.{either}
 use Rattle.fib_reach.specs.Walks.{Next}
-use Rattle.fib_list.proofs.Tests.{or_cases}
+use Rattle.fib_list.proofs.Booleans.{or_cases}
 use Rattle.fib_addr.specs.Prefixes.{Prefix, host, same_prefix}
 use Rattle.fib_addr.proofs.PrefixLaws.{same_prefix-Decides}
 use Rattle.fib_resolve.specs.Pairs.{pairs, chosen, cover, same_pair}

@@ -3,7 +3,7 @@ use Rattle.std.proofs.Common.{◌≡◌, ℕ, zero, suc, true, false, not, ◌&&
 use Rattle.std.specs.Prelude.{Contains}
 use Rattle.std.proofs.lemmas.Bool.{false≢true}
 use Rattle.std.proofs.lemmas.Bool.Decides.{Decides-eqb}
-use Rattle.fib_list.proofs.Tests.{or_cases, and_both}
+use Rattle.fib_list.proofs.Booleans.{or_cases, and_both}
 use Rattle.fib_addr.specs.Prefixes.{Prefix}
 use Rattle.fib_resolve.specs.Pairs.{chosen, base_pairs, attached_by, cover, short_prefixes}
 use Rattle.fib_resolve.specs.Forwarding.{is_up, up_of}

@@ -3,7 +3,7 @@ use Rattle.std.proofs.Common.{arith, add-zero, add-suc, ◌≡◌, ℕ, zero, su
 use Rattle.std.specs.Prelude.{Contains, slice_get, IfSome}
 use Rattle.fib_list.proofs.Lists.{each-at, each-weaker}
 use Rattle.fib_reach.specs.Walks.{Walk}
-use Rattle.fib_list.proofs.Tests.{and_both}
+use Rattle.fib_list.proofs.Booleans.{and_both}
 use Rattle.fib_addr.specs.Prefixes.{Prefix, host}
 use Rattle.fib_resolve.specs.Pairs.{cover, chosen}
 use Rattle.fib_resolve.specs.Loops.{Kept}

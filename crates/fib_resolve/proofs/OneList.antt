@@ -23,7 +23,7 @@ use Rattle.fib_resolve.specs.declared.types.FibSource.{FibSource}
 use Rattle.fib_resolve.specs.declared.types.FibSource.TheVariants as sources
 use Rattle.fib_resolve.specs.declared.types.Tables.{Tables}
 use Rattle.fib_resolve.proofs.PairLaws.{each-all, each-unique}
-use Rattle.fib_list.proofs.Tests.{or_right}
+use Rattle.fib_list.proofs.Booleans.{or_right}
 
 pub each-itself : {X : Type 0} (xs : List X) → AllByRecursion (Contains xs) xs
 each-itself xs = recursion_from_All (Contains xs) xs (All-contains_itself xs)

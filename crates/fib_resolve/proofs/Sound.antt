@@ -35,7 +35,7 @@ use Rattle.fib_resolve.specs.declared.types.Refusal.TheVariants as refusals
 use Rattle.fib_resolve.specs.declared.types.Tables.{Tables}
 use Rattle.fib_resolve.specs.declared.types.Edit.{Edit}
 use Rattle.fib_resolve.specs.declared.types.Edit.TheVariants as edits
-use Rattle.fib_list.proofs.Tests.{or_cases, and_both, or_right}
+use Rattle.fib_list.proofs.Booleans.{or_cases, and_both, or_right}
 use Rattle.fib_resolve.proofs.Apart.{put, each-fails, apart-push, apart-filter, apart-map, each-put, apart-put, each-without_place, some_place}
 use Rattle.fib_resolve.proofs.KeyOrder.{each-set_paths, sorted-set_paths, sorted-filter, length-set_paths}
 use Rattle.fib_resolve.proofs.Refused.{none_own, first_none}

@@ -1,7 +1,7 @@
 -- A match is what the prefix table's search answers: so the further conditions are what its changes ask of the promise.
 use Rattle.std.proofs.lemmas.Bool.{false≢true}
 use Rattle.std.specs.List.{list_all}
-use Rattle.fib_list.proofs.Tests.{and_both}
+use Rattle.fib_list.proofs.Booleans.{and_both}
 use Rattle.fib_addr.specs.Prefixes.{same_prefix, Prefix, IsPrefix}
 use Rattle.fib_addr.proofs.PrefixLaws.{same_prefix-Decides}
 use Rattle.fib_resolve.specs.Pairs.{best}

@@ -5,7 +5,7 @@ use Rattle.std.specs.Prelude.{Contains, slice_get, drop, IfSome}
 use Rattle.std.specs.Set.{is_member}
 use Rattle.std.proofs.lemmas.Map.Views.{Contains-from_any}
 use Rattle.fib_list.proofs.Lists.{either, each-at}
-use Rattle.fib_list.proofs.Tests.{and_both}
+use Rattle.fib_list.proofs.Booleans.{and_both}
 use Rattle.fib_addr.specs.Prefixes.{Prefix, host, same_prefix}
 use Rattle.fib_addr.specs.Longest.{everything}
 use Rattle.fib_addr.proofs.PrefixLaws.{same_prefix-Decides, same_prefix_equiv}

@@ -1,4 +1,4 @@
--- Tests: what 'and' and 'or' come from, and a test counted as 1 or 0.
+-- Booleans: what "and" and "or" come from, and a test counted as 1 or 0.
 use Rattle.std.proofs.Common.{◌≡◌, ℕ, ◌+◌, Bool, true, false, cond, ◌&&◌, ◌||◌, List, ◌∷◌, ◌⊎◌, inl, inr, refl}
 use Rattle.std.specs.List.{count_by}
 use Rattle.std.proofs.lemmas.Bool.{false≢true}
