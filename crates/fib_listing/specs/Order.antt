@@ -1,6 +1,6 @@
 -- Lists in order, and texts in a row.
-use Rattle.std.specs.Prelude.{ℕ, ◌+◌, ◌==◌, ◌&&◌, ◌||◌, ◌++◌, [], ◌∷◌, List, Bool, true, false, fold, insert, length, position, nat_lt, unwrap_or, if◌then◌else◌}
-use Rattle.std.specs.declared.cmp.Ordering.{Ordering}
+use Rattle.std.specs.Prelude.{◌≡◌, ◌↔◌, Contains, ℕ, ◌+◌, ◌==◌, ◌&&◌, ◌||◌, ◌++◌, [], ◌∷◌, List, Bool, true, false, fold, insert, length, position, nat_lt, unwrap_or, if◌then◌else◌}
+use Rattle.std.specs.List.{AllByRecursion}
 use Rattle.std.specs.Ordering.{is_lt, is_eq}
 use Rattle.fib_addr.specs.Prefixes.{Prefix}
 use Rattle.fib_resolve.specs.Keys.{path_cmp}
@@ -29,6 +29,16 @@ list_before [] [] = false
 list_before [] (q ∷ qs) = true
 list_before (p ∷ ps) [] = false
 list_before (p ∷ ps) (q ∷ qs) = if is_lt (path_cmp p q) then true else (if is_eq (path_cmp p q) then list_before ps qs else false)
+
+-- each element stands before all behind it
+abbrev pub IsOrderedBy : {X : Type 0} → (X → X → Bool) → List X → Type 0
+IsOrderedBy before [] = Unit {0}
+IsOrderedBy before (x ∷ xs) = AllByRecursion (λ y. before x y ≡ true) xs × IsOrderedBy before xs
+
+-- the list is in order and has these members
+pub record IsListed {X : Type 0} (before : X → X → Bool) (xs sorted : List X) : Type 0 where
+  pub ordered : IsOrderedBy before sorted
+  pub members : (x : X) → Contains sorted x ↔ Contains xs x
 
 -- what stands between two texts in a row, and not before the first
 abbrev pub gap : List ℕ → ℕ → List ℕ

@@ -1,5 +1,5 @@
 -- show fib path-lists: a line for each list that a pair has.
-use Rattle.std.specs.Prelude.{ℕ, ◌+◌, ◌++◌, [], ◌∷◌, List, Bool, None, codes, decimal, count_by, flat_map, map}
+use Rattle.std.specs.Prelude.{ℕ, ◌++◌, List, Bool, None, codes, decimal, count_by, flat_map, map}
 use Rattle.std.specs.Cmp.Lexicographic.{pointwise}
 use Rattle.std.specs.Set.{unique_keys}
 use Rattle.fib_resolve.specs.Keys.{same_path}

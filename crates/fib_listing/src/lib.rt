@@ -5,6 +5,7 @@
 
 mod adjacencies;
 mod entries;
+pub mod laws;
 mod lists;
 mod order;
 mod rows;

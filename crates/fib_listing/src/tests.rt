@@ -38,5 +38,6 @@ fn listings_of_empty_tables(rt: HostRuntime) -> Result<(), Fail> {
         out.as_slice(),
         b"users 5: drop weight 1 preference 0\n".as_slice()
     );
+    laws::listings_are_in_order();
     Ok(())
 }

@@ -1,4 +1,4 @@
-use Rattle.std.proofs.Common.{◌≡◌, drop, map, fold, [], List}
+use Rattle.std.proofs.Common.{◌≡◌, drop, map, fold}
 use Rattle.std.specs.Set.{unique_keys}
 use Rattle.fib_listing.specs.Order.{in_order, list_before, put_in}
 use Rattle.fib_listing.specs.PathLists.{same_list, list_of}
