@@ -18,26 +18,27 @@ pub fn counts_tell(union: &Union, object: u64)
 
 /// A store keeps the union acyclic where the new edge's target doesn't lead back to its object.
 pub fn store_keeps_acyclic(union: &Union, cell: u64, to: Option<u32>)
-    requires acyclic { IsAcyclic (Edge union.now.union) }
-    requires apart { (y : ℕ) → to ≡ Some y → Leads (Edge union.now.union) y (owner cell) → ⊥ }
-    ensures { IsAcyclic (Edge (stored union.now.workers union.now.union cell to)) }
+    ensures { IsAcyclic (Edge union.now.union)
+        → ((y : ℕ) → to ≡ Some y → Leads (Edge union.now.union) y (owner cell) → ⊥)
+        → IsAcyclic (Edge (stored union.now.workers union.now.union cell to)) }
 {}
 
 /// A look keeps the union acyclic.
 pub fn look_keeps_acyclic(union: &Union, worker: u64, word: u64)
-    requires { IsAcyclic (Edge union.now.union) }
-    ensures { IsAcyclic (Edge (scanned worker word union.now.union)) }
+    ensures { IsAcyclic (Edge union.now.union) → IsAcyclic (Edge (scanned worker word union.now.union)) }
 {}
 
 /// After a store an object counts one edge more where the new one leads to it, and one less where that which left at once did.
 pub fn store_counts(union: &Union, cell: u64, to: Option<u32>, object: u64)
     requires { cell < length union.now.union.edges }
-    ensures { into (stored union.now.workers union.now.union cell to) object + one object (left_at_once union.now.union cell) ≡ into union.now.union object + one object to }
+    ensures { into (stored union.now.workers union.now.union cell to) object + one object (left_at_once union.now.union cell)
+        ≡ into union.now.union object + one object to }
 {}
 
 /// After a look an object counts as many edges less as leave that led to it.
 pub fn look_counts(union: &Union, worker: u64, word: u64, object: u64)
-    ensures { into (scanned worker word union.now.union) object + times object (gone_to worker word union.now.union) ≡ into union.now.union object }
+    ensures { into (scanned worker word union.now.union) object + times object (gone_to worker word union.now.union)
+        ≡ into union.now.union object }
 {}
 
 /// A retired edge is passed for a worker exactly where a look since its retirement found an even word, or another one than the first.

@@ -31,6 +31,8 @@ fn laws_at_a_union(rt: HostRuntime) -> Result<(), Fail> {
     let union = Union::new(rt.alloc(), 4, 1)?;
     laws::retires_where_entered(&union, 16);
     laws::counts_tell(&union, 1);
+    laws::store_keeps_acyclic(&union, 16, Some(2));
+    laws::look_keeps_acyclic(&union, 0, 1);
     laws::store_counts(&union, 16, Some(2), 2);
     laws::look_counts(&union, 0, 1, 2);
     laws::passed_when_over([1, 3].as_slice());

@@ -13,6 +13,8 @@ use fib_reach::Search;
 use std::alloc::{AllocError, Global};
 use std::marker::Model;
 
+/// The current edges between numbered objects of sixteen cells each, and copies of those that were replaced, each until it is passed for
+/// every worker. No call but `new` and `reserve` takes memory.
 #[derive(Drop)]
 pub struct Union {
     /// Where the edge of each cell leads.
@@ -23,7 +25,9 @@ pub struct Union {
     retired: Vec<RetiredEdge>,
     /// One more than the place of the newest copy from each object, or 0.
     newest: Vec<u32>,
+    /// For each worker, up to which of the copies its looks have come.
     progress: Vec<Progress>,
+    /// Where copies led that have left, and that no call has answered yet.
     left: Vec<u32>,
     search: Search,
 }
@@ -144,6 +148,8 @@ fn drop_oldest(
 }
 
 impl Union {
+    /// No edge between this many objects, with a mark for each of this many workers to come. Takes all the memory that its calls need, but
+    /// for room to retire edges.
     pub fn new(alloc: Global, objects: u32, workers: u32) -> Result<Union, AllocError>
         requires { 0 < objects }
         ensures union { IfOk result (λ u. u.union ≡ no_edges objects) }
@@ -232,7 +238,7 @@ impl Union {
         )
     }
 
-    /// Makes room to retire this many edges.
+    /// Makes room to retire this many edges. After want of memory the edges, the copies and what `left` will answer are as before.
     pub fn reserve(&mut self, edges: u32) -> Result<(), AllocError>
         ensures union { self.new.union ≡ self.old.union }
         ensures workers { self.new.workers ≡ self.old.workers }
@@ -249,8 +255,8 @@ impl Union {
         Ok(())
     }
 
-    /// Puts an edge into a cell, or none. The edge that was there is retired where its object is object 0 or has an edge into it,
-    /// and else leaves at once: then where it led is answered.
+    /// Puts an edge into a cell, or none. The edge that was there is retired where its object is object 0 or has an edge into it, and else
+    /// leaves at once: then where it led is answered. None exactly where no edge left at once.
     pub fn set(&mut self, from: u32, slot: u32, to: Option<u32>) -> Option<u32>
         requires from_in { 16 * from < length self.old.union.edges }
         requires slot_in { slot < 16 }
@@ -279,7 +285,9 @@ impl Union {
         Some(target)
     }
 
-    /// A look at one worker's pass word: it marks the copies, and those that are passed for all leave.
+    /// A look at one worker's pass word: it marks the copies, and those that are then passed for all workers leave, oldest first.
+    ///
+    /// Costs the number of workers, and where copies leave the number of copies.
     pub fn look(&mut self, worker: usize, word: u64)
         requires { worker < self.old.workers }
         ensures union { self.new.union ≡ scanned worker word self.old.union }
@@ -306,6 +314,7 @@ impl Union {
     pub fn scan(&mut self, words: &[u64]) -> u32
         requires { length words.now ≡ self.old.workers }
         ensures union { self.new.union ≡ scan_from 0 words.now self.old.union }
+        ensures edges { self.new.union.edges ≡ self.old.union.edges }
         ensures left { self.new.left ≡ self.old.left ++ gone_from 0 words.now self.old.union }
         ensures retired { result ≡ length self.new.union.retired }
         ensures workers { self.new.workers ≡ self.old.workers }
@@ -319,7 +328,7 @@ impl Union {
         self.retired()
     }
 
-    /// Where an edge led that a scan dropped: each such edge once.
+    /// Where an edge led that a look dropped: each such edge once. None exactly where all are answered.
     pub fn left(&mut self) -> Option<u32>
         ensures union { self.new.union ≡ self.old.union }
         ensures workers { self.new.workers ≡ self.old.workers }
