@@ -52,7 +52,7 @@ half S T e same = all_in (is_member same_pair (pairs_of T e)) (pairs_of S e) (λ
     let there = filter_in (λ y. same_prefix e y.prefix) (pairs T) x ((same x own).0 r.0) r.1 in
     any_in (same_pair x) (pairs_of T e) x there ((same_pair-Decides x x).1 refl))
 
-both_halves : (S T : Tables) (e : Prefix) → SamePairs S T e → same_pairs (pairs_of S e) (pairs_of T e) ≡ true
+pub both_halves : (S T : Tables) (e : Prefix) → SamePairs S T e → same_pairs (pairs_of S e) (pairs_of T e) ≡ true
 both_halves S T e same = rw (half S T e same) (half T S e (λ x p. ((same x p).1, (same x p).0)))
 
 to_meaning : (S T : Tables) (e : Prefix) → SamePairs S T e → is_touched S T e ≡ true → list_any (λ p. kind_changes S T e p.need p.kind) (chosen S e) ≡ true

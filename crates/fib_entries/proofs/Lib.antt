@@ -8,3 +8,7 @@ pub mod Ranking
 pub mod KeptEdges
 pub mod Looking
 pub mod Covering
+pub mod Alike
+pub mod Comparing
+pub mod Touches
+pub mod Moving

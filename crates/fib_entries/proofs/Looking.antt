@@ -30,7 +30,7 @@ later_less p [] all j r at = absurd (none_some r at)
 later_less p (q ∷ qs) all zero r at = subst (λ z. prefix_cmp p z.prefix ≡ Less) (some_is q r at) all.0
 later_less p (q ∷ qs) all (suc j) r at = later_less p qs all.1 j r at
 
-never : (p : Prefix) → prefix_cmp p p ≡ Less → ⊥
+pub never : (p : Prefix) → prefix_cmp p p ≡ Less → ⊥
 never p h = less_equal (sym h ∙ tied_itself prefix_total p)
   where
     less_equal : Less ≡ Equal → ⊥

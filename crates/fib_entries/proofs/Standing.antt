@@ -36,7 +36,7 @@ some_is x y e = (cc)
 pub row_there : (rows : List Row) (e : Prefix) (r : Row) → row_of rows e ≡ Some r → Contains rows r × (e ≡ r.prefix)
 row_there rows e r h = let f = find_place (λ z. same_prefix e z.prefix) rows r h in (contains_at rows f.0 r f.1, (same_prefix-Decides e r.prefix).0 f.2)
 
-find_missed : (test : Row → Bool) (rows : List Row) (r : Row) → Contains rows r → test r ≡ true → find test rows ≡ None → ⊥
+pub find_missed : (test : Row → Bool) (rows : List Row) (r : Row) → Contains rows r → test r ≡ true → find test rows ≡ None → ⊥
 find_missed test [] r c t h = Contains-nil r c
 find_missed test (q ∷ qs) r c t h =
     elim (either (test q)) [

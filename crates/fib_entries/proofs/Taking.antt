@@ -29,11 +29,11 @@ pair_with : List Path → Pair
 pair_with ps = record { prefix = everything; source = sources.Special; paths = ps }
 
 -- equal lists pass the test, and no others
-list_is : (ps qs : List Path) → pointwise same_path ps qs ≡ true → ps ≡ qs
+pub list_is : (ps qs : List Path) → pointwise same_path ps qs ≡ true → ps ≡ qs
 unfolding pair_with
 list_is ps qs h = ap (λ x. x.paths) ((same_pair-Decides (pair_with ps) (pair_with qs)).0 h)
 
-list_self : (ps : List Path) → pointwise same_path ps ps ≡ true
+pub list_self : (ps : List Path) → pointwise same_path ps ps ≡ true
 unfolding pair_with
 list_self ps = (same_pair-Decides (pair_with ps) (pair_with ps)).1 refl
 

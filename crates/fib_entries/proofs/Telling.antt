@@ -21,10 +21,10 @@ use Rattle.fib_entries.specs.Known.{PathKept, content_of, IsHeld, AreBestFirst, 
 some_is : {X : Type 0} (x y : X) → Some x ≡ Some y → x ≡ y
 some_is x y e = (cc)
 
-pair_with : Prefix → FibSource → List Path → Pair
+pub pair_with : Prefix → FibSource → List Path → Pair
 pair_with prefix source paths = record { prefix = prefix; source = source; paths = paths }
 
-from_pair : (x y : Pair) → x.prefix ≡ y.prefix → x.source ≡ y.source → x.paths ≡ y.paths → x ≡ y
+pub from_pair : (x y : Pair) → x.prefix ≡ y.prefix → x.source ≡ y.source → x.paths ≡ y.paths → x ≡ y
 unfolding pair_with
 from_pair x y p s l =
     ap (λ q. pair_with q x.source x.paths) p ∙ (ap (λ t. pair_with y.prefix t x.paths) s ∙ ap (λ ps. pair_with y.prefix y.source ps) l)

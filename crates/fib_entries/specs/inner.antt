@@ -1,2 +1,3 @@
 pub mod Building
+pub mod Compare
 pub mod Fields

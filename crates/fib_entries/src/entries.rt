@@ -1,5 +1,5 @@
 // Entries that stand for tables.
-ghost use Rattle.std.specs.Prelude.{◌≡◌, ◌<◌, ◌↔◌, IfOk, Some, [], length, map, option_copied, slice_get, Contains};
+ghost use Rattle.std.specs.Prelude.{◌≡◌, ◌<◌, ◌↔◌, IfOk, IfSome, Some, [], length, map, option_copied, slice_get, Contains};
 ghost use Rattle.fib_reach.specs.Walks.{AllDiffer};
 ghost use Rattle.fib_addr.specs.Prefixes.{Prefix as PrefixValue, IsPrefix};
 ghost use Rattle.fib_resolve.specs.Aims.{marked_list};
@@ -7,7 +7,8 @@ ghost use Rattle.fib_resolve.specs.Pairs.{cover};
 ghost use Rattle.fib_resolve.specs.Loops.{targets, looped_at};
 ghost use Rattle.fib_resolve.specs.Tables.{IsSound, fresh};
 ghost use Rattle.fib_resolve.specs.declared.types.Tables.{Tables as TablesValue};
-ghost use Rattle.fib_entries.specs.Known.{StandsFor, ArePairs, rank_of, chosen_of, prefix_of};
+ghost use Rattle.fib_entries.specs.Known.{StandsFor, ArePairs, row_of, rank_of, chosen_of, prefix_of};
+ghost use Rattle.fib_entries.specs.inner.Compare.{AreKept};
 
 use crate::build::take_all;
 use crate::edges::edges_of;
@@ -85,6 +86,18 @@ impl Entries {
             objects,
             alloc,
         })
+    }
+
+    pub(crate) fn allocator(&self) -> Global {
+        self.alloc
+    }
+
+    /// The prefix's row, whose lists are kept.
+    pub(crate) fn row_of(&self, prefix: Prefix) -> Option<&Row>
+        ensures value { option_copied result ≡ row_of self.now.rows prefix }
+        ensures held { IfSome result (λ r. AreKept self.now.lists r.now.pairs) }
+    {
+        row(self.rows.as_slice(), prefix)
     }
 
     /// The number of effective entries.

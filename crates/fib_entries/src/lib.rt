@@ -6,8 +6,10 @@
 
 mod build;
 mod changes;
+mod compare;
 mod edges;
 mod entries;
+mod follow;
 mod look;
 mod parts;
 mod ranks;

@@ -1,0 +1,106 @@
+// Which prefixes a change touches, by the rows before and after.
+ghost use Rattle.std.specs.Prelude.{◌≡◌, ◌↔◌, IsTrue, IsSome, Some};
+ghost use Rattle.std.specs.List.{list_any, list_all};
+ghost use Rattle.std.specs.Cmp.Lexicographic.{pointwise};
+ghost use Rattle.fib_resolve.specs.Keys.{same_path};
+ghost use Rattle.fib_interned.specs.Interned.{kept_of};
+ghost use Rattle.fib_entries.specs.inner.Compare.{AreKept, is_that, has_that, all_there, AreAlike};
+
+use crate::rows::Row;
+use fib_paths::{PathListId, PathLists};
+use fib_resolve::{FibSource, Marked, Path, keys};
+
+fn is_same_list(xs: &[Path], ys: &[Path]) -> bool
+    ensures { result ≡ pointwise same_path xs.now ys.now }
+{
+    match (xs, ys) {
+        ([], []) => true,
+        ([x, others @ ..], [y, rest @ ..]) => keys::is_same_path(x, y)
+            && is_same_list(others, rest),
+        _ => false,
+    }
+}
+
+/// Whether it is the source with that list.
+fn is_that(
+    lists: &PathLists,
+    source: FibSource,
+    paths: &[Path],
+    held: (FibSource, PathListId),
+) -> bool
+    requires { IsSome (kept_of lists.now held.1) }
+    ensures { result ≡ is_that lists.now source paths.now held }
+{
+    keys::is_same_source(held.0, source) && is_same_list(lists.content(held.1), paths)
+}
+
+/// Whether the source with that list is among them.
+fn has_that(
+    lists: &PathLists,
+    held: &[(FibSource, PathListId)],
+    source: FibSource,
+    paths: &[Path],
+) -> bool
+    requires { AreKept lists.now held.now }
+    ensures { result ≡ has_that lists.now held.now source (Some paths.now) }
+{
+    for place in 0..held.len() {
+        if is_that(lists, source, paths, held[place]) {
+            return true;
+        }
+    }
+    false
+}
+
+/// Whether each pair of the first is one of the second.
+fn all_there(
+    lists: &PathLists,
+    held: &[(FibSource, PathListId)],
+    others: &PathLists,
+    there: &[(FibSource, PathListId)],
+) -> bool
+    requires held { AreKept lists.now held.now }
+    requires there { AreKept others.now there.now }
+    ensures { result ≡ all_there lists.now held.now others.now there.now }
+{
+    for place in 0..held.len() {
+        let (source, id) = held[place];
+        if !has_that(others, there, source, lists.content(id)) {
+            return false;
+        }
+    }
+    true
+}
+
+fn same_bools(xs: &[bool], ys: &[bool]) -> bool
+    ensures { IsTrue result ↔ (xs.now ≡ ys.now) }
+{
+    xs == ys
+}
+
+fn same_marks(xs: &[Marked], ys: &[Marked]) -> bool
+    ensures { IsTrue result ↔ (xs.now ≡ ys.now) }
+{
+    xs == ys
+}
+
+/// Whether both rows have the same pairs, and their paths are marked alike.
+pub fn are_alike(lists: &PathLists, r: &Row, others: &PathLists, s: &Row) -> bool
+    requires before { AreKept lists.now r.now.pairs }
+    requires after { AreKept others.now s.now.pairs }
+    ensures { IsTrue result ↔ AreAlike lists.now others.now r.now s.now }
+{
+    if !all_there(lists, r.pairs.as_slice(), others, s.pairs.as_slice()) {
+        return false;
+    }
+    if !all_there(others, s.pairs.as_slice(), lists, r.pairs.as_slice()) {
+        return false;
+    }
+    if !same_bools(r.looped.as_slice(), s.looped.as_slice()) {
+        return false;
+    }
+    if !same_bools(r.met.as_slice(), s.met.as_slice()) {
+        return false;
+    }
+    same_marks(r.marked.as_slice(), s.marked.as_slice())
+}
