@@ -1,5 +1,6 @@
 // What the rule tells a seat. A law each, the contract of a call without a body.
-ghost use Rattle.std.specs.Prelude.{ℕ, Bool, List, Some, false, true, length, nat_lt, slice_get, slice_index, slice_index_or, if◌then◌else◌, ◌*◌, ◌+◌, ◌<◌, ◌^◌, ◌≡◌, ◌≢◌, ◌≤◌, ◌⊎◌};
+ghost use Rattle.std.specs.Prelude.{ℕ, Bool, List, Some, false, true, length, nat_lt, slice_get, slice_index, slice_index_or};
+ghost use Rattle.std.specs.Prelude.{if◌then◌else◌, ◌*◌, ◌+◌, ◌<◌, ◌^◌, ◌≡◌, ◌≢◌, ◌≤◌, ◌⊎◌};
 ghost use Rattle.fib_reach.specs.Walks.{IsAcyclic};
 ghost use Rattle.fib_resolve.specs.declared.types.Tables.{Tables};
 ghost use Rattle.fib_results.specs.Trails.{version_at};
@@ -9,7 +10,7 @@ ghost use Rattle.fib_union.specs.Unions.{owner};
 ghost use Rattle.fib_core.specs.declared.word.Word.TheVariants as said;
 ghost use Rattle.fib_core.specs.Words.{IsWord, decoded, encoded, target};
 ghost use Rattle.fib_core.specs.Walk.{Arrives, root, walk};
-ghost use Rattle.fib_core.specs.Union.{Edge, Goes, edges_of};
+ghost use Rattle.fib_core.specs.Union.{Edge, Goes, IsTyped, edges_of};
 ghost use Rattle.fib_core.specs.Trails.{AreLawful, IsSoundTrail, IsWhole, finished, stands, visited};
 ghost use Rattle.fib_lawful.specs.State.{Control, View, Worker, control, first_control, put, worker};
 ghost use Rattle.fib_lawful.specs.Frame.{HasView};
@@ -104,6 +105,14 @@ pub fn union_is_acyclic()
     ensures { (objects seat : ℕ) (words : List ℕ) (views : List View) (c : Control)
         → IsLawful objects words views → HasView views seat (control c)
         → IsAcyclic (Edge c.union) × IsAcyclic (edges.Edge (edges_of c.union)) }
+{}
+
+/// All edges into an object have one tag, none leads to object 0, objects have the forms of the edges into them, and
+/// plies lie at most seven deep.
+pub fn edges_are_well_typed()
+    ensures { (objects seat : ℕ) (words : List ℕ) (views : List View) (c : Control)
+        → IsLawful objects words views → HasView views seat (control c)
+        → IsTyped c.union }
 {}
 
 /// The walk over the cells as they are, as the definition limits it, is where the steps end: it has no more edges than
