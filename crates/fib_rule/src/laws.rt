@@ -1,6 +1,5 @@
 // What the rule tells a seat. A law each, the contract of a call without a body.
-ghost use Rattle.std.specs.Prelude.{ℕ, Bool, List, Some, false, true, length, nat_lt, slice_get, slice_index, slice_index_or};
-ghost use Rattle.std.specs.Prelude.{if◌then◌else◌, ◌*◌, ◌+◌, ◌<◌, ◌^◌, ◌≡◌, ◌≢◌, ◌≤◌, ◌⊎◌};
+ghost use Rattle.std.specs.Prelude.{ℕ, Bool, List, Some, false, true, length, nat_lt, slice_get, slice_index, slice_index_or, if◌then◌else◌, ◌*◌, ◌+◌, ◌<◌, ◌^◌, ◌≡◌, ◌≢◌, ◌≤◌, ◌⊎◌};
 ghost use Rattle.fib_reach.specs.Walks.{IsAcyclic};
 ghost use Rattle.fib_resolve.specs.declared.types.Tables.{Tables};
 ghost use Rattle.fib_results.specs.Trails.{version_at};
