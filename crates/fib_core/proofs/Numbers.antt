@@ -1,5 +1,6 @@
 -- Words and their numbers.
-use Rattle.std.proofs.Common.{◌≡◌, ℕ, ◌+◌, ◌*◌, ◌/◌, ◌%◌, ◌^◌, ◌<◌, ◌≤◌, false, refl, sym, ap, ◌∙◌, subst, arith}
+use Rattle.std.specs.Prelude.{slice_index, replicate}
+use Rattle.std.proofs.Common.{zero, suc, ◌≡◌, ℕ, ◌+◌, ◌*◌, ◌/◌, ◌%◌, ◌^◌, ◌<◌, ◌≤◌, false, refl, sym, ap, ◌∙◌, subst, arith}
 use Rattle.fib_core.specs.declared.word.Word.{Word}
 use Rattle.fib_core.specs.declared.word.Word.TheVariants as words
 use Rattle.fib_union.specs.Unions.{owner}
@@ -61,3 +62,9 @@ number_cases n (words.Plain i, room, is) = (omega arith, λ ne. absurd (ne (omeg
 
 pub roomy_decoded : (n : ℕ) → IsWord n → IsRoomy (decoded n)
 roomy_decoded n (w, room, is) = subst IsRoomy (sym (ap decoded is ∙ decoded_encoded w room)) room
+
+-- cells of a fresh table
+pub zeros : (n k : ℕ) → slice_index (replicate n 0) k ≡ 0
+zeros zero k = refl
+zeros (suc n) zero = refl
+zeros (suc n) (suc k) = zeros n k

@@ -16,7 +16,7 @@ use Rattle.fib_core.specs.Words.{encoded, decoded, goes}
 use Rattle.fib_core.specs.Walk.{root, from_ply, after, end_at, walk, EndsIn}
 use Rattle.fib_core.specs.Union.{Union, Goes, Edge, PlyEdge, IsTyped}
 use Rattle.fib_core.specs.Trails.{IsEndOf}
-use Rattle.fib_core.proofs.Numbers.{goes-zero, decoded-zero}
+use Rattle.fib_core.proofs.Numbers.{zeros, goes-zero, decoded-zero}
 use Rattle.fib_core.proofs.Walks.{after_ended}
 use Rattle.fib_results.specs.Versions.{packed}
 use Rattle.fib_lawful.specs.State.{Control, View, control, first_control}
@@ -26,11 +26,6 @@ use Rattle.fib_lawful.specs.Lawful.{lawful}
 use Rattle.fib_lawful.specs.Rule.{Holds}
 use Rattle.fib_lawful.proofs.Parts.{some_is}
 use Rattle.fib_lawful.proofs.Fresh.{fresh_drops}
-
-pub zeros : (n k : ℕ) → slice_index (replicate n 0) k ≡ 0
-zeros zero k = refl
-zeros (suc n) zero = refl
-zeros (suc n) (suc k) = zeros n k
 
 pub falses : (n k : ℕ) → slice_index_or (replicate n false) k false ≡ false
 falses zero k = refl

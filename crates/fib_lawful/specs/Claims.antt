@@ -1,7 +1,8 @@
--- Claims are drawn once: the claim word counts them, and each number below it stands in one view alone.
+-- What speaks of all views at once. Claims are drawn once: the claim word counts them, and each number below it stands in one view alone.
 use Rattle.std.specs.Prelude.{◌≡◌, ℕ, ◌+◌, ◌*◌, ◌<◌, ◌^◌, Bool, true, false, List, [], ◌∷◌, length, slice_index, slice_index_or, nat_lt, eqb, if◌then◌else◌}
 use Rattle.fib_lawful.specs.State.{View, control, worker, note, spent}
 
+-- the claims that a view has
 abbrev pub claims_in : View → List ℕ
 claims_in (control c) = c.gathered
 claims_in (worker w) = w.claims
@@ -24,11 +25,11 @@ abbrev pub total : (View → ℕ) → List View → ℕ
 total f [] = 0
 total f (v ∷ vs) = f v + total f vs
 
+-- as many as the claim word says, and each number below it once
 pub record IsClaimed (words : List ℕ) (views : List View) : Type 0 where
   pub all : slice_index words 9 ≡ total count_in views
   pub each : (n : ℕ) → total (times_in n) views ≡ (if nat_lt n (slice_index words 9) then 1 else 0)
 
--- each number that is out has one worker's seat, and each other none
 abbrev pub one_if : Bool → ℕ
 one_if true = 1
 one_if false = 0
@@ -39,6 +40,7 @@ sits n (control c) = 0
 sits n (note v) = 0
 sits n spent = 0
 
+-- each number that is out has one worker's seat, and each other none
 abbrev pub IsSeats : List View → List Bool → Type 0
 IsSeats views out = (n : ℕ) → total (sits n) views ≡ one_if (slice_index_or out n false)
 

@@ -12,11 +12,11 @@ use Rattle.fib_core.specs.Words.{encoded, decoded, tag_of, target}
 use Rattle.fib_core.specs.Walk.{root, balance, halved, from_ply, from_balance, word_at, after, end_at, walk, EndsIn}
 use Rattle.fib_core.specs.Union.{Union, Edge, IsPlyWord, IsBucketWord, HasForm}
 use Rattle.fib_core.specs.Trails.{IsEndOf}
-use Rattle.fib_core.proofs.Numbers.{decoded_encoded, target_of}
+use Rattle.fib_core.proofs.Numbers.{zeros, decoded_encoded, target_of}
 use Rattle.fib_core.proofs.Walks.{after_ended}
 use Rattle.fib_lawful.specs.State.{first_control}
 use Rattle.fib_lawful.specs.May.{MayLead}
-use Rattle.fib_lawful.proofs.Begins.{zeros, falses, length_zeros, no_goes, drop_at}
+use Rattle.fib_lawful.proofs.Begins.{falses, length_zeros, no_goes, drop_at}
 use Rattle.fib_rule.specs.May.{MayStore}
 
 -- the word: on to the balance in object 1

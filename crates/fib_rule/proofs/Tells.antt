@@ -10,7 +10,7 @@ use Rattle.fib_union.specs.Unions.{owner}
 use Rattle.fib_core.specs.declared.word.Word.TheVariants as words
 use Rattle.fib_core.specs.Words.{IsWord, decoded}
 use Rattle.fib_core.specs.Walk.{root, walk, Arrives}
-use Rattle.fib_core.specs.Union.{Goes, Edge, edges_of}
+use Rattle.fib_core.specs.Union.{IsTyped, Goes, Edge, edges_of}
 use Rattle.fib_core.specs.Trails.{visited, stands, IsWhole, finished, AreLawful, IsSoundTrail}
 use Rattle.fib_core.proofs.Numbers.{target_of}
 use Rattle.fib_core.proofs.Unions.{none_counted}
@@ -68,6 +68,9 @@ module _ (objects : ℕ) (numbers : List ℕ) (views : List View) (s : IsLawful 
 
     pub read_whole : (id : ℕ) (v : Worker) → HasView views id (worker v) → IsWhole c.union.cells v.trail
     read_whole id v at = (worker_facts id v at).0.whole
+
+    pub well_typed : IsTyped c.union
+    well_typed = facts.typed
 
     pub acyclic : IsAcyclic (Edge c.union)
     acyclic = facts.acyclic

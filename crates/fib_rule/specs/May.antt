@@ -13,8 +13,11 @@ use Rattle.fib_rule.specs.Steady.{MayStoreSteadily}
 
 -- the control plane stores w into the cell k
 pub record MayStore (c : Control) (k w : ℕ) : Type 0 where
+  -- forms, edges, ends, and a time at which stores are allowed
   pub lawful : MayStoreLawfully c.objects c.union c.log c.desk.out k w
+  -- the promise of steady traffic holds before it and after it
   pub steady : MayStoreSteadily c k w
+  -- a ply is linked below a linked one, and unlinked as a leaf
   pub rooted : IsRootedStore c.union.cells k w
 
 -- it begins a version with these tables: they are well formed, and at the first change the cells stand for the fresh tables

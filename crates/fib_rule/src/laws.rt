@@ -9,7 +9,7 @@ ghost use Rattle.fib_union.specs.Unions.{owner};
 ghost use Rattle.fib_core.specs.declared.word.Word.TheVariants as said;
 ghost use Rattle.fib_core.specs.Words.{IsWord, decoded, encoded, target};
 ghost use Rattle.fib_core.specs.Walk.{Arrives, root, walk};
-ghost use Rattle.fib_core.specs.Union.{Edge, Goes, edges_of};
+ghost use Rattle.fib_core.specs.Union.{Edge, Goes, IsTyped, edges_of};
 ghost use Rattle.fib_core.specs.Trails.{AreLawful, IsSoundTrail, IsWhole, finished, stands, visited};
 ghost use Rattle.fib_lawful.specs.State.{Control, View, Worker, control, first_control, put, worker};
 ghost use Rattle.fib_lawful.specs.Frame.{HasView};
@@ -104,6 +104,14 @@ pub fn union_is_acyclic()
     ensures { (objects seat : ℕ) (words : List ℕ) (views : List View) (c : Control)
         → IsLawful objects words views → HasView views seat (control c)
         → IsAcyclic (Edge c.union) × IsAcyclic (edges.Edge (edges_of c.union)) }
+{}
+
+/// All edges into an object have one tag, none leads to object 0, objects have the forms of the edges into them, and
+/// plies lie at most seven deep.
+pub fn edges_are_well_typed()
+    ensures { (objects seat : ℕ) (words : List ℕ) (views : List View) (c : Control)
+        → IsLawful objects words views → HasView views seat (control c)
+        → IsTyped c.union }
 {}
 
 /// The walk over the cells as they are, as the definition limits it, is where the steps end: it has no more edges than

@@ -34,6 +34,7 @@ fn each_law() {
     laws::trails_come_home_right();
     laws::settled_cells_answer();
     laws::union_is_acyclic();
+    laws::edges_are_well_typed();
     laws::walks_have_an_end();
     laws::free_objects_have_no_ply_edge();
     laws::the_first_store_may_be_made();

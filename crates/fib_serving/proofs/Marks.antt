@@ -29,9 +29,8 @@ use Rattle.fib_resolve.proofs.Touching.{untouched_chosen, untouched_pairs}
 use Rattle.fib_resolve.proofs.Entries.{is_entry}
 use Rattle.fib_resolve.specs.declared.aims.Aim.{Aim}
 use Rattle.fib_resolve.specs.declared.aims.Aim.TheVariants as aims
-use Rattle.fib_resolve.specs.Aims.{kind_aim, path_aim, aim}
+use Rattle.fib_resolve.specs.Aims.{kind_aim, path_aim, aim, kind_counts, marked, marked_list}
 use Rattle.fib_resolve.specs.declared.aims.Marked.{Marked}
-use Rattle.fib_resolve.specs.Aims.{kind_counts, marked, marked_list}
 use Rattle.fib_changes.specs.Ranks.{leads_on, is_usable_mark}
 use Rattle.fib_serving.specs.Marks.{least, of_least, spread_marks, aim_of, aim_by}
 

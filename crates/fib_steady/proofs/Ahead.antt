@@ -4,7 +4,8 @@ use Rattle.std.specs.Prelude.{replicate}
 use Rattle.std.specs.List.{AllByRecursion}
 use Rattle.fib_union.specs.Marks.{is_even, Mark, unseen, first, passed, next_mark, looked, is_passed, all_passed}
 use Rattle.fib_core.specs.Union.{Retired, Union, drop_if, remark, scan_retired, scanned}
-use Rattle.fib_steady.specs.Backed.{LeadsNow, IsBacked, AreNewest, IsAhead, IsFit, AreAhead, AreOrdered}
+use Rattle.fib_steady.specs.Names.{LeadsNow}
+use Rattle.fib_steady.specs.inner.Backed.{IsBacked, AreNewest, IsAhead, IsFit, AreAhead, AreOrdered}
 use Rattle.fib_steady.proofs.Backed.{backed_newest}
 
 -- one mark

@@ -10,8 +10,8 @@ use Rattle.fib_union.specs.Marks.{Mark}
 use Rattle.fib_core.specs.Union.{Retired, Union, AnyOf, Goes, retire_if, stored, must_retire}
 use Rattle.fib_core.proofs.Numbers.{goes_of, target_of}
 use Rattle.fib_core.proofs.Unions.{retire_needed}
-use Rattle.fib_steady.specs.Names.{IsWalked}
-use Rattle.fib_steady.specs.Backed.{LeadsNow, AreBacked, IsBacked, AreNewest}
+use Rattle.fib_steady.specs.Names.{IsWalked, LeadsNow}
+use Rattle.fib_steady.specs.inner.Backed.{AreBacked, IsBacked, AreNewest}
 
 -- a store that replaces an edge to a ply is into the root, or into an object to which another cell leads
 abbrev pub IsBackedStore : Union → ℕ → Type 0

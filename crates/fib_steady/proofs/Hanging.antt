@@ -12,9 +12,9 @@ use Rattle.fib_core.specs.declared.word.Word.{Word}
 use Rattle.fib_core.specs.declared.word.Word.TheVariants as words
 use Rattle.fib_core.specs.Words.{decoded, goes, target}
 use Rattle.fib_core.specs.Union.{Retired, Union, Goes, Edge, retire_if, must_retire, stored, drop_if, remark, scan_retired, scanned, AreEdges}
-use Rattle.fib_core.proofs.Numbers.{decoded-zero, goes_of, target_of}
-use Rattle.fib_steady.specs.Names.{IsWalked}
-use Rattle.fib_steady.specs.Backed.{LeadsNow, AreOrdered}
+use Rattle.fib_core.proofs.Numbers.{zeros, decoded-zero, goes_of, target_of}
+use Rattle.fib_steady.specs.Names.{IsWalked, LeadsNow}
+use Rattle.fib_steady.specs.inner.Backed.{AreOrdered}
 use Rattle.fib_steady.specs.Rooted.{IsRooted, IsLeaf, IsRootedStore, PliesHang}
 use Rattle.fib_steady.proofs.Backed.{IsBackedStore, backed_stored, none_leaves}
 use Rattle.fib_steady.proofs.Ahead.{ordered_stored, scan_ordered, backed_scanned}
@@ -150,11 +150,6 @@ none_leaves_aside workers u o h other none = none_leaves u o h.backed other unwa
         none from.0 (slice_index u.cells from.0) (ply_goes u from.0 (owner k) from.1) (ply_to (slice_index u.cells from.0) (owner k) from.1 ∙ at)
 
 -- a fresh table
-zeros : (n k : ℕ) → slice_index (replicate n 0) k ≡ 0
-zeros zero k = refl
-zeros (suc n) zero = refl
-zeros (suc n) (suc k) = zeros n k
-
 pub hangs_fresh : (cells workers : ℕ) → PliesHang workers (record { cells = replicate cells 0; retired = [] })
 hangs_fresh cells workers = record {
   rooted = λ k c is ne. absurd (no_drop (decoded 0) c decoded-zero (ap decoded (sym (zeros cells k)) ∙ is));

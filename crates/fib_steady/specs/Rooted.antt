@@ -5,7 +5,8 @@ use Rattle.fib_union.specs.Unions.{owner}
 use Rattle.fib_core.specs.declared.word.Word.TheVariants as words
 use Rattle.fib_core.specs.Words.{decoded}
 use Rattle.fib_core.specs.Union.{Union, AreEdges}
-use Rattle.fib_steady.specs.Backed.{LeadsNow, IsBacked, AreOrdered}
+use Rattle.fib_steady.specs.Names.{LeadsNow}
+use Rattle.fib_steady.specs.inner.Backed.{IsBacked, AreOrdered}
 
 -- a ply with a cell to a ply is the root, or a cell leads to it
 abbrev pub IsRooted : List ℕ → Type 0

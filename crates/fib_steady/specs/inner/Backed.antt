@@ -1,16 +1,13 @@
 -- A retired edge from a ply to another outlives no edge into its own ply: retirements leave in their order, so where the ply's own edge was
 -- retired later, it is there longer.
-use Rattle.std.specs.Prelude.{◌≡◌, ◌≢◌, ◌⊎◌, ℕ, false, List, [], ◌∷◌, slice_index}
+use Rattle.std.specs.Prelude.{◌≡◌, ◌≢◌, ◌⊎◌, ℕ, false, List, [], ◌∷◌}
 use Rattle.std.specs.List.{AllByRecursion}
 use Rattle.fib_core.specs.declared.word.Word.TheVariants as words
 use Rattle.fib_union.specs.Unions.{owner}
 use Rattle.fib_union.specs.Marks.{is_even, Mark, unseen, first, passed}
 use Rattle.fib_core.specs.Words.{decoded}
+use Rattle.fib_steady.specs.Names.{LeadsNow}
 use Rattle.fib_core.specs.Union.{Retired, Union}
-
--- a cell leads to this ply
-abbrev pub LeadsNow : List ℕ → ℕ → Type 0
-LeadsNow cells y = (k : ℕ) × (decoded (slice_index cells k) ≡ words.ToPly y)
 
 -- the newest first: each edge to a ply that was retired from another object than the root has an edge into its object that P has or that was
 -- retired later
