@@ -5,7 +5,7 @@ use Rattle.std.specs.List.{list_any, list_all}
 use Rattle.std.specs.Cmp.Lexicographic.{pointwise}
 use Rattle.std.proofs.lemmas.Bool.{false≢true}
 use mathlib.Core.Bool.{beq}
-use Rattle.fib_reach.proofs.Through.{and_both}
+use Rattle.fib_list.proofs.Booleans.{and_both}
 use Rattle.fib_resolve.specs.declared.aims.Marked.{Marked}
 use Rattle.fib_resolve.specs.contracts.aims.MarkedPartialEq.TheImpl.{eq-value}
 use Rattle.fib_resolve.specs.contracts.aims.MarkedEq.TheImpl.Laws as laws

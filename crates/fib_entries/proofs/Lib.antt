@@ -12,3 +12,4 @@ pub mod Alike
 pub mod Comparing
 pub mod Touches
 pub mod Moving
+pub mod Woken

@@ -8,7 +8,7 @@ use Rattle.std.proofs.lemmas.Bool.{false≢true}
 use Rattle.std.proofs.lemmas.List.Elements.{Contains-append_left, Contains-append_right, Contains-append_cases}
 use Rattle.fib_list.proofs.Lists.{either, Contains-nil}
 use Rattle.fib_reach.specs.Walks.{AllDiffer}
-use Rattle.fib_reach.proofs.Through.{and_both}
+use Rattle.fib_list.proofs.Booleans.{and_both}
 use Rattle.fib_addr.specs.Prefixes.{Prefix, same_prefix}
 use Rattle.fib_cover.specs.Covers.{IsAscending, prefix_cmp}
 use Rattle.fib_resolve.specs.Touched.{is_touched}

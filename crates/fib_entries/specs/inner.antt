@@ -1,3 +1,4 @@
 pub mod Building
 pub mod Compare
 pub mod Fields
+pub mod Waking

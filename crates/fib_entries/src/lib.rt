@@ -14,9 +14,13 @@ mod look;
 mod parts;
 mod ranks;
 mod rows;
+mod waking;
 mod whole;
 
 pub use changes::{FollowError, Followed, Moved, Touched};
 pub use entries::Entries;
 pub use fib_changes::Change;
 pub use rows::Row;
+
+#[cfg(test)]
+mod tests;
