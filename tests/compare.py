@@ -3,10 +3,16 @@
 
     tests/compare.py PROGRAM ORACLE [--scripts N] [--lines N] [--packets N] [--first SEED]
 
-PROGRAM is the built fib_tool; ORACLE is a Python program that knows `gen SEED --profile P -o DIR` (which writes a command file and a
-capture), `check --frozen COMMANDS CAPTURE OUTPUT` (which says whether a run whose workers forward by the tables at their round's
-opening may print that) and `expect COMMANDS CAPTURE` (which ends with the status that is due). N command files of each profile are generated, and each is run with 1, 3 and 8 workers, which must print
-the same. The first output that isn't allowed is shown and ends the run.
+PROGRAM is the built fib_tool. ORACLE is the reference oracle: a Python model of the program that shares nothing with this repository
+and is no part of it. It is a command line that knows
+
+    gen SEED --profile P --lines N --packets N -o DIR   writes a command file and a capture
+    expect COMMANDS CAPTURE                             ends with the status that is due
+    check --frozen COMMANDS CAPTURE OUTPUT              says whether a run may print OUTPUT (- for standard input) whose workers
+                                                        forward by the tables at their round's opening
+
+N command files of each of the five profiles are generated, so `--scripts 200` makes 1,000 runs; each is run with 1, 3 and 8 workers,
+which must print the same. The first output that isn't allowed is shown and ends the run.
 """
 import argparse
 import pathlib
