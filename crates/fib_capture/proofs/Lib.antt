@@ -2,3 +2,4 @@ pub mod Reading
 pub mod Records
 pub mod Spanning
 pub mod WrittenFiles
+pub mod Pointing

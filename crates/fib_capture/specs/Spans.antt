@@ -1,6 +1,6 @@
 -- Where the packets of a capture stand in its file.
-use Rattle.std.specs.Prelude.{ℕ, ◌+◌, ◌-◌, List, [], ◌∷◌, Option, Some, None, Result, Ok, Err, length, drop}
-use Rattle.fib_capture.specs.Captures.{packet_of, frames_of, header_of}
+use Rattle.std.specs.Prelude.{◌≡◌, ℕ, ◌+◌, ◌-◌, List, [], ◌∷◌, Option, Some, None, Result, Ok, Err, length, take, drop, slice_get}
+use Rattle.fib_capture.specs.Captures.{Capture, packet_of, ipv4_packet_of, frames_of, header_of, capture_of}
 use Rattle.fib_capture.specs.declared.packet.Packet.{Packet}
 use Rattle.fib_capture.specs.declared.packet.Packet.TheVariants as packets
 use Rattle.fib_capture.specs.declared.packet.CaptureError.{CaptureError}
@@ -38,3 +38,9 @@ spans_after bytes (Ok h) = Ok (spans_from h.1 24 (frames_of h.0 (drop 24 bytes))
 -- the spans of a file's packets in order, or why it is refused: as its capture is
 unfoldable pub spans_of : List ℕ → Result (List Span) CaptureError
 spans_of bytes = spans_after bytes (header_of bytes)
+
+-- a span points to its flow: the bytes there, read as an IPv4 packet, are the packet in that place of the capture
+abbrev pub SpansPointToFlows : Type 0
+SpansPointToFlows =
+    (bytes : List ℕ) (spans : List Span) (c : Capture) → spans_of bytes ≡ Ok spans → capture_of bytes ≡ Ok c →
+    (k at n : ℕ) → slice_get spans k ≡ Some (Some (at, n)) → slice_get c.packets k ≡ Some (ipv4_packet_of (take n (drop at bytes)))

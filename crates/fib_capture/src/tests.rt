@@ -109,6 +109,7 @@ fn worked_hash(rt: HostRuntime) {
 #[test]
 fn whole_and_cut_files(rt: HostRuntime) -> Result<(), Fail> {
     laws::written_files_are_read_back();
+    laws::spans_point_to_flows();
     let alloc = rt.alloc();
     let ping = [flow(0x0a00_0009, 1_701_755_127)];
     holds(&rt, alloc, &[RAW, RECORD, PING], &ping, None)?;
