@@ -1,9 +1,13 @@
 // Each event keeps the rule, and the fresh table meets it. A law each, the contract of a call without a body.
-ghost use Rattle.std.specs.Prelude.{ℕ, List, replicate, slice_index, slice_set, [], ◌*◌, ◌++◌, ◌+◌, ◌<◌, ◌≢◌, ◌≤◌, ◌∷◌};
+ghost use Rattle.std.specs.Prelude.{ℕ, List, replicate, slice_index, slice_set};
+ghost use Rattle.std.specs.Prelude.{[], ◌*◌, ◌++◌, ◌+◌, ◌<◌, ◌≢◌, ◌≤◌, ◌∷◌};
 ghost use Rattle.fib_resolve.specs.declared.types.Tables.{Tables};
 ghost use Rattle.fib_results.specs.declared.record.Version.{Version};
 ghost use Rattle.fib_results.specs.Versions.{packed};
-ghost use Rattle.fib_lawful.specs.State.{Control, View, Worker, control, note, spent, worker, claimed, hopped, learned, started, stopped, told, begun, first_control, looked, new_worker, picking, put, sent, settled, taken_home, with_log};
+ghost use Rattle.fib_lawful.specs.State.{Control, View, Worker, control, note, spent, worker};
+ghost use Rattle.fib_lawful.specs.State.{claimed, hopped, learned, started, stopped, told};
+ghost use Rattle.fib_lawful.specs.State.{begun, first_control, looked, new_worker, picking, put};
+ghost use Rattle.fib_lawful.specs.State.{sent, settled, taken_home, with_log};
 ghost use Rattle.fib_lawful.specs.Frame.{HasView};
 ghost use Rattle.fib_lawful.specs.May.{MaySettle};
 ghost use Rattle.fib_rule.specs.Rule.{IsLawful};

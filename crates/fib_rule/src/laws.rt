@@ -1,11 +1,13 @@
 // What the rule tells a seat. A law each, the contract of a call without a body.
-ghost use Rattle.std.specs.Prelude.{ℕ, Bool, List, Some, false, true, length, nat_lt, slice_get, slice_index, slice_index_or, if◌then◌else◌, ◌*◌, ◌+◌, ◌<◌, ◌^◌, ◌≡◌, ◌≢◌, ◌≤◌, ◌⊎◌};
+ghost use Rattle.std.specs.Prelude.{ℕ, Bool, List, Some, false, true, length, nat_lt, slice_get, slice_index, slice_index_or};
+ghost use Rattle.std.specs.Prelude.{if◌then◌else◌, ◌*◌, ◌+◌, ◌<◌, ◌^◌, ◌≡◌, ◌≢◌, ◌≤◌, ◌⊎◌};
 ghost use Rattle.fib_reach.specs.Walks.{IsAcyclic};
 ghost use Rattle.fib_resolve.specs.declared.types.Tables.{Tables};
 ghost use Rattle.fib_results.specs.Trails.{version_at};
 ghost use Rattle.fib_results.specs.Versions.{unpacked};
 ghost use Rattle.fib_union.specs.Unions as edges;
 ghost use Rattle.fib_union.specs.Unions.{owner};
+ghost use Rattle.fib_core.specs.declared.word.Word.{Word};
 ghost use Rattle.fib_core.specs.declared.word.Word.TheVariants as said;
 ghost use Rattle.fib_core.specs.Words.{IsWord, decoded, encoded, target};
 ghost use Rattle.fib_core.specs.Walk.{Arrives, root, walk};
@@ -19,6 +21,7 @@ ghost use Rattle.fib_rule.specs.Steady.{AreSteady};
 ghost use Rattle.fib_rule.specs.Rule.{IsLawful};
 ghost use Rattle.fib_rule.specs.May.{MayStore};
 ghost use Rattle.fib_rule.specs.Serving.{MayClear, Serves};
+ghost use Rattle.fib_rule.specs.Change.{IsReached, MayChange, MayPlace};
 
 /// A running pass visits no object twice and only objects that there are; a walk that makes its loads stands where it
 /// stands, goes on exactly where it loads an edge, and reads numbers that fit.
@@ -146,6 +149,17 @@ pub fn a_drop_where_nothing_leads_may_be_stored()
         → (c.log.version.settled < c.log.version.applied)
         ⊎ ((c.log.version.applied ≡ 0) × ((n : ℕ) → slice_index_or c.desk.out n false ≡ false))
         → MayClear c (owner k) → MayStore c k 0 }
+{}
+
+/// What a plane knows of a store by edges and counts alone, and what speaks of what workers may see and of plies, are
+/// all that the store asks. The second half is asked where passes may reach the object, or the word is no Drop; else
+/// steady traffic must not rest on the object.
+pub fn two_halves_are_all_that_a_store_asks()
+    ensures { (objects seat k : ℕ) (w : Word) (words : List ℕ) (views : List View) (c : Control)
+        → IsLawful objects words views → HasView views seat (control c) → MayPlace c k w
+        → (w ≡ said.Drop → (IsReached c (owner k) → ⊥) → MayClear c (owner k))
+        → ((w ≡ said.Drop → IsReached c (owner k)) → MayChange c k w)
+        → MayStore c k (encoded w) }
 {}
 
 /// Such a Drop keeps what serves steady traffic, where the object isn't held.

@@ -39,6 +39,7 @@ fn each_law() {
     laws::free_objects_have_no_ply_edge();
     laws::the_first_store_may_be_made();
     laws::a_drop_where_nothing_leads_may_be_stored();
+    laws::two_halves_are_all_that_a_store_asks();
     laws::clearing_keeps_what_is_served();
     laws::claims_fit();
     laws::claims_are_drawn_once();
