@@ -10,3 +10,4 @@ pub mod Ranking
 pub mod Cycles
 pub mod EditLaws
 pub mod Prefixed
+pub mod MarkLaws

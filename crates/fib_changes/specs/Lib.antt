@@ -3,3 +3,4 @@ pub mod Causes
 pub mod Affected
 pub mod Ranks
 pub mod Differ
+pub mod Wanted

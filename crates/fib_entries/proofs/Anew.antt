@@ -1,11 +1,11 @@
 -- Rows made anew stand for the tables.
-use Rattle.std.proofs.Common.{arith, ◌≡◌, ◌≢◌, ℕ, zero, suc, ◌+◌, ◌<◌, ◌≤◌, Bool, true, false, cond, List, [], ◌∷◌, ◌++◌, length, map, filter, take, Option, Some, None, ◌⊎◌, inl, inr, refl, sym, ◌∙◌, ap, subst, slice_get, get_or, ◌↔◌, ◌&&◌}
-use Rattle.std.specs.Prelude.{min, ◌^◌, ◌-◌, Contains, slice_index, count_by, option_map, IsSome}
-use Rattle.std.specs.List.{AllByRecursion, IsDistinct, list_any}
+use Rattle.std.proofs.Common.{arith, ◌≡◌, ◌≢◌, ℕ, zero, suc, ◌+◌, ◌<◌, ◌≤◌, Bool, true, false, List, [], ◌∷◌, ◌++◌, length, map, filter, take, Option, Some, None, inl, inr, refl, sym, ◌∙◌, ap, subst, slice_get, get_or, ◌↔◌, ◌&&◌}
+use Rattle.std.specs.Prelude.{min, ◌^◌, ◌-◌, Contains, slice_index, option_map, IsSome}
+use Rattle.std.specs.List.{AllByRecursion, IsDistinct}
 use Rattle.std.specs.Set.{is_member}
-use Rattle.std.proofs.lemmas.Bool.{false≢true, cases_eq, cases_lt}
-use Rattle.std.proofs.lemmas.List.Elements.{Contains-append_left, Contains-append_right, Contains-append_cases}
-use Rattle.std.proofs.lemmas.Option.{slice_get_within, slice_get-get_or}
+use Rattle.std.proofs.lemmas.Bool.{false≢true}
+use Rattle.std.proofs.lemmas.List.Elements.{Contains-append_cases}
+use Rattle.std.proofs.lemmas.Option.{slice_get_within}
 use Rattle.std.proofs.lemmas.Map.Views.{Contains-from_any}
 use Rattle.fib_list.proofs.Lists.{either, Contains-nil, Contains-flat_map}
 use Rattle.fib_reach.specs.Walks.{AllDiffer}
@@ -23,14 +23,14 @@ use Rattle.fib_resolve.proofs.Entries.{targets_from_entries}
 use Rattle.fib_resolve.proofs.KeptEdges.{kept_target}
 use Rattle.fib_changes.specs.Ranks.{Falls, wakes}
 use Rattle.fib_changes.proofs.CauseLaws.{any_from}
-use Rattle.fib_changes.proofs.Edits.{any_in, in_cases, in_front, in_rest}
-use Rattle.fib_changes.proofs.SamePairs.{flat_map_from, map_in, map_from}
+use Rattle.fib_changes.proofs.Edits.{any_in, in_cases}
+use Rattle.fib_changes.proofs.SamePairs.{flat_map_from}
 use Rattle.fib_changes.proofs.Targets.{target_entry}
 use Rattle.fib_interned.specs.Interned.{kept_of}
-use Rattle.fib_interned.proofs.Finding.{find_place, contains_at, none_some, get_push, get_push_old, get_push_new}
+use Rattle.fib_interned.proofs.Finding.{find_place, none_some, get_push}
 use Rattle.fib_entries.specs.declared.rows.Row.{Row}
-use Rattle.fib_entries.specs.Known.{PathKept, Known, prefix_of, row_of, rank_of, rank_in, IsRow, StandsFor, ArePairs}
-use Rattle.fib_entries.specs.inner.Building.{has_edge, IsKeptEdge, AreKeptEdges, AreRows, AreTaken, AreHeld}
+use Rattle.fib_entries.specs.Known.{PathKept, prefix_of, row_of, rank_of, rank_in, IsRow, StandsFor}
+use Rattle.fib_entries.specs.inner.Building.{has_edge, AreKeptEdges, AreRows, AreTaken, AreHeld}
 
 some_is : {X : Type 0} (x y : X) → Some x ≡ Some y → x ≡ y
 some_is x y e = (cc)
@@ -68,11 +68,11 @@ distinct_differ (q ∷ qs) d = (differ_each q qs d.0, distinct_differ qs d.1)
 
 filter_each : (P : Prefix → Type 0) (test : Prefix → Bool) (qs : List Prefix) → AllByRecursion P qs → AllByRecursion P (filter test qs)
 filter_each P test [] all = tt
-filter_each P test (q ∷ qs) all = elim (either (test q)) [ | inl is ↦ rw is (all.0, filter_each P test qs all.1) | inr isnt ↦ rw isnt (filter_each P test qs all.1) ]
+filter_each P test (q ∷ qs) all = elim (either (test q)) [ inl is ↦ rw is (all.0, filter_each P test qs all.1) | inr isnt ↦ rw isnt (filter_each P test qs all.1) ]
 
 pub filter_differ : (test : Prefix → Bool) (qs : List Prefix) → AllDiffer qs → AllDiffer (filter test qs)
 filter_differ test [] d = tt
-filter_differ test (q ∷ qs) d = elim (either (test q)) [ | inl is ↦ rw is (filter_each (λ z. q ≢ z) test qs d.0, filter_differ test qs d.1) | inr isnt ↦ rw isnt (filter_differ test qs d.1) ]
+filter_differ test (q ∷ qs) d = elim (either (test q)) [ inl is ↦ rw is (filter_each (λ z. q ≢ z) test qs d.0, filter_differ test qs d.1) | inr isnt ↦ rw isnt (filter_differ test qs d.1) ]
 
 pub dependants_once : (S : Tables) (e : Prefix) → AllDiffer (filter (λ z. has_edge S z e) (entries S))
 dependants_once S e = filter_differ (λ z. has_edge S z e) (entries S) (distinct_differ (entries S) (entries_apart S))
@@ -99,7 +99,7 @@ one_row lists S order ranks done rows r h is own rank = record {
   ];
   each = λ q c. elim (Contains-append_cases rows (r ∷ []) q c) [
     | inl old ↦ h.each q old
-    | inr new ↦ elim (in_cases r q [] new) [ | inl same ↦ subst (IsRow lists S) same is | inr nothing ↦ absurd (Contains-nil q nothing) ]
+    | inr new ↦ elim (in_cases r q [] new) [ inl same ↦ subst (IsRow lists S) same is | inr nothing ↦ absurd (Contains-nil q nothing) ]
   ];
 }
   where
@@ -129,9 +129,9 @@ module _ (lists : List PathKept) (S : Tables) (order : List Prefix) (ranks : Lis
       missed (r ∷ rs) c n = elim (either (same_prefix e r.prefix)) [
         | inl is ↦ none_some r (sym (rw is at n))
         | inr isnt ↦ elim (in_cases r.prefix e (map prefix_of rs) c) [
-            | inl same ↦ false≢true (sym isnt ∙ (same_prefix-Decides e r.prefix).1 (sym same))
-            | inr later ↦ missed rs later (rw isnt at n)
-          ]
+          | inl same ↦ false≢true (sym isnt ∙ (same_prefix-Decides e r.prefix).1 (sym same))
+          | inr later ↦ missed rs later (rw isnt at n)
+        ]
       ]
 
       by : (o : Option Row) → row_of rows e ≡ o → (k : ℕ) × (r : Row) × (row_of rows e ≡ Some r) × (slice_get rows k ≡ Some r) × (slice_get order k ≡ Some e)

@@ -1,21 +1,19 @@
 -- Rows are alike exactly where the change doesn't touch their prefix.
-use Rattle.std.proofs.Common.{is_some, arith, ◌≡◌, ◌≢◌, ℕ, zero, suc, ◌<◌, Bool, true, false, cond, not, ◌&&◌, ◌||◌, ◌==◌, List, [], ◌∷◌, map, Option, Some, None, ◌⊎◌, inl, inr, refl, sym, ◌∙◌, ap, subst, ◌↔◌, if◌then◌else◌}
-use Rattle.std.specs.Prelude.{Contains, option_map, IsTrue}
+use Rattle.std.proofs.Common.{is_some, ◌≡◌, ℕ, Bool, true, false, not, ◌&&◌, ◌||◌, ◌==◌, List, [], ◌∷◌, map, Option, Some, None, inl, inr, refl, sym, ◌∙◌, ap, subst, ◌↔◌, if◌then◌else◌}
+use Rattle.std.specs.Prelude.{Contains, IsTrue}
 use Rattle.std.specs.List.{list_any, list_all}
-use Rattle.std.specs.Cmp.Lexicographic.{pointwise}
 use Rattle.std.proofs.lemmas.Bool.{false≢true}
 use Rattle.std.proofs.lemmas.Bool.Decides.{Decides-eqb}
 use Rattle.fib_list.proofs.Lists.{either, Contains-nil}
-use Rattle.fib_list.proofs.Booleans.{or_cases, and_both}
+use Rattle.fib_list.proofs.Booleans.{and_both}
 use Rattle.fib_addr.specs.Prefixes.{Prefix, host, same_prefix}
 use Rattle.fib_addr.proofs.PrefixLaws.{same_prefix-Decides}
-use Rattle.fib_resolve.specs.Keys.{same_source, source_rank, same_path}
+use Rattle.fib_resolve.specs.Keys.{same_source, source_rank}
 use Rattle.fib_resolve.specs.Aims.{kind_aim, kind_counts, marked, marked_list}
 use Rattle.fib_resolve.specs.Pairs.{pairs, entries, chosen, cover}
 use Rattle.fib_resolve.specs.Loops.{looped, looped_kind}
 use Rattle.fib_resolve.specs.Forwarding.{is_up, is_met}
 use Rattle.fib_resolve.specs.Resolution.{mac_of, hop_end, attached_end}
-use Rattle.fib_resolve.specs.Tables.{IsSound}
 use Rattle.fib_resolve.specs.Touched.{pairs_of, same_pairs, is_touched, kind_changes, differ, same_mac, other_mac, other_flag}
 use Rattle.fib_resolve.specs.declared.aims.Aim.{Aim}
 use Rattle.fib_resolve.specs.declared.aims.Aim.TheVariants as aims
@@ -39,9 +37,8 @@ use Rattle.fib_changes.proofs.Targets.{pair_entry}
 use Rattle.fib_changes.proofs.SamePairs.{same_chosen}
 use Rattle.fib_changes.proofs.CauseLaws.{any_from, both_halves}
 use Rattle.fib_changes.proofs.Edits.{any_in, in_cases, in_front, in_rest}
-use Rattle.fib_interned.specs.Interned.{kept_of}
-use Rattle.fib_interned.proofs.Finding.{some_is, none_some}
-use Rattle.fib_entries.specs.Known.{PathKept, Known, content_of, IsHeld, ArePairs, IsRow, StandsFor, row_of, kind_met}
+use Rattle.fib_interned.proofs.Finding.{some_is}
+use Rattle.fib_entries.specs.Known.{PathKept, Known, content_of, ArePairs, IsRow, StandsFor, row_of, kind_met}
 use Rattle.fib_entries.specs.inner.Compare.{is_content, is_that, has_that, all_there, AreAlike}
 use Rattle.fib_entries.specs.declared.rows.Row.{Row}
 use Rattle.fib_entries.proofs.Telling.{from_pair}
@@ -75,7 +72,7 @@ not_either false c h = absurd (false≢true (sym h))
 
 any_fails : {X : Type 0} (test : X → Bool) (xs : List X) (x : X) → list_any test xs ≡ false → Contains xs x → test x ≡ false
 any_fails test [] x h c = absurd (Contains-nil x c)
-any_fails test (y ∷ ys) x h c = elim (in_cases y x ys c) [ | inl is ↦ subst (λ z. test z ≡ false) is (neither (test y) (list_any test ys) h).0 | inr later ↦ any_fails test ys x (neither (test y) (list_any test ys) h).1 later ]
+any_fails test (y ∷ ys) x h c = elim (in_cases y x ys c) [ inl is ↦ subst (λ z. test z ≡ false) is (neither (test y) (list_any test ys) h).0 | inr later ↦ any_fails test ys x (neither (test y) (list_any test ys) h).1 later ]
 
 none_passes : {X : Type 0} (test : X → Bool) (xs : List X) → ((x : X) → Contains xs x → test x ≡ false) → list_any test xs ≡ false
 none_passes test [] h = refl
@@ -87,7 +84,7 @@ all_pass test (x ∷ xs) h = rw (h x (in_front x x xs refl)) (all_pass test xs (
 
 one_passes : {X : Type 0} (test : X → Bool) (xs : List X) (x : X) → list_all test xs ≡ true → Contains xs x → test x ≡ true
 one_passes test [] x h c = absurd (Contains-nil x c)
-one_passes test (y ∷ ys) x h c = elim (in_cases y x ys c) [ | inl is ↦ subst (λ z. test z ≡ true) is (and_both (test y) (list_all test ys) h).0 | inr later ↦ one_passes test ys x (and_both (test y) (list_all test ys) h).1 later ]
+one_passes test (y ∷ ys) x h c = elim (in_cases y x ys c) [ inl is ↦ subst (λ z. test z ≡ true) is (and_both (test y) (list_all test ys) h).0 | inr later ↦ one_passes test ys x (and_both (test y) (list_all test ys) h).1 later ]
 
 map_same : {X Y : Type 0} (f g : X → Y) (xs : List X) → ((x : X) → Contains xs x → f x ≡ g x) → map f xs ≡ map g xs
 map_same f g [] h = refl
@@ -99,7 +96,7 @@ front_same x y xs ys e = ((cc), (cc))
 same_map : {X Y : Type 0} (f g : X → Y) (xs : List X) → map f xs ≡ map g xs → (x : X) → Contains xs x → f x ≡ g x
 same_map f g [] e x c = absurd (Contains-nil x c)
 same_map f g (y ∷ ys) e x c = let both = front_same (f y) (g y) (map f ys) (map g ys) e in
-    elim (in_cases y x ys c) [ | inl is ↦ subst (λ z. f z ≡ g z) is both.0 | inr later ↦ same_map f g ys both.1 x later ]
+    elim (in_cases y x ys c) [ inl is ↦ subst (λ z. f z ≡ g z) is both.0 | inr later ↦ same_map f g ys both.1 x later ]
 
 -- pairs
 that_is : (lists : List PathKept) (source : FibSource) (paths : List Path) (p : FibSource × ℕ) → is_that lists source paths p ≡ true → (p.0 ≡ source) × (content_of lists p.1 ≡ Some paths)
@@ -216,10 +213,10 @@ module _ (S T : Tables) (e : Prefix) where
   kept p kinds.Local l m h = refl
   kept p (kinds.Attached i) l m h =
       nor (other_flag S T i) ((e.len == 32) && other_mac S T i e.bits) (differ_not (is_up S i) (is_up T i) (ap (λ z. z.counts) h))
-        (same_attached S T e i (e.len == 32) (end_is (attached_end S e i) (attached_end T e i) (ap (λ z. z.aim) h)))
+      (same_attached S T e i (e.len == 32) (end_is (attached_end S e i) (attached_end T e i) (ap (λ z. z.aim) h)))
   kept p (kinds.Hop a i) l m h =
       nor (other_flag S T i) (other_mac S T i a) (differ_not (is_up S i) (is_up T i) (ap (λ z. z.counts) h))
-        (mac_self (mac_of S i a) (mac_of T i a) (hop_mac i a (mac_of S i a) (mac_of T i a) (end_is (hop_end S i a) (hop_end T i a) (ap (λ z. z.aim) h))))
+      (mac_self (mac_of S i a) (mac_of T i a) (hop_mac i a (mac_of S i a) (mac_of T i a) (end_is (hop_end S i a) (hop_end T i a) (ap (λ z. z.aim) h))))
   kept p (kinds.Recursive a) l m h =
       nor (differ (looped S e a) (looped T e a)) (differ (is_met S p.need a) (is_met T p.need a)) (differ_not (looped S e a) (looped T e a) l) (differ_not (is_met S p.need a) (is_met T p.need a) m)
   kept p kinds.Cover l m h = ap not ((same_prefix-Decides (cover S e.bits) (cover T e.bits)).1 (on_is (cover S e.bits) (cover T e.bits) (ap (λ z. z.aim) h)))
@@ -274,8 +271,8 @@ module _ (v w : Known) (S T : Tables) (h : StandsFor v S) (k : StandsFor w T) (e
       let m = sym met_before ∙ a.met ∙ met_after ∙ ap (map (λ p. kind_met T p.need p.kind)) (sym one) in
       let n = sym marked_before ∙ a.marked ∙ marked_after ∙ ap (map (marked T e)) (sym one) in
       untouched_by S T e same (none_passes (λ p. kind_changes S T e p.need p.kind) (chosen S e) (λ p c.
-        kept S T e p p.kind (same_map (λ p. looped_kind S e p.kind) (λ p. looped_kind T e p.kind) (chosen S e) l p c) (same_map (λ p. kind_met S p.need p.kind) (λ p. kind_met T p.need p.kind) (chosen S e) m p c)
-          (same_map (marked S e) (marked T e) (chosen S e) n p c)))
+      kept S T e p p.kind (same_map (λ p. looped_kind S e p.kind) (λ p. looped_kind T e p.kind) (chosen S e) l p c) (same_map (λ p. kind_met S p.need p.kind) (λ p. kind_met T p.need p.kind) (chosen S e) m p c)
+      (same_map (marked S e) (marked T e) (chosen S e) n p c)))
 
   pub untouched_alike : is_touched S T e ≡ false → AreAlike v.lists w.lists r s
   unfolding mark_with
@@ -299,27 +296,27 @@ module _ (v w : Known) (S T : Tables) (h : StandsFor v S) (k : StandsFor w T) (e
   pub both_rows : (r s : Row) (b : Bool) → row_of v.rows e ≡ Some r → row_of w.rows e ≡ Some s → IsTrue b ↔ AreAlike v.lists w.lists r s → not b ≡ is_touched S T e
   both_rows r s true at there is = sym (alike_untouched v w S T h k e r s at there (is.0 refl))
   both_rows r s false at there is = elim (either (is_touched S T e)) [
-      | inl yes_touched ↦ sym yes_touched
-      | inr no_touched ↦ absurd (false≢true (is.1 (untouched_alike v w S T h k e r s at there no_touched)))
-    ]
+    | inl yes_touched ↦ sym yes_touched
+    | inr no_touched ↦ absurd (false≢true (is.1 (untouched_alike v w S T h k e r s at there no_touched)))
+  ]
 
   pub only_before : (r : Row) → row_of v.rows e ≡ Some r → row_of w.rows e ≡ None → true ≡ is_touched S T e
   only_before r at none = elim (either (is_touched S T e)) [
-      | inl yes_touched ↦ sym yes_touched
-      | inr no_touched ↦ (let x = entry_of S (row_entry v S h e r at) in
-          absurd (false≢true (sym (no_entry w T k e none) ∙ pair_entry T x.0 e ((untouched_pairs S T e x.0 no_touched x.2).0 x.1) (sym x.2))))
-    ]
+    | inl yes_touched ↦ sym yes_touched
+    | inr no_touched ↦ (let x = entry_of S (row_entry v S h e r at) in
+        absurd (false≢true (sym (no_entry w T k e none) ∙ pair_entry T x.0 e ((untouched_pairs S T e x.0 no_touched x.2).0 x.1) (sym x.2))))
+  ]
 
   pub not_before : (o : Option Row) → row_of v.rows e ≡ None → row_of w.rows e ≡ o → is_some o ≡ is_touched S T e
   not_before None none there = elim (either (is_touched S T e)) [
-      | inr no_touched ↦ sym no_touched
-      | inl yes_touched ↦ elim (touched_effective S T e yes_touched) [
-          | inl before ↦ absurd (false≢true (sym (no_entry v S h e none) ∙ any_in (same_prefix e) (entries S) e before ((same_prefix-Decides e e).1 refl)))
-          | inr after ↦ absurd (false≢true (sym (no_entry w T k e there) ∙ any_in (same_prefix e) (entries T) e after ((same_prefix-Decides e e).1 refl)))
-        ]
+    | inr no_touched ↦ sym no_touched
+    | inl yes_touched ↦ elim (touched_effective S T e yes_touched) [
+      | inl before ↦ absurd (false≢true (sym (no_entry v S h e none) ∙ any_in (same_prefix e) (entries S) e before ((same_prefix-Decides e e).1 refl)))
+      | inr after ↦ absurd (false≢true (sym (no_entry w T k e there) ∙ any_in (same_prefix e) (entries T) e after ((same_prefix-Decides e e).1 refl)))
     ]
+  ]
   not_before (Some s) none there = elim (either (is_touched S T e)) [
-      | inl yes_touched ↦ sym yes_touched
-      | inr no_touched ↦ (let x = entry_of T (row_entry w T k e s there) in
-          absurd (false≢true (sym (no_entry v S h e none) ∙ pair_entry S x.0 e ((untouched_pairs S T e x.0 no_touched x.2).1 x.1) (sym x.2))))
-    ]
+    | inl yes_touched ↦ sym yes_touched
+    | inr no_touched ↦ (let x = entry_of T (row_entry w T k e s there) in
+        absurd (false≢true (sym (no_entry v S h e none) ∙ pair_entry S x.0 e ((untouched_pairs S T e x.0 no_touched x.2).1 x.1) (sym x.2))))
+  ]

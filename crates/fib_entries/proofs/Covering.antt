@@ -1,17 +1,17 @@
 -- The longest match among entries is the cover.
-use Rattle.std.proofs.Common.{arith, ◌≡◌, ℕ, ◌<◌, ◌≤◌, ◌^◌, Bool, true, List, map, Option, Some, None, inl, inr, refl, sym, ◌∙◌, ap, subst}
-use Rattle.std.specs.Prelude.{Contains, nat_lt, filter}
+use Rattle.std.proofs.Common.{arith, ◌≡◌, ℕ, ◌<◌, ◌^◌, map, Some, None, inl, subst}
+use Rattle.std.specs.Prelude.{Contains, filter}
 use Rattle.std.proofs.lemmas.Bool.{ltb-true}
 use Rattle.std.proofs.lemmas.Bool.Decides.{nat_tests}
 use Rattle.fib_addr.specs.Prefixes.{Prefix, IsPrefix}
-use Rattle.fib_addr.specs.Longest.{IsLongest, everything}
+use Rattle.fib_addr.specs.Longest.{IsLongest}
 use Rattle.fib_addr.proofs.LongestLaws.{longest_is_unique}
 use Rattle.fib_cover.specs.Covers.{IsMatch, IsLongestMatch}
 use Rattle.fib_resolve.specs.Pairs.{entries, cover, is_short}
 use Rattle.fib_resolve.specs.declared.types.Tables.{Tables}
 use Rattle.fib_resolve.proofs.Covering.{cover_longest, filter_in, filter_from}
 use Rattle.fib_resolve.proofs.PairLaws.{cover_short}
-use Rattle.fib_changes.proofs.SamePairs.{map_in, map_from}
+use Rattle.fib_changes.proofs.SamePairs.{map_from}
 use Rattle.fib_changes.proofs.Targets.{cover_entry}
 use Rattle.std.proofs.lemmas.Map.Views.{Contains-from_any}
 use Rattle.fib_addr.proofs.PrefixLaws.{same_prefix-Decides}
@@ -41,8 +41,8 @@ module _ (v : Known) (S : Tables) (h : StandsFor v S) where
         member = inl (filter_in is_short (entries S) p ((h.entries p).0 m.0.member) (let s = m.0.short in grind (arith, nat_tests, s)));
         matches = m.0.matches;
         longest = λ q c w. (let f = filter_from is_short (entries S) q c in
-          let in_rows = (h.entries q).1 f.0 in
-          m.1 q (record { prefix = good q in_rows; member = in_rows; short = ltb-true q.len 32 f.1; matches = w }));
+            let in_rows = (h.entries q).1 f.0 in
+            m.1 q (record { prefix = good q in_rows; member = in_rows; short = ltb-true q.len 32 f.1; matches = w }));
       } in
       longest_is_unique a (filter is_short (entries S)) p (cover S a) m.0.prefix (good (cover S a) ((h.entries (cover S a)).1 (cover_in a))) mine l
 

@@ -1,5 +1,5 @@
 -- Whether the best source is recursive resolution, source by source.
-use Rattle.std.proofs.Common.{arith, ◌≡◌, ◌≢◌, ℕ, ◌+◌, ◌<◌, ◌≤◌, Bool, true, false, ◌&&◌, ◌==◌, List, Option, Some, None, inl, inr, refl, sym, ◌∙◌, ap, subst, is_some}
+use Rattle.std.proofs.Common.{arith, ◌≡◌, ◌≢◌, ℕ, ◌+◌, ◌<◌, ◌≤◌, Bool, true, false, ◌&&◌, ◌==◌, List, Option, Some, None, inl, inr, refl, sym, ap, is_some}
 use Rattle.std.specs.Prelude.{Contains, position}
 use Rattle.std.proofs.lemmas.Bool.{false≢true, cases_lt}
 use Rattle.std.proofs.lemmas.Bool.Decides.{Decides-eqb, eqb_tells}
@@ -15,7 +15,7 @@ use Rattle.fib_resolve.proofs.Touching.{best_of, BestOf}
 use Rattle.fib_entries.proofs.Picking.{place_has, place_lacks}
 
 not_five : (n : ℕ) → n ≢ 5 → (n == 5) ≡ false
-not_five n off = elim (eqb_tells n 5) [ | inl is ↦ absurd (off is.1) | inr isnt ↦ isnt.0 ]
+not_five n off = elim (eqb_tells n 5) [ inl is ↦ absurd (off is.1) | inr isnt ↦ isnt.0 ]
 
 low : (e : Prefix) (xs : List Pair) (o : Option Pair) → BestOf e xs o → (x : Pair) → Contains xs x → e ≡ x.prefix → source_rank x.source < 5 → is_derived_pair o ≡ false
 low e xs None h x c own lt = refl
@@ -69,4 +69,4 @@ derived_or_not S e true from is =
     sym (high e (pairs S) (best_pair e (pairs S)) (best_of e (pairs S)) from x.0 x.1 x.2 (sym (ap source_rank x.3)))
 derived_or_not S e false from is =
     sym (none_five e (pairs S) (best_pair e (pairs S)) (best_of e (pairs S)) (λ x c own five.
-      place_lacks e sources.RecursiveResolution (pairs S) (none_of (position (λ y. same_prefix e y.prefix && same_source sources.RecursiveResolution y.source) (pairs S)) is) x c own (source_by_rank sources.RecursiveResolution x.source (sym five))))
+    place_lacks e sources.RecursiveResolution (pairs S) (none_of (position (λ y. same_prefix e y.prefix && same_source sources.RecursiveResolution y.source) (pairs S)) is) x c own (source_by_rank sources.RecursiveResolution x.source (sym five))))

@@ -1,20 +1,19 @@
 -- What a binary search finds among rows in order.
-use Rattle.std.proofs.Common.{arith, ◌≡◌, ◌≢◌, ℕ, zero, suc, ◌<◌, ◌≤◌, Bool, true, false, List, [], ◌∷◌, length, map, Option, Some, None, ◌⊎◌, inl, inr, refl, sym, ◌∙◌, ap, subst, slice_get, get_or}
-use Rattle.std.specs.Prelude.{Contains, find, Ok, Err, Result, slice_index_or}
+use Rattle.std.proofs.Common.{arith, ◌≡◌, ℕ, zero, suc, ◌<◌, ◌≤◌, true, List, [], ◌∷◌, length, map, Some, None, inl, inr, refl, sym, ◌∙◌, ap, subst, slice_get}
+use Rattle.std.specs.Prelude.{slice_index_or}
 use Rattle.std.specs.List.{AllByRecursion, HoldsAt}
-use Rattle.std.specs.List.Sorted.{IsStrictlySortedBy, IsBinarySearchResult, IsNonDecreasingBy, IsPartitionPoint}
-use Rattle.std.specs.Ordering.{nat_cmp, ordering_then, ordering_index}
+use Rattle.std.specs.List.Sorted.{IsStrictlySortedBy, IsNonDecreasingBy, IsPartitionPoint}
+use Rattle.std.specs.Ordering.{ordering_index}
 use Rattle.std.specs.declared.cmp.Ordering.{Ordering}
 use Rattle.std.specs.declared.cmp.Ordering.TheVariants.{Less, Equal, Greater}
-use Rattle.std.specs.Cmp.{IsTotalOrder, tied_itself}
-use Rattle.std.proofs.lemmas.Bool.{false≢true, cases_lt}
+use Rattle.std.specs.Cmp.{tied_itself}
+use Rattle.std.proofs.lemmas.Bool.{cases_lt}
 use Rattle.std.proofs.lemmas.Option.{slice_get_within}
-use Rattle.fib_list.proofs.Lists.{either, Contains-nil}
 use Rattle.fib_addr.specs.Prefixes.{Prefix, same_prefix}
 use Rattle.fib_addr.proofs.PrefixLaws.{same_prefix-Decides}
 use Rattle.fib_cover.specs.Covers.{prefix_cmp, IsAscending}
 use Rattle.fib_cover.proofs.Order.{prefix_total, prefix_exact}
-use Rattle.fib_interned.proofs.Finding.{some_is, none_some, find_only, find_none, find_place, get_or_at, each_at}
+use Rattle.fib_interned.proofs.Finding.{some_is, none_some, find_only, find_none}
 use Rattle.fib_entries.specs.declared.rows.Row.{Row}
 use Rattle.fib_entries.specs.Known.{prefix_of, row_of}
 
@@ -63,7 +62,7 @@ found_row rows e i asc lt h =
     let r = at_place rows i lt in
     let is = holds_there (λ r. prefix_cmp r.prefix e ≡ Equal) rows i r.0 h r.1 in
     r.1 ∙ sym (find_only (λ z. same_prefix e z.prefix) rows i r.0 r.1 (equal_is e r.0 is)
-      (λ j q b same. one_place rows asc j i q r.0 b r.1 (sym ((same_prefix-Decides e q.prefix).0 same) ∙ (same_prefix-Decides e r.0.prefix).0 (equal_is e r.0 is))))
+    (λ j q b same. one_place rows asc j i q r.0 b r.1 (sym ((same_prefix-Decides e q.prefix).0 same) ∙ (same_prefix-Decides e r.0.prefix).0 (equal_is e r.0 is))))
 
 -- the order to one prefix rises along the rows
 index_of : Prefix → Row → ℕ
@@ -117,12 +116,12 @@ pub no_row : (rows : List Row) (e : Prefix) (i : ℕ) → IsAscending (map prefi
 no_row rows e i asc part =
     let p = part (rising rows e asc) in
     sym (find_none (λ z. same_prefix e z.prefix) rows (λ j r at same.
-      let is = subst (λ z. prefix_cmp r.prefix z ≡ Equal) (sym ((same_prefix-Decides e r.prefix).0 same)) (tied_itself prefix_total r.prefix) in
-      let within = slice_get_within rows j r at in
-      elim (cases_lt j i) [
-        | inl low ↦ clash_less r (sym is ∙ holds_there (λ z. prefix_cmp z.prefix e ≡ Less) rows j r (λ d. p.0 j d (omega arith) low) at)
-        | inr high ↦ clash_more r (sym is ∙ holds_there (λ z. prefix_cmp z.prefix e ≡ Greater) rows j r (λ d. p.1 j d high within) at)
-      ]))
+    let is = subst (λ z. prefix_cmp r.prefix z ≡ Equal) (sym ((same_prefix-Decides e r.prefix).0 same)) (tied_itself prefix_total r.prefix) in
+    let within = slice_get_within rows j r at in
+    elim (cases_lt j i) [
+      | inl low ↦ clash_less r (sym is ∙ holds_there (λ z. prefix_cmp z.prefix e ≡ Less) rows j r (λ d. p.0 j d (omega arith) low) at)
+      | inr high ↦ clash_more r (sym is ∙ holds_there (λ z. prefix_cmp z.prefix e ≡ Greater) rows j r (λ d. p.1 j d high within) at)
+    ]))
   where
     clash_less : (r : Row) → Equal ≡ Less → ⊥
     clash_less r v = (cc)

@@ -1,10 +1,10 @@
 -- Which prefixes have another rank.
-use Rattle.std.proofs.Common.{arith, ◌≡◌, ◌≢◌, ℕ, zero, suc, ◌+◌, ◌<◌, Bool, true, false, not, ◌&&◌, ◌==◌, List, [], ◌∷◌, ◌++◌, map, filter, flat_map, take, Option, Some, None, ◌⊎◌, inl, inr, refl, sym, ◌∙◌, ap, subst, ◌↔◌, slice_get, append_assoc, if◌then◌else◌}
+use Rattle.std.proofs.Common.{arith, ◌≡◌, ◌≢◌, ℕ, zero, suc, ◌+◌, Bool, true, false, not, ◌&&◌, ◌==◌, List, [], ◌∷◌, ◌++◌, map, filter, flat_map, take, Option, Some, None, inl, inr, refl, sym, ◌∙◌, ap, subst, slice_get, append_assoc, if◌then◌else◌}
 use Rattle.std.specs.Prelude.{Contains, is_none}
 use Rattle.std.proofs.lemmas.Bool.{false≢true}
 use Rattle.std.proofs.lemmas.Bool.Decides.{Decides-eqb}
 use Rattle.std.proofs.lemmas.List.Elements.{Contains-append_left, Contains-append_right, Contains-append_cases}
-use Rattle.fib_list.proofs.Lists.{either, Contains-nil, Contains-flat_map}
+use Rattle.fib_list.proofs.Lists.{Contains-nil, Contains-flat_map}
 use Rattle.fib_reach.specs.Walks.{AllDiffer}
 use Rattle.fib_list.proofs.Booleans.{and_both}
 use Rattle.fib_addr.specs.Prefixes.{Prefix, same_prefix}
@@ -53,7 +53,7 @@ module _ (old new : List Row) where
     where
       by : (b : Bool) → (rank_of old e == rank_of new e) ≡ b → Contains (if b then [] else record { prefix = e; rank = rank_of old e } ∷ []) m → (record { prefix = e; rank = rank_of old e } ≡ m) × ((rank_of old e == rank_of new e) ≡ false)
       by true w d = absurd (Contains-nil m d)
-      by false w d = (elim (in_cases (record { prefix = e; rank = rank_of old e }) m [] d) [ | inl is ↦ is | inr none ↦ absurd (Contains-nil m none) ], w)
+      by false w d = (elim (in_cases (record { prefix = e; rank = rank_of old e }) m [] d) [ inl is ↦ is | inr none ↦ absurd (Contains-nil m none) ], w)
 
   new_in : (m : Moved) (e : Prefix) → Contains (moved_new old new e) m → Contains (moved_one old new e) m
   new_in m e c = by (is_none (row_of old e)) c
@@ -118,13 +118,13 @@ module _ (old new : List Row) where
     where
       by : (o : Option Row) → row_of old e ≡ o → Contains {X = Moved} (flat_map (moved_one old new) (map prefix_of old) ++ flat_map (moved_new old new) (map prefix_of new)) (record { prefix = e; rank = rank_of old e })
       by (Some r) at = Contains-append_left (flat_map (moved_one old new) (map prefix_of old)) (flat_map (moved_new old new) (map prefix_of new)) _
-        (Contains-flat_map (moved_one old new) (map prefix_of old) e _ (row_in old e r at) (one_there e off))
+          (Contains-flat_map (moved_one old new) (map prefix_of old) e _ (row_in old e r at) (one_there e off))
       by None none = after (row_of new e) refl
         where
           after : (q : Option Row) → row_of new e ≡ q → Contains {X = Moved} (flat_map (moved_one old new) (map prefix_of old) ++ flat_map (moved_new old new) (map prefix_of new)) (record { prefix = e; rank = rank_of old e })
           after None none2 = absurd (off (ap rank_in none2 ∙ sym (ap rank_in none)))
           after (Some s) at = Contains-append_right (flat_map (moved_one old new) (map prefix_of old)) (flat_map (moved_new old new) (map prefix_of new)) _
-            (Contains-flat_map (moved_new old new) (map prefix_of new) e _ (row_in new e s at) (when_in (is_none (row_of old e)) (moved_one old new e) _ (ap is_none none) (one_there e off)))
+              (Contains-flat_map (moved_new old new) (map prefix_of new) e _ (row_in new e s at) (when_in (is_none (row_of old e)) (moved_one old new e) _ (ap is_none none) (one_there e off)))
 
   came_none : (y : Prefix) → came y ≡ true → is_none (row_of old y) ≡ true
   unfolding came
@@ -134,7 +134,7 @@ module _ (old new : List Row) where
   are_moved asc asc_new = record {
     once = subst AllDiffer (sym (names_both (flat_map (moved_one old new) (map prefix_of old)) (flat_map (moved_new old new) (map prefix_of new))
         ∙ (ap (λ l. l ++ map prefix_moved (flat_map (moved_new old new) (map prefix_of new))) (names_one (map prefix_of old)) ∙ ap (λ l. filter other (map prefix_of old) ++ l) (names_new (map prefix_of new)))))
-      (append_differ (filter other (map prefix_of old)) (filter came (map prefix_of new))
+        (append_differ (filter other (map prefix_of old)) (filter came (map prefix_of new))
         (filter_differ other (map prefix_of old) (ascending_differ (map prefix_of old) asc)) (filter_differ came (map prefix_of new) (ascending_differ (map prefix_of new) asc_new))
         (λ x y c d is. missing y (came_none y (filter_from came (map prefix_of new) y d).1) (subst (Contains (map prefix_of old)) is (filter_from other (map prefix_of old) x c).0)));
     real = λ m c. elim (Contains-append_cases (flat_map (moved_one old new) (map prefix_of old)) (flat_map (moved_new old new) (map prefix_of new)) m c) [

@@ -1,8 +1,8 @@
 -- The pairs of a prefix, source by source.
-use Rattle.std.proofs.Common.{arith, ◌≡◌, ℕ, zero, suc, ◌+◌, ◌<◌, ◌≤◌, Bool, true, false, cond, not, ◌&&◌, List, [], ◌∷◌, ◌++◌, length, Option, Some, None, ◌⊎◌, inl, inr, refl, sym, ◌∙◌, ap, subst, slice_get, get_or, is_some}
-use Rattle.std.specs.Prelude.{Contains, position, nat_lt}
+use Rattle.std.proofs.Common.{arith, ◌≡◌, ℕ, zero, suc, ◌+◌, ◌<◌, ◌≤◌, Bool, true, false, cond, not, ◌&&◌, List, [], ◌∷◌, ◌++◌, length, Some, None, inl, inr, refl, sym, ◌∙◌, ap, slice_get, get_or}
+use Rattle.std.specs.Prelude.{Contains, position}
 use Rattle.std.specs.List.{AllByRecursion, list_any, AllZip, prefix_len, position_or_len}
-use Rattle.std.proofs.lemmas.Bool.{false≢true, cases_eq, cases_lt, lt-ltb}
+use Rattle.std.proofs.lemmas.Bool.{false≢true, cases_lt, lt-ltb}
 use Rattle.std.proofs.lemmas.Bool.Decides.{Decides-eqb}
 use Rattle.std.proofs.lemmas.List.Quantifiers.{position-Some}
 use Rattle.std.proofs.lemmas.List.Elements.{Contains-append_left, Contains-append_right, Contains-append_cases}
@@ -15,15 +15,13 @@ use Rattle.fib_resolve.specs.Keys.{source_rank, same_source}
 use Rattle.fib_resolve.specs.Pairs.{pairs}
 use Rattle.fib_resolve.specs.Tables.{IsSound}
 use Rattle.fib_resolve.specs.declared.pairs.Pair.{Pair}
-use Rattle.fib_resolve.specs.declared.types.Path.{Path}
 use Rattle.fib_resolve.specs.declared.types.FibSource.{FibSource}
 use Rattle.fib_resolve.specs.declared.types.FibSource.TheVariants as sources
 use Rattle.fib_resolve.specs.declared.types.Tables.{Tables}
 use Rattle.fib_resolve.proofs.OneList.{one_list, source_by_rank}
 use Rattle.fib_changes.proofs.Edits.{in_cases, any_in}
-use Rattle.fib_interned.specs.Interned.{Kept}
 use Rattle.fib_interned.proofs.Finding.{contains_at, none_some}
-use Rattle.fib_entries.specs.Known.{PathKept, content_of, AreBestFirst, ArePairs, IsHeld}
+use Rattle.fib_entries.specs.Known.{PathKept, content_of, AreBestFirst, ArePairs}
 use Rattle.fib_entries.specs.inner.Building.{ArePicked, AreTaken}
 
 some_is : {X : Type 0} (x y : X) → Some x ≡ Some y → x ≡ y
@@ -74,7 +72,7 @@ none_more e xs ids done held s h rank none = record {
     | inl before ↦ h.found x c own before
     | inr ge ↦ (let r : source_rank s ≡ source_rank x.source = omega (arith, rank, low, ge) in
         absurd (false≢true (sym (position_none (λ y. same_prefix e y.prefix && same_source s y.source) xs none)
-          ∙ any_in (λ y. same_prefix e y.prefix && same_source s y.source) xs x c (pair_passes e s x own (source_by_rank s x.source r)))))
+        ∙ any_in (λ y. same_prefix e y.prefix && same_source s y.source) xs x c (pair_passes e s x own (source_by_rank s x.source r)))))
   ];
   real = h.real;
 }
@@ -94,7 +92,7 @@ one_more e xs ids done held s k id h rank at number = record {
   best_first = push_best held (s, id) h.best_first (λ q c. let low = h.below q c in omega (arith, low, rank));
   below = λ p c. elim (Contains-append_cases held ((s, id) ∷ []) p c) [
     | inl old ↦ (let low = h.below p old in omega (arith, low))
-    | inr new ↦ elim (in_cases (s, id) p [] new) [ | inl is ↦ (let r = ap (λ (z : FibSource × ℕ). source_rank z.0) is in omega (arith, r, rank)) | inr nothing ↦ absurd (Contains-nil p nothing) ]
+    | inr new ↦ elim (in_cases (s, id) p [] new) [ inl is ↦ (let r = ap (λ (z : FibSource × ℕ). source_rank z.0) is in omega (arith, r, rank)) | inr nothing ↦ absurd (Contains-nil p nothing) ]
   ];
   found = λ x c own low. elim (cases_lt (source_rank x.source) done) [
     | inl before ↦ (let f = h.found x c own before in (f.0, Contains-append_left held ((s, id) ∷ []) f.0 f.1, f.2))
@@ -104,20 +102,23 @@ one_more e xs ids done held s k id h rank at number = record {
   real = λ p c. elim (Contains-append_cases held ((s, id) ∷ []) p c) [
     | inl old ↦ h.real p old
     | inr new ↦ elim (in_cases (s, id) p [] new) [
-        | inl is ↦ here p is
-        | inr nothing ↦ absurd (Contains-nil p nothing)
-      ]
+      | inl is ↦ here p is
+      | inr nothing ↦ absurd (Contains-nil p nothing)
+    ]
   ];
 }
   where
     here : (p : FibSource × ℕ) → (s, id) ≡ p → (k : ℕ) × (x : Pair) × (slice_get xs k ≡ Some x) × (slice_get ids k ≡ Some p.1) × (e ≡ x.prefix) × (p.0 ≡ x.source)
     here p is =
         let f = position-Some (λ x. same_prefix e x.prefix && same_source s x.source) xs k (record { prefix = e; source = s; paths = [] }) at in
-        let both = and_both (same_prefix e (get_or xs k (record { prefix = e; source = s; paths = [] })).prefix) (same_source s (get_or xs k (record { prefix = e; source = s; paths = [] })).source) f.1 in
-        (k, get_or xs k (record { prefix = e; source = s; paths = [] }), slice_get-get_or xs k (record { prefix = e; source = s; paths = [] }) f.0,
-         number ∙ ap (λ (z : FibSource × ℕ). Some z.1) is,
-         (same_prefix-Decides e (get_or xs k (record { prefix = e; source = s; paths = [] })).prefix).0 both.0,
-         ap (λ (z : FibSource × ℕ). z.0) (sym is) ∙ source_by_rank s (get_or xs k (record { prefix = e; source = s; paths = [] })).source ((Decides-eqb (source_rank s) (source_rank (get_or xs k (record { prefix = e; source = s; paths = [] })).source)).0 both.1))
+        let both = and_both (same_prefix e (get_or xs k (record { prefix = e; source = s; paths = [] })).prefix) (same_source s (get_or xs k (record { prefix = e; source = s; paths = [] })).source) f.1 in (
+          k,
+          get_or xs k (record { prefix = e; source = s; paths = [] }),
+          slice_get-get_or xs k (record { prefix = e; source = s; paths = [] }) f.0,
+          number ∙ ap (λ (z : FibSource × ℕ). Some z.1) is,
+          (same_prefix-Decides e (get_or xs k (record { prefix = e; source = s; paths = [] })).prefix).0 both.0,
+          ap (λ (z : FibSource × ℕ). z.0) (sym is) ∙ source_by_rank s (get_or xs k (record { prefix = e; source = s; paths = [] })).source ((Decides-eqb (source_rank s) (source_rank (get_or xs k (record { prefix = e; source = s; paths = [] })).source)).0 both.1),
+        )
 
 zip_at : (lists : List PathKept) (xs : List Pair) (ids : List ℕ) → AllZip (λ x id. content_of lists id ≡ Some x.paths) xs ids → (k : ℕ) (x : Pair) (id : ℕ) → slice_get xs k ≡ Some x → slice_get ids k ≡ Some id → content_of lists id ≡ Some x.paths
 zip_at lists [] ids h k x id a b = absurd (none_some x a)
@@ -148,9 +149,9 @@ pub picked_all : (S : Tables) (lists : List PathKept) (e : Prefix) (ids : List �
 picked_all S lists e ids held sound taken h = record {
   best_first = h.best_first;
   found = λ x c own. (let f = h.found x c own (rank_low x.source) in
-    let r = h.real f.0 f.1 in
-    let same = one_list S sound r.1 x (contains_at (pairs S) r.0 r.1 r.2) c (sym r.4 ∙ own) (sym r.5 ∙ f.2) in
-    (f.0, f.1, (f.2, zip_at lists (pairs S) ids taken.each r.0 r.1 f.0.1 r.2 r.3 ∙ ap Some same)));
+      let r = h.real f.0 f.1 in
+      let same = one_list S sound r.1 x (contains_at (pairs S) r.0 r.1 r.2) c (sym r.4 ∙ own) (sym r.5 ∙ f.2) in
+      (f.0, f.1, (f.2, zip_at lists (pairs S) ids taken.each r.0 r.1 f.0.1 r.2 r.3 ∙ ap Some same)));
   real = λ p c. (let r = h.real p c in (r.1, contains_at (pairs S) r.0 r.1 r.2, r.4, (r.5, zip_at lists (pairs S) ids taken.each r.0 r.1 p.1 r.2 r.3)));
 }
 
@@ -158,11 +159,12 @@ picked_all S lists e ids held sound taken h = record {
 pub place_has : (e : Prefix) (s : FibSource) (xs : List Pair) (k : ℕ) → position (λ x. same_prefix e x.prefix && same_source s x.source) xs ≡ Some k → (x : Pair) × Contains xs x × (e ≡ x.prefix) × (s ≡ x.source)
 place_has e s xs k at =
     let f = position-Some (λ x. same_prefix e x.prefix && same_source s x.source) xs k (record { prefix = e; source = s; paths = [] }) at in
-    let both = and_both (same_prefix e (get_or xs k (record { prefix = e; source = s; paths = [] })).prefix) (same_source s (get_or xs k (record { prefix = e; source = s; paths = [] })).source) f.1 in
-    (get_or xs k (record { prefix = e; source = s; paths = [] }),
-     contains_at xs k (get_or xs k (record { prefix = e; source = s; paths = [] })) (slice_get-get_or xs k (record { prefix = e; source = s; paths = [] }) f.0),
-     (same_prefix-Decides e (get_or xs k (record { prefix = e; source = s; paths = [] })).prefix).0 both.0,
-     source_by_rank s (get_or xs k (record { prefix = e; source = s; paths = [] })).source ((Decides-eqb (source_rank s) (source_rank (get_or xs k (record { prefix = e; source = s; paths = [] })).source)).0 both.1))
+    let both = and_both (same_prefix e (get_or xs k (record { prefix = e; source = s; paths = [] })).prefix) (same_source s (get_or xs k (record { prefix = e; source = s; paths = [] })).source) f.1 in (
+      get_or xs k (record { prefix = e; source = s; paths = [] }),
+      contains_at xs k (get_or xs k (record { prefix = e; source = s; paths = [] })) (slice_get-get_or xs k (record { prefix = e; source = s; paths = [] }) f.0),
+      (same_prefix-Decides e (get_or xs k (record { prefix = e; source = s; paths = [] })).prefix).0 both.0,
+      source_by_rank s (get_or xs k (record { prefix = e; source = s; paths = [] })).source ((Decides-eqb (source_rank s) (source_rank (get_or xs k (record { prefix = e; source = s; paths = [] })).source)).0 both.1),
+    )
 
 -- and none where no place is found
 pub place_lacks : (e : Prefix) (s : FibSource) (xs : List Pair) → position (λ x. same_prefix e x.prefix && same_source s x.source) xs ≡ None → (x : Pair) → Contains xs x → e ≡ x.prefix → s ≡ x.source → ⊥

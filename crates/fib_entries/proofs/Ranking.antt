@@ -1,12 +1,10 @@
 -- Places in an order as ranks.
-use Rattle.std.proofs.Common.{arith, ◌≡◌, ◌≢◌, ℕ, zero, suc, ◌+◌, ◌<◌, ◌≤◌, Bool, true, false, List, [], ◌∷◌, length, ◌⊎◌, inl, inr, refl, sym, ◌∙◌, ap, subst, ◌↔◌}
+use Rattle.std.proofs.Common.{arith, ◌≡◌, ◌≢◌, ℕ, zero, suc, ◌+◌, ◌<◌, ◌≤◌, Bool, true, false, List, [], ◌∷◌, length, inl, inr, refl, sym, ◌∙◌, ap, subst, ◌↔◌}
 use Rattle.std.specs.Prelude.{Contains, slice_index, slice_set, slice_index_or, IsTrue}
 use Rattle.std.specs.List.{AllByRecursion}
-use Rattle.std.proofs.lemmas.Bool.{false≢true, cases_eq, cases_lt}
-use Rattle.fib_list.proofs.Lists.{either}
+use Rattle.std.proofs.lemmas.Bool.{cases_eq, cases_lt}
 use Rattle.fib_reach.specs.Walks.{AllDiffer}
 use Rattle.fib_loops.specs.Loops.{Marked, IsMarked, IsLooped, StandsBefore}
-use Rattle.fib_interned.proofs.Finding.{none_some}
 
 each_index : (P : ℕ → Type 0) (xs : List ℕ) → AllByRecursion P xs → (i : ℕ) → i < length xs → P (slice_index xs i)
 each_index P [] all i lt = absurd (omega (arith, lt))
@@ -74,7 +72,7 @@ one_ranked order ranks nodes done rank h lt same = record {
 }
   where
     below : (k n : ℕ) → k < n + 1 → k ≢ n → k < n
-    below k n low off = elim (cases_lt k n) [ | inl l ↦ l | inr ge ↦ absurd (off (omega (arith, low, ge))) ]
+    below k n low off = elim (cases_lt k n) [ inl l ↦ l | inr ge ↦ absurd (off (omega (arith, low, ge))) ]
 
 -- once all are ranked, ranks fall along edges that lie on no cycle
 pub ranks_fall : (order ranks : List ℕ) (nodes done : ℕ) (edges : List (ℕ × ℕ)) (m : Marked) → IsMarked nodes edges m → m.order ≡ order → AreRanked order ranks nodes done → length order ≤ done

@@ -1,8 +1,7 @@
 -- What the row of a prefix says of it.
-use Rattle.std.proofs.Common.{arith, ◌≡◌, ℕ, zero, suc, ◌<◌, ◌≤◌, Bool, true, false, cond, List, [], ◌∷◌, map, Option, Some, None, ◌⊎◌, inl, inr, refl, sym, ◌∙◌, ap, subst, ◌↔◌, is_some, slice_get}
-use Rattle.std.specs.Prelude.{Contains, find, if◌then◌else◌, option_map}
+use Rattle.std.proofs.Common.{arith, ◌≡◌, ℕ, zero, suc, ◌<◌, Bool, true, false, List, [], ◌∷◌, map, Option, Some, None, inl, inr, refl, sym, ◌∙◌, ap, subst, ◌↔◌, slice_get}
+use Rattle.std.specs.Prelude.{Contains, find}
 use Rattle.std.specs.List.{AllByRecursion}
-use Rattle.std.specs.Set.{is_member}
 use Rattle.std.proofs.lemmas.Bool.{false≢true}
 use Rattle.std.proofs.lemmas.Map.Views.{Contains-from_any}
 use Rattle.fib_list.proofs.Lists.{either, Contains-nil}
@@ -25,10 +24,9 @@ use Rattle.fib_changes.proofs.CauseLaws.{any_from}
 use Rattle.fib_changes.proofs.Edits.{any_in, in_cases}
 use Rattle.fib_changes.proofs.Targets.{pair_entry, target_entry}
 use Rattle.fib_changes.proofs.SamePairs.{map_in, map_from, flat_map_from}
-use Rattle.fib_interned.specs.Interned.{kept_of}
 use Rattle.fib_interned.proofs.Finding.{find_place, contains_at, none_some}
 use Rattle.fib_entries.specs.declared.rows.Row.{Row}
-use Rattle.fib_entries.specs.Known.{Known, content_of, prefix_of, row_of, IsHeld, AreBestFirst, ArePairs, IsRow, StandsFor, chosen_of}
+use Rattle.fib_entries.specs.Known.{Known, content_of, prefix_of, row_of, AreBestFirst, ArePairs, StandsFor, chosen_of}
 
 some_is : {X : Type 0} (x y : X) → Some x ≡ Some y → x ≡ y
 some_is x y e = (cc)
@@ -42,9 +40,9 @@ find_missed test (q ∷ qs) r c t h =
     elim (either (test q)) [
       | inl is ↦ none_some q (sym (rw is at h))
       | inr isnt ↦ elim (in_cases q r qs c) [
-          | inl same ↦ false≢true (sym isnt ∙ ap test same ∙ t)
-          | inr later ↦ find_missed test qs r later t (rw isnt at h)
-        ]
+        | inl same ↦ false≢true (sym isnt ∙ ap test same ∙ t)
+        | inr later ↦ find_missed test qs r later t (rw isnt at h)
+      ]
     ]
 
 abbrev pub mark_or : Option Bool → Bool
@@ -96,7 +94,7 @@ module _ (v : Known) (S : Tables) (h : StandsFor v S) where
     where
       each_at : (P : FibSource × ℕ → Type 0) (qs : List (FibSource × ℕ)) → AllByRecursion P qs → (q : FibSource × ℕ) → Contains qs q → P q
       each_at P [] all q c = absurd (Contains-nil q c)
-      each_at P (y ∷ ys) all q c = elim (in_cases y q ys c) [ | inl same ↦ subst P same all.0 | inr later ↦ each_at P ys all.1 q later ]
+      each_at P (y ∷ ys) all q c = elim (in_cases y q ys c) [ inl same ↦ subst P same all.0 | inr later ↦ each_at P ys all.1 q later ]
 
   best_paths : (e : Prefix) (x : Pair) → IsSound S → IsBest e (pairs S) x → (o : Option Pair) → BestOf e (pairs S) o → x.paths ≡ paths_of o
   best_paths e x sound best None k = absurd (k x best.member best.own)

@@ -1,9 +1,9 @@
 -- A list that is taken once a pair has as many users as pairs have it.
-use Rattle.std.proofs.Common.{arith, ◌≡◌, ◌≢◌, ℕ, zero, suc, ◌+◌, ◌<◌, ◌≤◌, Bool, true, false, cond, List, [], ◌∷◌, ◌++◌, length, Option, Some, None, ◌⊎◌, inl, inr, refl, sym, ◌∙◌, ap, subst, slice_get, ◌==◌, count_by, if◌then◌else◌}
-use Rattle.std.specs.Prelude.{Contains, find, option_map}
+use Rattle.std.proofs.Common.{arith, ◌≡◌, ◌≢◌, ℕ, ◌+◌, ◌<◌, true, false, cond, List, [], ◌∷◌, ◌++◌, length, Option, Some, None, inl, inr, refl, sym, ◌∙◌, ap, ◌==◌, count_by, if◌then◌else◌}
+use Rattle.std.specs.Prelude.{Contains, option_map}
 use Rattle.std.specs.List.{AllZip}
 use Rattle.std.specs.Cmp.Lexicographic.{pointwise}
-use Rattle.std.proofs.lemmas.Bool.{false≢true, cases_eq}
+use Rattle.std.proofs.lemmas.Bool.{cases_eq}
 use Rattle.std.proofs.lemmas.Bool.Decides.{Decides-eqb}
 use Rattle.fib_list.proofs.Lists.{either, Contains-nil}
 use Rattle.fib_resolve.specs.Keys.{same_path}
@@ -13,7 +13,6 @@ use Rattle.fib_addr.specs.Longest.{everything}
 use Rattle.fib_resolve.specs.declared.types.FibSource.TheVariants as sources
 use Rattle.fib_resolve.proofs.Touching.{same_pair-Decides}
 use Rattle.std.proofs.lemmas.List.Sums.{sum_by-append, count_by-le-length}
-use Rattle.fib_changes.proofs.Edits.{in_cases}
 use Rattle.fib_interned.specs.Interned.{kept_of, users_in, users_of, AreInterned, Takes}
 use Rattle.fib_paths.specs.PathLists.{IsUsedLess}
 use Rattle.fib_interned.proofs.Finding.{find_place, find_only, none_some, contains_at}

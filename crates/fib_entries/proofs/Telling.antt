@@ -1,22 +1,14 @@
 -- Where the old and the new lists of a prefix are kept in one place, their numbers tell whether its pairs differ.
-use Rattle.std.proofs.Common.{arith, ◌≡◌, ◌≢◌, ℕ, zero, suc, ◌<◌, ◌≤◌, Bool, true, false, List, [], ◌∷◌, Option, Some, None, ◌⊎◌, inl, inr, refl, sym, ◌∙◌, ap, subst, ◌↔◌, ◌==◌, slice_get}
-use Rattle.std.specs.Prelude.{Contains, find, option_map}
-use Rattle.std.specs.List.{AllByRecursion}
-use Rattle.fib_list.proofs.Lists.{Contains-nil}
+use Rattle.std.proofs.Common.{◌≡◌, ℕ, List, Option, Some, None, refl, sym, ◌∙◌, ap, ◌==◌, slice_get}
+use Rattle.std.specs.Prelude.{option_map}
 use Rattle.fib_addr.specs.Prefixes.{Prefix}
-use Rattle.fib_resolve.specs.Keys.{source_rank}
-use Rattle.fib_resolve.specs.Pairs.{pairs}
 use Rattle.fib_resolve.specs.declared.pairs.Pair.{Pair}
 use Rattle.fib_resolve.specs.declared.types.Path.{Path}
 use Rattle.fib_resolve.specs.declared.types.FibSource.{FibSource}
-use Rattle.fib_resolve.specs.declared.types.Tables.{Tables}
-use Rattle.fib_resolve.proofs.OneList.{source_by_rank}
-use Rattle.fib_changes.specs.Sources.{SamePairs}
-use Rattle.fib_changes.proofs.Edits.{in_cases, in_front, in_rest}
 use Rattle.fib_interned.specs.Interned.{kept_of, AreInterned}
 use Rattle.fib_interned.proofs.Finding.{find_place, none_some}
 use Rattle.std.proofs.lemmas.Bool.Decides.{Decides-eqb}
-use Rattle.fib_entries.specs.Known.{PathKept, content_of, IsHeld, AreBestFirst, ArePairs}
+use Rattle.fib_entries.specs.Known.{PathKept, content_of}
 
 some_is : {X : Type 0} (x y : X) → Some x ≡ Some y → x ≡ y
 some_is x y e = (cc)

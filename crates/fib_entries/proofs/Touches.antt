@@ -1,12 +1,11 @@
 -- The list of touched prefixes.
-use Rattle.std.proofs.Common.{arith, ◌≡◌, ◌≢◌, ℕ, zero, suc, ◌+◌, ◌<◌, Bool, true, false, not, ◌&&◌, List, [], ◌∷◌, ◌++◌, map, filter, take, Option, Some, None, is_some, ◌⊎◌, inl, inr, refl, sym, ◌∙◌, ap, subst, ◌↔◌, slice_get, append_assoc, if◌then◌else◌}
+use Rattle.std.proofs.Common.{arith, ◌≡◌, ◌≢◌, ℕ, zero, suc, ◌+◌, Bool, true, false, List, [], ◌∷◌, ◌++◌, map, filter, take, Option, Some, None, inl, inr, refl, sym, ◌∙◌, ap, subst, slice_get, append_assoc, if◌then◌else◌}
 use Rattle.std.specs.Prelude.{Contains, is_none}
 use Rattle.std.specs.List.{AllByRecursion}
 use Rattle.std.specs.List.Sorted.{IsStrictlySortedBy}
 use Rattle.std.specs.declared.cmp.Ordering.TheVariants.{Less}
 use Rattle.std.proofs.lemmas.Bool.{false≢true}
 use Rattle.std.proofs.lemmas.List.Elements.{Contains-append_left, Contains-append_right, Contains-append_cases}
-use Rattle.fib_list.proofs.Lists.{either, Contains-nil}
 use Rattle.fib_reach.specs.Walks.{AllDiffer}
 use Rattle.fib_list.proofs.Booleans.{and_both}
 use Rattle.fib_addr.specs.Prefixes.{Prefix, same_prefix}
@@ -15,7 +14,7 @@ use Rattle.fib_resolve.specs.Touched.{is_touched}
 use Rattle.fib_resolve.specs.declared.types.Tables.{Tables}
 use Rattle.fib_resolve.proofs.Covering.{filter_in, filter_from}
 use Rattle.fib_resolve.proofs.TouchedEntries.{touched_effective}
-use Rattle.fib_changes.proofs.Edits.{in_cases, in_front, in_rest}
+use Rattle.fib_changes.proofs.Edits.{in_front, in_rest}
 use Rattle.fib_changes.proofs.SamePairs.{map_in, map_from}
 use Rattle.fib_interned.proofs.Finding.{some_is, none_some}
 use Rattle.fib_entries.specs.declared.rows.Row.{Row}
@@ -57,8 +56,8 @@ module _ (v w : Known) (S T : Tables) (h : StandsFor v S) (k : StandsFor w T) wh
   pub list_touched : AreTouched S T (filter (is_touched S T) (map prefix_of v.rows) ++ filter (is_new v.rows S T) (map prefix_of w.rows))
   list_touched = record {
     once = append_differ (filter (is_touched S T) (map prefix_of v.rows)) (filter (is_new v.rows S T) (map prefix_of w.rows))
-      (filter_differ (is_touched S T) (map prefix_of v.rows) (ascending_differ (map prefix_of v.rows) h.ordered)) (filter_differ (is_new v.rows S T) (map prefix_of w.rows) (ascending_differ (map prefix_of w.rows) k.ordered))
-      (λ x y c d is. (let mine = (filter_from (is_touched S T) (map prefix_of v.rows) x c).0 in
+        (filter_differ (is_touched S T) (map prefix_of v.rows) (ascending_differ (map prefix_of v.rows) h.ordered)) (filter_differ (is_new v.rows S T) (map prefix_of w.rows) (ascending_differ (map prefix_of w.rows) k.ordered))
+        (λ x y c d is. (let mine = (filter_from (is_touched S T) (map prefix_of v.rows) x c).0 in
         let new = and_both (is_none (row_of v.rows y)) (is_touched S T y) (filter_from (is_new v.rows S T) (map prefix_of w.rows) y d).1 in
         missing y (none_of (row_of v.rows y) new.0) (subst (Contains (map prefix_of v.rows)) is mine)));
     touched = λ e. (
@@ -66,7 +65,8 @@ module _ (v w : Known) (S T : Tables) (h : StandsFor v S) (k : StandsFor w T) wh
         | inl old ↦ (filter_from (is_touched S T) (map prefix_of v.rows) e old).1
         | inr new ↦ (and_both (is_none (row_of v.rows e)) (is_touched S T e) (filter_from (is_new v.rows S T) (map prefix_of w.rows) e new).1).1
       ],
-      λ t. listed e (row_of v.rows e) refl t);
+      λ t. listed e (row_of v.rows e) refl t,
+    );
   }
     where
       missing : (y : Prefix) → row_of v.rows y ≡ None → Contains (map prefix_of v.rows) y → ⊥
@@ -74,7 +74,7 @@ module _ (v w : Known) (S T : Tables) (h : StandsFor v S) (k : StandsFor w T) wh
 
       listed : (e : Prefix) (o : Option Row) → row_of v.rows e ≡ o → is_touched S T e ≡ true → Contains (filter (is_touched S T) (map prefix_of v.rows) ++ filter (is_new v.rows S T) (map prefix_of w.rows)) e
       listed e (Some r) at t = (let x = row_there v.rows e r at in
-        Contains-append_left (filter (is_touched S T) (map prefix_of v.rows)) (filter (is_new v.rows S T) (map prefix_of w.rows)) e (filter_in (is_touched S T) (map prefix_of v.rows) e (subst (Contains (map prefix_of v.rows)) (sym x.1) (map_in prefix_of v.rows r x.0)) t))
+          Contains-append_left (filter (is_touched S T) (map prefix_of v.rows)) (filter (is_new v.rows S T) (map prefix_of w.rows)) e (filter_in (is_touched S T) (map prefix_of v.rows) e (subst (Contains (map prefix_of v.rows)) (sym x.1) (map_in prefix_of v.rows r x.0)) t))
       listed e None none t = elim (touched_effective S T e t) [
         | inl mine ↦ absurd (missing e none ((h.entries e).1 mine))
         | inr after ↦ Contains-append_right (filter (is_touched S T) (map prefix_of v.rows)) (filter (is_new v.rows S T) (map prefix_of w.rows)) e

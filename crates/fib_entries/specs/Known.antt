@@ -1,5 +1,5 @@
 -- What is known of the entries of tables, as rows and lists, and the tables for which it stands.
-use Rattle.std.specs.Prelude.{◌≡◌, ◌↔◌, ◌^◌, ◌-◌, ◌<◌, true, ℕ, Bool, false, List, [], ◌∷◌, map, min, find, count_by, Contains, Option, Some, None, option_map, slice_get, if◌then◌else◌}
+use Rattle.std.specs.Prelude.{◌≡◌, ◌↔◌, ◌^◌, ◌-◌, ◌<◌, true, ℕ, Bool, List, [], ◌∷◌, map, min, find, count_by, Contains, Option, Some, None, option_map, if◌then◌else◌}
 use Rattle.std.specs.List.{AllByRecursion}
 use Rattle.std.specs.Cmp.Lexicographic.{pointwise}
 use Rattle.fib_reach.specs.Walks.{AllDiffer}

@@ -3,8 +3,8 @@ ghost use Rattle.std.specs.Prelude.{◌≡◌, [], IfOk, length};
 ghost use Rattle.fib_interned.specs.Interned.{AreInterned};
 ghost use Rattle.fib_entries.specs.inner.Building.{AreTaken};
 
-use fib_resolve::Pair;
 use fib_paths::{PathListId, PathLists};
+use fib_resolve::Pair;
 use std::alloc::{AllocError, Global};
 
 /// The numbers of the pairs' lists, each of which is taken once a pair.

@@ -178,7 +178,8 @@ impl Entries {
     /// The prefixes with an edge to it, looped or not, each once.
     pub fn dependants(&self, prefix: Prefix) -> &[Prefix]
         ensures once { (S : TablesValue) → StandsFor self.now S → AllDiffer result.now }
-        ensures all { (S : TablesValue) → StandsFor self.now S → (d : PrefixValue) → Contains result.now d ↔ Contains (targets S d) prefix }
+        ensures all { (S : TablesValue) → StandsFor self.now S → (d : PrefixValue) →
+            Contains result.now d ↔ Contains (targets S d) prefix }
     {
         match row(self.rows.as_slice(), prefix) {
             Some(r) => r.dependants.as_slice(),

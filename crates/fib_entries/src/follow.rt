@@ -39,7 +39,8 @@ fn add_if_touched(
     after: &Entries,
     e: Prefix,
 ) -> Result<(), AllocError>
-    ensures { OnOk result ((S T : TablesValue) → StandsFor before.now S → StandsFor after.now T → out.new ≡ (if is_touched S T e then out.old ++ e ∷ [] else out.old)) }
+    ensures { OnOk result ((S T : TablesValue) → StandsFor before.now S → StandsFor after.now T →
+        out.new ≡ (if is_touched S T e then out.old ++ e ∷ [] else out.old)) }
 {
     if touches(before, after, e) {
         out.push(e)?;
@@ -54,7 +55,8 @@ fn add_if_new(
     after: &Entries,
     e: Prefix,
 ) -> Result<(), AllocError>
-    ensures { OnOk result ((S T : TablesValue) → StandsFor before.now S → StandsFor after.now T → out.new ≡ (if is_new before.now.rows S T e then out.old ++ e ∷ [] else out.old)) }
+    ensures { OnOk result ((S T : TablesValue) → StandsFor before.now S → StandsFor after.now T →
+        out.new ≡ (if is_new before.now.rows S T e then out.old ++ e ∷ [] else out.old)) }
 {
     if before.row_of(e).is_none() {
         return add_if_touched(out, before, after, e);
@@ -68,7 +70,8 @@ fn touched_before(
     before: &Entries,
     after: &Entries,
 ) -> Result<List<Prefix>, AllocError>
-    ensures { IfOk result (λ v. (S T : TablesValue) → StandsFor before.now S → StandsFor after.now T → v ≡ filter (is_touched S T) (map prefix_of before.now.rows)) }
+    ensures { IfOk result (λ v. (S T : TablesValue) → StandsFor before.now S → StandsFor after.now T →
+        v ≡ filter (is_touched S T) (map prefix_of before.now.rows)) }
 {
     let mut out = List::new(alloc);
     for place in 0..before.len() {
@@ -79,7 +82,8 @@ fn touched_before(
 
 /// Appends the touched prefixes that are entries after the change alone.
 fn add_new(out: &mut List<Prefix>, before: &Entries, after: &Entries) -> Result<(), AllocError>
-    ensures { OnOk result ((S T : TablesValue) → StandsFor before.now S → StandsFor after.now T → out.new ≡ out.old ++ filter (is_new before.now.rows S T) (map prefix_of after.now.rows)) }
+    ensures { OnOk result ((S T : TablesValue) → StandsFor before.now S → StandsFor after.now T →
+        out.new ≡ out.old ++ filter (is_new before.now.rows S T) (map prefix_of after.now.rows)) }
 {
     for place in 0..after.len() {
         add_if_new(out, before, after, after.at(place))?;
@@ -89,7 +93,8 @@ fn add_new(out: &mut List<Prefix>, before: &Entries, after: &Entries) -> Result<
 
 /// The touched prefixes.
 fn touched(alloc: Global, before: &Entries, after: &Entries) -> Result<List<Prefix>, AllocError>
-    ensures { IfOk result (λ v. (S T : TablesValue) → StandsFor before.now S → StandsFor after.now T → AreTouched S T v) }
+    ensures { IfOk result (λ v. (S T : TablesValue) → StandsFor before.now S → StandsFor after.now T →
+        AreTouched S T v) }
 {
     let mut out = touched_before(alloc, before, after)?;
     add_new(&mut out, before, after)?;
@@ -128,11 +133,7 @@ fn add_if_came(
 }
 
 /// The entries of before that have another rank.
-fn moved_before(
-    alloc: Global,
-    before: &Entries,
-    after: &Entries,
-) -> Result<List<Moved>, AllocError>
+fn moved_before(alloc: Global, before: &Entries, after: &Entries) -> Result<List<Moved>, AllocError>
     ensures { IfOk result (λ v. v ≡ flat_map (moved_one before.now.rows after.now.rows) (map prefix_of before.now.rows)) }
 {
     let mut out = List::new(alloc);
@@ -154,7 +155,8 @@ fn add_came(out: &mut List<Moved>, before: &Entries, after: &Entries) -> Result<
 
 /// The prefixes that have another rank.
 fn moved(alloc: Global, before: &Entries, after: &Entries) -> Result<List<Moved>, AllocError>
-    ensures { IfOk result (λ v. (S T : TablesValue) → StandsFor before.now S → StandsFor after.now T → AreMoved before.now.rows after.now.rows v) }
+    ensures { IfOk result (λ v. (S T : TablesValue) → StandsFor before.now S → StandsFor after.now T →
+        AreMoved before.now.rows after.now.rows v) }
 {
     let mut out = moved_before(alloc, before, after)?;
     add_came(&mut out, before, after)?;
@@ -192,11 +194,16 @@ impl Entries {
         most: u32,
     ) -> Result<Followed, FollowError>
         requires { most < 2 ^ 32 - 1 }
-        ensures stands { OnOk result ((S : TablesValue) → StandsFor self.old S → Differ changes.now S after.now.tables → StandsFor self.new after.now.tables) }
-        ensures touched { IfOk result (λ f. (S : TablesValue) → StandsFor self.old S → Differ changes.now S after.now.tables → AreTouched S after.now.tables f.touched) }
-        ensures moved { IfOk result (λ f. (S : TablesValue) → StandsFor self.old S → Differ changes.now S after.now.tables → AreMoved self.old.rows self.new.rows f.moved) }
-        ensures fits { OnOk result ((S : TablesValue) → StandsFor self.old S → Differ changes.now S after.now.tables → size after.now.tables ≤ most) }
-        ensures too_many { IfErr result (λ e. (S : TablesValue) → StandsFor self.old S → Differ changes.now S after.now.tables → IsTooMany (size after.now.tables) most e) }
+        ensures stands { OnOk result ((S : TablesValue) → StandsFor self.old S →
+            Differ changes.now S after.now.tables → StandsFor self.new after.now.tables) }
+        ensures touched { IfOk result (λ f. (S : TablesValue) → StandsFor self.old S →
+            Differ changes.now S after.now.tables → AreTouched S after.now.tables f.touched) }
+        ensures moved { IfOk result (λ f. (S : TablesValue) → StandsFor self.old S →
+            Differ changes.now S after.now.tables → AreMoved self.old.rows self.new.rows f.moved) }
+        ensures fits { OnOk result ((S : TablesValue) → StandsFor self.old S →
+            Differ changes.now S after.now.tables → size after.now.tables ≤ most) }
+        ensures too_many { IfErr result (λ e. (S : TablesValue) → StandsFor self.old S →
+            Differ changes.now S after.now.tables → IsTooMany (size after.now.tables) most e) }
         ensures err { OnErr result (self.new ≡ self.old) }
     {
         let _changes = changes;

@@ -17,9 +17,9 @@ ghost use Rattle.fib_entries.specs.inner.Building.{has_edge, ArePicked};
 use crate::look::is_same;
 use fib_addr::{Addr, Mac, Prefix};
 use fib_list::List;
+use fib_paths::PathListId;
 use fib_plain::Snapshot;
 use fib_resolve::{Aim, End, FibSource, Marked, Need, Pair, Path, PathKind, Tables, keys};
-use fib_paths::PathListId;
 use std::alloc::{AllocError, Global};
 
 /// The source of that rank.
@@ -73,11 +73,7 @@ pub fn held_of(
 }
 
 /// A mark for each path of the chosen list.
-pub fn marks_of(
-    alloc: Global,
-    snapshot: &Snapshot<'_>,
-    e: Prefix,
-) -> Result<List<bool>, AllocError>
+pub fn marks_of(alloc: Global, snapshot: &Snapshot<'_>, e: Prefix) -> Result<List<bool>, AllocError>
     ensures { IfOk result (λ v. v ≡ map (λ p. looped_kind snapshot.now e p.kind) (chosen snapshot.now e)) }
 {
     let mut out = List::new(alloc);
@@ -129,11 +125,7 @@ fn is_met_by(snapshot: &Snapshot<'_>, p: &Path) -> bool
 }
 
 /// For each path of the chosen list, whether its need is met.
-pub fn mets_of(
-    alloc: Global,
-    snapshot: &Snapshot<'_>,
-    e: Prefix,
-) -> Result<List<bool>, AllocError>
+pub fn mets_of(alloc: Global, snapshot: &Snapshot<'_>, e: Prefix) -> Result<List<bool>, AllocError>
     ensures { IfOk result (λ v. v ≡ map (λ p. kind_met snapshot.now p.need p.kind) (chosen snapshot.now e)) }
 {
     let mut out = List::new(alloc);

@@ -55,7 +55,10 @@ fn a_recursive_route_makes_a_host(rt: HostRuntime) -> Result<(), Fail> {
     assert_eq!(rt; entries.pairs(route).len(), 1);
     assert_eq!(rt; entries.marked(route).len(), 1);
     assert!(rt; entries.chosen(route).is_some());
-    assert_eq!(rt; entries.cover(Addr(0x0a00_0007)), Prefix::masked(Addr(0), 0));
+    assert_eq!(rt;
+        entries.cover(Addr(0x0a00_0007)),
+        Prefix::masked(Addr(0), 0)
+    );
     assert!(rt; entries.lists().count() > 0);
     Ok(())
 }

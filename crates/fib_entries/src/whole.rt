@@ -11,8 +11,8 @@ use crate::parts;
 use crate::rows::Row;
 use fib_addr::Prefix;
 use fib_cover::PrefixSet;
-use fib_plain::Snapshot;
 use fib_paths::{PathListId, PathLists};
+use fib_plain::Snapshot;
 use std::alloc::{AllocError, Global};
 
 /// The set of these prefixes.

@@ -1,5 +1,5 @@
 -- What stands while entries are made anew. No contract of a public call rests on this.
-use Rattle.std.specs.Prelude.{◌≡◌, ◌↔◌, ◌⊎◌, true, ◌<◌, ℕ, Bool, List, length, count_by, Contains, Option, Some, IsSome, slice_get, slice_index}
+use Rattle.std.specs.Prelude.{◌≡◌, ◌↔◌, ◌⊎◌, true, ◌<◌, ℕ, Bool, List, length, count_by, Contains, Some, IsSome, slice_get, slice_index}
 use Rattle.std.specs.List.{AllZip, list_any}
 use Rattle.std.specs.Set.{is_member}
 use Rattle.std.specs.Cmp.Lexicographic.{pointwise}

@@ -1,5 +1,4 @@
-use Rattle.std.proofs.Common.{rules, arith, ◌≡◌, ◌<◌, ◌≤◌, ◌+◌, ◌-◌, ◌^◌, ℕ, suc, zero, List, [], ◌∷◌, ◌++◌, length, take, get_or, sym, ap, ◌∙◌, subst, refl}
-use Rattle.fib_resolve.specs.declared.pairs.Pair.{Pair}
+use Rattle.std.proofs.Common.{arith, ◌≡◌, ◌<◌, ◌+◌, ◌-◌, ◌^◌, ℕ, suc, zero, List, [], ◌∷◌, ◌++◌, length, take, get_or, sym, ap, ◌∙◌, subst}
 use Rattle.fib_interned.proofs.Finding.{length_take_low}
 use Rattle.fib_entries.specs.inner.Building.{AreTaken}
 use Rattle.fib_entries.proofs.Taking.{taken_more, few_users}
@@ -23,6 +22,6 @@ take-requires c =
 pub loop-x-preserved : goal.loop-x-preserved
 loop-x-preserved c =
     let more = taken_more c.loop-x.lists c.take.new.self c.as_slice.result.now c.in_ok-id.id c.in_ok-id.ensures.taken c.count-count.ensures.interned
-      (take c.loop-x.x-index c.args.pairs.now) c.loop-x.out.items c.x-item.result (sym c.as_slice.ensures) c.loop-x.invariant in
+    (take c.loop-x.x-index c.args.pairs.now) c.loop-x.out.items c.x-item.result (sym c.as_slice.ensures) c.loop-x.invariant in
     subst (λ l. AreTaken c.take.new.self l c.push.new.self.items) (sym (take_more c.args.pairs.now c.loop-x.x-index c.x-item.result c.loop-x-test.true c.x-item.is))
-      (subst (AreTaken c.take.new.self (take c.loop-x.x-index c.args.pairs.now ++ c.x-item.result ∷ [])) (sym c.in_ok-push.ensures.items) more)
+    (subst (AreTaken c.take.new.self (take c.loop-x.x-index c.args.pairs.now ++ c.x-item.result ∷ [])) (sym c.in_ok-push.ensures.items) more)

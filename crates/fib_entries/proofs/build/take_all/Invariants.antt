@@ -1,4 +1,4 @@
-use Rattle.std.proofs.Common.{◌≡◌, take}
+use Rattle.std.proofs.Common.{take}
 use Rattle.fib_entries.specs.inner.Building.{AreTaken}
 use Rattle.fib_entries.proofs.build.take_all.Given as goal
 

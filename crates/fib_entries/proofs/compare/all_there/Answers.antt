@@ -22,5 +22,5 @@ pub returns-then-not-has_that : goal.returns-then-not-has_that
 returns-then-not-has_that c =
     let p = c.index-held-place.result in
     sym (one_fails (λ (q : FibSource × ℕ). has_that c.args.others.now c.args.there.now q.0 (content_of c.args.lists.now q.1)) c.args.held.now c.loop-place.place p c.loop-place-test.true c.index-held-place.is
-      (fails_here c.args.lists.now c.args.others.now c.args.held.now c.args.there.now c.loop-place.place p c.index-held-place-in-loop-place.result c.content.result.now c.has_that.result
-        c.loop-place-test.true c.index-held-place.is c.content.ensures c.has_that.ensures c.if-not-has_that.true))
+    (fails_here c.args.lists.now c.args.others.now c.args.held.now c.args.there.now c.loop-place.place p c.index-held-place-in-loop-place.result c.content.result.now c.has_that.result
+    c.loop-place-test.true c.index-held-place.is c.content.ensures c.has_that.ensures c.if-not-has_that.true))

@@ -1,4 +1,4 @@
-use Rattle.std.proofs.Common.{rules, arith, ◌≡◌, ◌<◌, ◌≤◌, ℕ, length, sym, ap, ◌∙◌, subst, refl, slice_get, Some, ◌+◌}
+use Rattle.std.proofs.Common.{arith, ◌≡◌, length, subst, refl}
 use Rattle.std.proofs.lemmas.Option.{slice_get_read}
 use Rattle.fib_entries.specs.inner.Building.{AddsEdges}
 use Rattle.fib_entries.proofs.KeptEdges.{one_added}

@@ -1,4 +1,3 @@
-use Rattle.std.proofs.Common.{◌≡◌}
 use Rattle.fib_entries.specs.inner.Building.{AddsEdges}
 use Rattle.fib_entries.proofs.edges.add_edges.Given as goal
 

@@ -1,4 +1,4 @@
-use Rattle.std.proofs.Common.{rules, arith, ◌≡◌, ◌<◌, ◌≤◌, ℕ, length, sym, ap, ◌∙◌, subst, refl, ◌+◌}
+use Rattle.std.proofs.Common.{arith, ◌≡◌, length, subst}
 use Rattle.fib_entries.specs.inner.Building.{AreKeptEdges}
 use Rattle.fib_entries.proofs.KeptEdges.{more_edges}
 use Rattle.fib_entries.proofs.edges.edges_of.Goals as goal

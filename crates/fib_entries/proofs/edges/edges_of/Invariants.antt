@@ -1,4 +1,3 @@
-use Rattle.std.proofs.Common.{◌≡◌}
 use Rattle.fib_entries.specs.inner.Building.{AreKeptEdges}
 use Rattle.fib_entries.proofs.edges.edges_of.Given as goal
 

@@ -1,6 +1,6 @@
 use Rattle.std.proofs.Common.{◌≡◌, ◌++◌, flat_map, map, take}
 use Rattle.fib_entries.specs.Known.{prefix_of}
-use Rattle.fib_entries.specs.inner.Compare.{moved_one, moved_new}
+use Rattle.fib_entries.specs.inner.Compare.{moved_new}
 use Rattle.fib_entries.proofs.follow.add_came.Given as goal
 
 abbrev pub invariant-loop-place : goal.invariant-loop-place

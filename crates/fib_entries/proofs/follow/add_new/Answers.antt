@@ -1,8 +1,7 @@
-use Rattle.std.proofs.Common.{◌≡◌, map, sym, ap, ◌∙◌, subst}
-use Rattle.fib_resolve.specs.Touched.{is_touched}
+use Rattle.std.proofs.Common.{map}
 use Rattle.fib_entries.specs.Known.{prefix_of}
 use Rattle.fib_entries.specs.inner.Compare.{is_new}
-use Rattle.fib_entries.proofs.Touches.{list_touched, more_before, more_after}
+use Rattle.fib_entries.proofs.Touches.{more_after}
 use Rattle.fib_entries.proofs.follow.add_new.Goals as goal
 
 pub loop-place-preserved : goal.loop-place-preserved

@@ -1,7 +1,7 @@
-use Rattle.std.proofs.Common.{◌≡◌, map, sym, ap, ◌∙◌, subst}
+use Rattle.std.proofs.Common.{map}
 use Rattle.fib_entries.specs.Known.{prefix_of}
-use Rattle.fib_entries.specs.inner.Compare.{moved_one, moved_new}
-use Rattle.fib_entries.proofs.Moving.{more_moved, are_moved}
+use Rattle.fib_entries.specs.inner.Compare.{moved_one}
+use Rattle.fib_entries.proofs.Moving.{more_moved}
 use Rattle.std.proofs.Common.{[]}
 use Rattle.fib_entries.proofs.follow.moved_before.Goals as goal
 

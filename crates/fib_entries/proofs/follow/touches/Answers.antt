@@ -1,7 +1,6 @@
 use Rattle.fib_entries.specs.declared.rows.Row.{Row}
-use Rattle.std.proofs.Common.{◌≡◌, Bor, Option, Some, None, sym, ap, ◌∙◌, subst, refl, not, ◌↔◌}
+use Rattle.std.proofs.Common.{◌≡◌, Bor, Option, Some, None, sym, ◌∙◌, subst, refl, ◌↔◌}
 use Rattle.std.specs.Prelude.{IsTrue, option_copied, is_some}
-use Rattle.fib_entries.specs.Known.{Known, row_of}
 use Rattle.fib_entries.specs.inner.Compare.{AreAlike}
 use Rattle.fib_entries.proofs.Comparing.{both_rows, only_before, not_before}
 use Rattle.fib_entries.proofs.follow.touches.Goals as goal
@@ -9,8 +8,8 @@ use Rattle.fib_entries.proofs.follow.touches.Goals as goal
 pub returns-in-Some-row_of : goal.returns-in-Some-row_of
 returns-in-Some-row_of c = λ S T h k.
     both_rows c.args.before.now c.args.after.now S T h k c.args.e c.in-Some.r.now c.in-Some-row_of.s.now c.are_alike.result (sym c.in-Some.ensures.value) (sym c.in-Some-row_of.ensures.value)
-      (subst (λ l. IsTrue c.are_alike.result ↔ AreAlike l c.args.after.now.lists c.in-Some.r.now c.in-Some-row_of.s.now) c.lists.ensures
-        (subst (λ l. IsTrue c.are_alike.result ↔ AreAlike c.lists.result.now l c.in-Some.r.now c.in-Some-row_of.s.now) c.lists-in-Some-row_of.ensures c.are_alike.ensures))
+    (subst (λ l. IsTrue c.are_alike.result ↔ AreAlike l c.args.after.now.lists c.in-Some.r.now c.in-Some-row_of.s.now) c.lists.ensures
+    (subst (λ l. IsTrue c.are_alike.result ↔ AreAlike c.lists.result.now l c.in-Some.r.now c.in-Some-row_of.s.now) c.lists-in-Some-row_of.ensures c.are_alike.ensures))
 
 pub returns-in-None-row_of : goal.returns-in-None-row_of
 returns-in-None-row_of c = λ S T h k. only_before c.args.before.now c.args.after.now S T h k c.args.e c.in-Some.r.now (sym c.in-Some.ensures.value) (sym c.in-None-row_of.ensures.value)

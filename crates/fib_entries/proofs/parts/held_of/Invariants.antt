@@ -1,4 +1,3 @@
-use Rattle.std.proofs.Common.{◌≡◌, ◌≤◌, length}
 use Rattle.fib_entries.specs.inner.Building.{ArePicked}
 use Rattle.fib_entries.proofs.parts.held_of.Given as goal
 

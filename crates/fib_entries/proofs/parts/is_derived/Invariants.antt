@@ -1,4 +1,4 @@
-use Rattle.std.proofs.Common.{◌≡◌, ◌<◌, ◌≤◌, ℕ}
+use Rattle.std.proofs.Common.{◌≡◌, ◌≤◌}
 use Rattle.std.specs.Prelude.{Contains}
 use Rattle.fib_resolve.specs.Keys.{source_rank}
 use Rattle.fib_resolve.specs.Pairs.{pairs}

@@ -1,4 +1,4 @@
-use Rattle.std.proofs.Common.{◌≡◌, sym, ap, ◌∙◌, List, [], ◌∷◌, map, refl, Bool}
+use Rattle.std.proofs.Common.{◌≡◌, ap, ◌∙◌, List, [], ◌∷◌, map, refl, Bool}
 use Rattle.fib_resolve.specs.Aims.{marked, marked_list}
 use Rattle.fib_resolve.specs.Pairs.{chosen}
 use Rattle.fib_resolve.specs.declared.aims.Marked.{Marked}

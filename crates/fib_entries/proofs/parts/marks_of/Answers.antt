@@ -1,4 +1,4 @@
-use Rattle.std.proofs.Common.{rules, arith, ◌≡◌, ◌<◌, ℕ, length, sym, ap, ◌∙◌, subst, refl, List, [], ◌∷◌, ◌++◌, map, take, slice_get, Some, Bool, ◌+◌, zero, suc}
+use Rattle.std.proofs.Common.{arith, ◌≡◌, ◌<◌, ℕ, length, sym, ap, ◌∙◌, subst, refl, List, [], ◌∷◌, ◌++◌, map, take, slice_get, Bool, ◌+◌, zero, suc}
 use Rattle.fib_addr.specs.Prefixes.{Prefix}
 use Rattle.fib_resolve.specs.Pairs.{chosen}
 use Rattle.fib_resolve.specs.Loops.{looped_kind, looped_one, looped_at}

@@ -1,6 +1,6 @@
-use Rattle.std.proofs.Common.{rules, arith, ◌≡◌, ◌<◌, ℕ, length, sym, ap, ◌∙◌, subst, refl}
+use Rattle.std.proofs.Common.{◌<◌, sym, subst}
 use Rattle.std.specs.Prelude.{slice_index}
-use Rattle.fib_entries.proofs.Ranking.{AreRanked, none_ranked, place_fits, one_ranked, ranks_fall}
+use Rattle.fib_entries.proofs.Ranking.{none_ranked, place_fits, one_ranked, ranks_fall}
 use Rattle.fib_entries.proofs.ranks.ranks.Goals as goal
 
 pub loop-place-init : goal.loop-place-init
@@ -13,5 +13,7 @@ pub loop-place-preserved : goal.loop-place-preserved
 loop-place-preserved c = one_ranked c.order-order.result.now c.loop-place.out.items c.args.nodes c.loop-place.place c.in-Ok.rank c.loop-place.invariant c.loop-place-test.true c.in-Ok.ensures.1
 
 pub returns : goal.returns
-returns c = (c.loop-place.invariant.len,
-    ranks_fall c.order-order.result.now c.loop-place.out.items c.args.nodes c.loop-place.place c.args.edges.now c.in_ok-marks.marks c.in_ok-marks.ensures (sym c.order-order.ensures) c.loop-place.invariant c.loop-place-test.false c.requires.open)
+returns c = (
+  c.loop-place.invariant.len,
+  ranks_fall c.order-order.result.now c.loop-place.out.items c.args.nodes c.loop-place.place c.args.edges.now c.in_ok-marks.marks c.in_ok-marks.ensures (sym c.order-order.ensures) c.loop-place.invariant c.loop-place-test.false c.requires.open,
+)

@@ -1,4 +1,3 @@
-use Rattle.std.proofs.Common.{◌≡◌}
 use Rattle.fib_entries.proofs.Ranking.{AreRanked}
 use Rattle.fib_entries.proofs.ranks.ranks.Given as goal
 

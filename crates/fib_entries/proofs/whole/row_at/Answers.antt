@@ -1,9 +1,9 @@
-use Rattle.std.proofs.Common.{rules, arith, ◌≡◌, ◌<◌, ◌≤◌, ℕ, length, map, filter, sym, ap, ◌∙◌, subst, refl, ◌↔◌}
+use Rattle.std.proofs.Common.{length, sym, ap, ◌∙◌, subst, ◌↔◌}
 use Rattle.std.specs.Prelude.{Contains}
 use Rattle.fib_reach.specs.Walks.{AllDiffer}
-use Rattle.fib_resolve.specs.Pairs.{pairs, entries}
+use Rattle.fib_resolve.specs.Pairs.{pairs}
 use Rattle.fib_resolve.specs.Loops.{targets}
-use Rattle.fib_entries.specs.inner.Building.{ArePicked, has_edge}
+use Rattle.fib_entries.specs.inner.Building.{ArePicked}
 use Rattle.fib_entries.proofs.Picking.{picked_all, zip_length}
 use Rattle.fib_entries.proofs.Anew.{dependants_are, dependants_once}
 use Rattle.fib_entries.proofs.whole.row_at.Goals as goal
@@ -15,7 +15,7 @@ pub returns-clause-row : goal.returns-clause-row
 returns-clause-row c = record {
   prefix = c.len-len.ensures.prefix;
   pairs = picked_all c.args.snapshot.now c.args.lists.now c.args.prefix c.args.ids.now c.in_ok-held_of.field-0 c.requires.sound c.requires.taken
-    (subst (λ l. ArePicked c.args.prefix l c.args.ids.now 7 c.in_ok-held_of.field-0) c.pairs.ensures c.in_ok-held_of.ensures);
+      (subst (λ l. ArePicked c.args.prefix l c.args.ids.now 7 c.in_ok-held_of.field-0) c.pairs.ensures c.in_ok-held_of.ensures);
   looped = c.in_ok-marks_of.ensures;
   met = c.in_ok-mets_of.ensures;
   marked = c.in_ok-marked_of.ensures;

@@ -1,4 +1,4 @@
-use Rattle.std.proofs.Common.{rules, arith, ◌≡◌, ◌<◌, ◌≤◌, ℕ, length, sym, ap, ◌∙◌, subst, refl, Some, ◌+◌, slice_get}
+use Rattle.std.proofs.Common.{sym, ap, ◌∙◌, subst, refl, Some, ◌+◌}
 use Rattle.std.proofs.lemmas.Option.{slice_get_read}
 use Rattle.fib_entries.specs.inner.Building.{AreRows}
 use Rattle.fib_entries.proofs.Anew.{one_row}
@@ -8,5 +8,5 @@ pub loop-place-preserved : goal.loop-place-preserved
 loop-place-preserved c =
     let own = c.in_ok-row_at.ensures.own in
     subst (AreRows c.args.lists.now c.args.snapshot.now c.args.order.now c.args.ranks.now (c.loop-place.place + 1)) (sym c.in_ok-push.ensures.items)
-      (one_row c.args.lists.now c.args.snapshot.now c.args.order.now c.args.ranks.now c.loop-place.place c.loop-place.out.items c.in_ok-row_at.field-0 c.loop-place.invariant c.in_ok-row_at.ensures.row
-        (slice_get_read c.args.order.now _ c.loop-place.place c.index-order-place.result refl c.loop-place-test.true c.index-order-place.is ∙ ap Some (sym own.0)) own.1)
+    (one_row c.args.lists.now c.args.snapshot.now c.args.order.now c.args.ranks.now c.loop-place.place c.loop-place.out.items c.in_ok-row_at.field-0 c.loop-place.invariant c.in_ok-row_at.ensures.row
+    (slice_get_read c.args.order.now _ c.loop-place.place c.index-order-place.result refl c.loop-place-test.true c.index-order-place.is ∙ ap Some (sym own.0)) own.1)

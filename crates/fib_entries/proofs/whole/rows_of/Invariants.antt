@@ -1,4 +1,3 @@
-use Rattle.std.proofs.Common.{◌≡◌}
 use Rattle.fib_entries.specs.inner.Building.{AreRows}
 use Rattle.fib_entries.proofs.whole.rows_of.Given as goal
 

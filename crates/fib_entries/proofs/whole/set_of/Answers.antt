@@ -1,4 +1,4 @@
-use Rattle.std.proofs.Common.{rules, arith, ◌≡◌, ◌<◌, ◌≤◌, ℕ, length, sym, ap, ◌∙◌, subst, refl, ◌+◌, List, [], ◌∷◌, ◌++◌, take, get_or, zero, suc, ◌⊎◌, inl, inr, ◌↔◌}
+use Rattle.std.proofs.Common.{arith, ◌≡◌, ◌<◌, ℕ, length, sym, subst, ◌+◌, List, [], ◌∷◌, take, get_or, ◌⊎◌, inl, inr, ◌↔◌}
 use Rattle.std.specs.Prelude.{Contains}
 use Rattle.std.proofs.lemmas.List.Elements.{Contains-append_left, Contains-append_right, Contains-append_cases}
 use Rattle.fib_list.proofs.Lists.{Contains-nil}
@@ -16,7 +16,7 @@ one_in old new xs i e lt is same add p = (
   ]),
   λ c. (add p).1 (elim (Contains-append_cases (take i xs) (e ∷ []) p (subst (λ l. Contains l p) (take_more xs i e lt is) c)) [
     | inl early ↦ inl ((same p).1 early)
-    | inr late ↦ elim (in_cases e p [] late) [ | inl here ↦ inr (sym here) | inr nothing ↦ absurd (Contains-nil p nothing) ]
+    | inr late ↦ elim (in_cases e p [] late) [ inl here ↦ inr (sym here) | inr nothing ↦ absurd (Contains-nil p nothing) ]
   ]),
 )
 

@@ -1,4 +1,4 @@
-use Rattle.std.proofs.Common.{◌≡◌, take}
+use Rattle.std.proofs.Common.{take}
 use Rattle.std.specs.Prelude.{Contains, ◌↔◌}
 use Rattle.fib_addr.specs.Prefixes.{Prefix}
 use Rattle.fib_entries.proofs.whole.set_of.Given as goal

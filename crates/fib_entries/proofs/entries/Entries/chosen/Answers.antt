@@ -1,7 +1,5 @@
-use Rattle.std.proofs.Common.{rules, arith, ◌≡◌, Bool, Option, Some, None, sym, ap, ◌∙◌, subst, refl, List, [], ◌∷◌, slice_get}
-use Rattle.fib_addr.specs.Prefixes.{Prefix}
-use Rattle.fib_entries.specs.declared.rows.Row.{Row}
-use Rattle.fib_entries.specs.Known.{Known, StandsFor, ArePairs, row_of, content_of}
+use Rattle.std.proofs.Common.{◌≡◌, Some, None, sym, ap, ◌∙◌, subst, refl, List, [], ◌∷◌, slice_get}
+use Rattle.fib_entries.specs.Known.{ArePairs, row_of, content_of}
 use Rattle.fib_interned.proofs.Finding.{none_some, contains_at}
 use Rattle.fib_interned.proofs.Finding.{some_is}
 use Rattle.fib_entries.proofs.Standing.{row_there, row_entry, no_entry, never_none, first_chosen, is_chosen, none_chosen, pairs_at}
@@ -20,7 +18,7 @@ content-requires c =
     let at = ap (λ l. row_of l c.args.prefix) (sym c.as_slice.ensures.value) ∙ sym c.in-Some.ensures in
     let t = row_there c.self.inside.rows.items c.args.prefix c.in-Some.r.now at in
     c.self.invariant.held c.in-Some.r.now c.in-Some-first.field-0.now t.0
-      (contains_at c.in-Some.r.now.pairs 0 c.in-Some-first.field-0.now (ap (λ l. slice_get l 0) (sym c.as_slice-in-Some.ensures) ∙ sym c.in-Some-first.ensures.value))
+    (contains_at c.in-Some.r.now.pairs 0 c.in-Some-first.field-0.now (ap (λ l. slice_get l 0) (sym c.as_slice-in-Some.ensures) ∙ sym c.in-Some-first.ensures.value))
 
 pub returns-in-Some-first : goal.returns-in-Some-first
 returns-in-Some-first c = λ S h.
@@ -29,7 +27,7 @@ returns-in-Some-first c = λ S h.
     let are = subst (ArePairs c.args.self.now.lists S c.args.prefix) head.1 (pairs_at c.args.self.now S h c.args.prefix c.in-Some.r.now at) in
     let is = ap (λ z. content_of z.lists c.in-Some-first.field-0.now.1) (sym c.self.view_is) ∙ c.content.ensures in
     is_chosen c.args.self.now S h c.args.prefix c.content.result.now (row_entry c.args.self.now S h c.args.prefix c.in-Some.r.now at)
-      (first_chosen c.args.self.now S h c.args.prefix c.in-Some-first.field-0.now head.0 c.content.result.now h.sound are is)
+    (first_chosen c.args.self.now S h c.args.prefix c.in-Some-first.field-0.now head.0 c.content.result.now h.sound are is)
 
 pub returns-in-None-first : goal.returns-in-None-first
 returns-in-None-first c = λ S h.

@@ -1,8 +1,7 @@
-use Rattle.std.proofs.Common.{arith, ◌≡◌, ◌<◌, ◌^◌, sym, ap, ◌∙◌, subst, ℕ, Some, None}
+use Rattle.std.proofs.Common.{arith, ◌≡◌, ◌<◌, ◌^◌, ap, ◌∙◌, subst, ℕ, Some, None}
 use Rattle.std.proofs.Common.{map}
 use Rattle.fib_entries.specs.Known.{prefix_of}
-use Rattle.fib_addr.specs.Prefixes.{Prefix}
-use Rattle.fib_cover.specs.Covers.{IsMatch, IsLongestMatch}
+use Rattle.fib_cover.specs.Covers.{IsLongestMatch}
 use Rattle.fib_entries.proofs.Covering.{cover_found, cover_none}
 use Rattle.fib_entries.proofs.entries.Entries.cover.Goals as goal
 

@@ -1,7 +1,5 @@
-use Rattle.std.proofs.Common.{rules, arith, ◌≡◌, Bool, Option, Some, None, sym, ap, ◌∙◌, subst, refl, List, [], ◌∷◌, slice_get}
-use Rattle.fib_addr.specs.Prefixes.{Prefix}
-use Rattle.fib_entries.specs.declared.rows.Row.{Row}
-use Rattle.fib_entries.specs.Known.{Known, StandsFor, ArePairs, row_of}
+use Rattle.std.proofs.Common.{Some, None, sym, ap, ◌∙◌, refl, slice_get}
+use Rattle.fib_entries.specs.Known.{row_of}
 use Rattle.std.proofs.lemmas.Option.{slice_get_read, slice_get_past}
 use Rattle.fib_entries.proofs.Standing.{marked_as, none_marked}
 use Rattle.fib_entries.proofs.entries.Entries.looped.Goals as goal

@@ -1,6 +1,5 @@
-use Rattle.std.proofs.Common.{◌≡◌, sym, ap, ◌∙◌, subst, map, [], refl}
-use Rattle.fib_resolve.specs.Aims.{marked_list}
-use Rattle.fib_entries.specs.Known.{Known, row_of}
+use Rattle.std.proofs.Common.{sym, ap, ◌∙◌}
+use Rattle.fib_entries.specs.Known.{row_of}
 use Rattle.fib_entries.proofs.Standing.{marked_at, none_marked_list}
 use Rattle.fib_entries.proofs.entries.Entries.marked.Goals as goal
 

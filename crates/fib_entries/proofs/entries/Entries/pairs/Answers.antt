@@ -1,7 +1,5 @@
-use Rattle.std.proofs.Common.{rules, arith, ◌≡◌, Bool, Option, Some, None, sym, ap, ◌∙◌, subst, refl, List, [], ◌∷◌, slice_get}
-use Rattle.fib_addr.specs.Prefixes.{Prefix}
-use Rattle.fib_entries.specs.declared.rows.Row.{Row}
-use Rattle.fib_entries.specs.Known.{Known, StandsFor, ArePairs, row_of}
+use Rattle.std.proofs.Common.{sym, ap, ◌∙◌, subst}
+use Rattle.fib_entries.specs.Known.{ArePairs, row_of}
 use Rattle.fib_entries.proofs.Standing.{pairs_at, no_pairs}
 use Rattle.fib_entries.proofs.entries.Entries.pairs.Goals as goal
 
