@@ -77,6 +77,7 @@ impl Entries {
             &lists,
             ids.as_slice(),
             listed.as_slice(),
+            edges.as_slice(),
             ranks.as_slice(),
         )?;
         let objects = snapshot.size(alloc)?;

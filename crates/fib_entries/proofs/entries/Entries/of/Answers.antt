@@ -45,9 +45,22 @@ fields_of lists S P R rows set listed made p is ordered = record {
   same = sym (in_place lists S P R [] rows made ∙ p ∙ is);
 }
 
+pub rows_of-requires-clause-edges : goal.rows_of-requires-clause-edges
+rows_of-requires-clause-edges c =
+    kept_there c.in_ok-snapshot.snapshot c.as_slice.result.now c.as_slice-6.result.now c.in_ok-listed.listed.items c.in_ok-edges.edges.items c.as_slice-7.result.now
+    c.as_slice.ensures.value c.as_slice-6.ensures.value c.as_slice-7.ensures.value c.in_ok-edges.ensures
+
+all_in : (S : Tables) (P listed set names : List Prefix) → P ≡ listed → listed ≡ set → names ≡ entries S → ((e : Prefix) → Contains set e ↔ Contains names e) → (e : Prefix) → Contains P e ↔ Contains (entries S) e
+all_in S P listed set names p l n same e = subst (λ q. Contains q e ↔ Contains (entries S) e) (sym (p ∙ l)) (subst (λ q. Contains set e ↔ Contains q e) n (same e))
+
+pub rows_of-requires-clause-same : goal.rows_of-requires-clause-same
+rows_of-requires-clause-same c =
+    all_in c.in_ok-snapshot.snapshot c.as_slice-6.result.now c.in_ok-listed.listed.items c.in_ok-order.order c.entries.result.now
+    c.as_slice-6.ensures.value c.in_ok-listed.ensures.listed c.entries.ensures c.in_ok-order.ensures
+
 pub invariant_of-result : goal.invariant_of-result
 invariant_of-result c =
-    fields_of c.take_all.new.lists c.in_ok-snapshot.snapshot c.as_slice-6.result.now c.as_slice-7.result.now c.in_ok-rows.rows.items c.in_ok-order.order c.in_ok-listed.listed.items
+    fields_of c.take_all.new.lists c.in_ok-snapshot.snapshot c.as_slice-6.result.now c.as_slice-8.result.now c.in_ok-rows.rows.items c.in_ok-order.order c.in_ok-listed.listed.items
     c.in_ok-rows.ensures c.as_slice-6.ensures.value c.in_ok-listed.ensures.listed c.in_ok-listed.ensures.ordered
 
 all_stands : (lists : List PathKept) (S T : Tables) (O P listed set : List Prefix) (R ranks : List ℕ) (E edges : List (ℕ × ℕ)) (rows : List Row) (ids : List ℕ) (names : List Prefix) (xs : List Pair) (objects : ℕ)
@@ -64,7 +77,7 @@ all_stands lists S T O P listed set R ranks E edges rows ids names xs objects sa
 
 pub returns : goal.returns
 returns c =
-    all_stands c.take_all.new.lists c.in_ok-snapshot.snapshot c.args.tables.now c.as_slice-2.result.now c.as_slice-6.result.now c.in_ok-listed.listed.items c.in_ok-order.order c.as_slice-7.result.now c.in_ok-ranks.ranks.items
+    all_stands c.take_all.new.lists c.in_ok-snapshot.snapshot c.args.tables.now c.as_slice-2.result.now c.as_slice-6.result.now c.in_ok-listed.listed.items c.in_ok-order.order c.as_slice-8.result.now c.in_ok-ranks.ranks.items
     c.as_slice-4.result.now c.in_ok-kept.kept.items c.in_ok-rows.rows.items c.in_ok-ids.ids.items c.entries.result.now c.pairs.result.now c.in_ok-objects.objects
-    c.in_ok-snapshot.ensures c.as_slice-2.ensures.value c.as_slice-6.ensures.value c.in_ok-listed.ensures.listed c.as_slice-7.ensures.value c.as_slice-4.ensures.value c.entries.ensures c.pairs.ensures
+    c.in_ok-snapshot.ensures c.as_slice-2.ensures.value c.as_slice-6.ensures.value c.in_ok-listed.ensures.listed c.as_slice-8.ensures.value c.as_slice-4.ensures.value c.entries.ensures c.pairs.ensures
     c.in_ok-rows.ensures c.in_ok-listed.ensures.ordered c.in_ok-order.ensures c.in_ok-ids.ensures c.in_ok-kept.ensures c.in_ok-ranks.ensures.1 c.in_ok-objects.ensures (subst IsSound (sym c.in_ok-snapshot.ensures) c.requires)
