@@ -48,7 +48,7 @@ edge_in S d e c =
     let r = flat_map_from (λ p. kind_targets S d p.kind) (chosen S d) e c in
     any_in (λ p. is_member same_prefix (kind_targets S d p.kind) e) (chosen S d) r.0 r.1 (any_in (same_prefix e) (kind_targets S d r.0.kind) e r.2 ((same_prefix-Decides e e).1 refl))
 
-entry_of : (S : Tables) (d e : Prefix) → Contains (targets S d) e → Contains (entries S) d
+pub entry_of : (S : Tables) (d e : Prefix) → Contains (targets S d) e → Contains (entries S) d
 entry_of S d e c = Contains-from_any (λ x y. (same_prefix-Decides x y).0) d (entries S) (targets_from_entries S d e c)
 
 pub dependants_are : (S : Tables) (e d : Prefix) → Contains (filter (λ z. has_edge S z e) (entries S)) d ↔ Contains (targets S d) e

@@ -13,3 +13,4 @@ pub mod Comparing
 pub mod Touches
 pub mod Moving
 pub mod Woken
+pub mod Edging

@@ -1,4 +1,5 @@
 pub mod Building
 pub mod Compare
+pub mod Edges
 pub mod Fields
 pub mod Waking

@@ -1,12 +1,102 @@
-// The edges that are left without looped paths, by places in the order of entries.
-ghost use Rattle.std.specs.Prelude.{◌≡◌, ◌<◌, ◌^◌, ◌++◌, ◌∷◌, [], ℕ, IfOk, OnOk, Some, slice_get, length, if◌then◌else◌};
+// The edges of recursion, by places in the order of entries.
+ghost use Rattle.std.specs.Prelude.{◌≡◌, ◌<◌, ◌^◌, IfOk, IfSome, IfNone, OnOk, Some, [], ◌∷◌, ◌++◌, if◌then◌else◌, slice_get, length, option_to_list, Contains};
+ghost use Rattle.std.specs.Set.{is_member};
+ghost use Rattle.fib_addr.specs.Prefixes.{same_prefix};
+ghost use Rattle.fib_cover.specs.Covers.{IsAscending};
+ghost use Rattle.fib_resolve.specs.Pairs.{chosen};
+ghost use Rattle.fib_resolve.specs.Loops.{kind_targets};
+ghost use Rattle.fib_entries.specs.inner.Building.{AreKeptEdges};
 ghost use Rattle.fib_addr.specs.Prefixes.{Prefix as PrefixValue};
-ghost use Rattle.fib_entries.specs.inner.Building.{AreKeptEdges, AddsEdges};
+ghost use Rattle.fib_entries.specs.inner.Edges.{AreEdgesOf, AddsPath, AddsPaths, ArePlaces, AreSources};
 
+use crate::look::is_same;
 use crate::parts::keeps;
 use fib_addr::Prefix;
+use fib_list::List;
 use fib_plain::Snapshot;
+use fib_resolve::PathKind;
 use std::alloc::{AllocError, Global};
+
+/// The place of a prefix in the order.
+fn place_of(order: &[Prefix], p: Prefix) -> Option<usize>
+    requires { IsAscending order.now }
+    ensures found { IfSome result (λ k. slice_get order.now k ≡ Some p) }
+    ensures none { IfNone result (Contains order.now p → ⊥) }
+{
+    match order.binary_search_by_key(&p, |q| *q) {
+        Ok(place) => Some(place),
+        Err(_) => None,
+    }
+}
+
+/// The entry to which a path leads.
+fn target_of(snapshot: &Snapshot<'_>, e: Prefix, kind: PathKind) -> Option<Prefix>
+    ensures { option_to_list result ≡ kind_targets snapshot.now e kind }
+{
+    match kind {
+        PathKind::Recursive(a) => Some(Prefix::host(a)),
+        PathKind::Cover => Some(snapshot.cover(e.bits())),
+        _ => None,
+    }
+}
+
+/// Appends the edge of a path of the entry at that place.
+fn add_path(
+    out: &mut Vec<(u32, u32)>,
+    snapshot: &Snapshot<'_>,
+    order: &[Prefix],
+    from: usize,
+    kind: PathKind,
+) -> Result<(), AllocError>
+    requires ascending { IsAscending order.now }
+    requires few { length order.now < 2 ^ 32 }
+    requires inside { from < length order.now }
+    ensures { OnOk result ((e : PrefixValue) → slice_get order.now from ≡ Some e → AddsPath snapshot.now order.now from e kind out.old.items out.new.items) }
+{
+    let Some(target) = target_of(snapshot, order[from], kind) else {
+        return Ok(());
+    };
+    let Some(to) = place_of(order, target) else {
+        return Ok(());
+    };
+    out.push((from as u32, to as u32))?;
+    Ok(())
+}
+
+/// Appends the edges of the entry at that place.
+fn add_paths(
+    out: &mut Vec<(u32, u32)>,
+    snapshot: &Snapshot<'_>,
+    order: &[Prefix],
+    from: usize,
+) -> Result<(), AllocError>
+    requires ascending { IsAscending order.now }
+    requires few { length order.now < 2 ^ 32 }
+    requires inside { from < length order.now }
+    ensures { OnOk result ((e : PrefixValue) → slice_get order.now from ≡ Some e → AddsPaths snapshot.now order.now from e (chosen snapshot.now e) out.old.items out.new.items) }
+{
+    for p in snapshot.chosen(order[from]) {
+        add_path(out, snapshot, order, from, p.kind)?;
+    }
+    Ok(())
+}
+
+/// The edges, looped or not, with repeats.
+pub fn edges_of(
+    alloc: Global,
+    snapshot: &Snapshot<'_>,
+    order: &[Prefix],
+) -> Result<Vec<(u32, u32)>, AllocError>
+    requires ascending { IsAscending order.now }
+    requires few { length order.now < 2 ^ 32 }
+    ensures { IfOk result (λ v. AreEdgesOf snapshot.now order.now (length order.now) v.items) }
+{
+    let mut out = Vec::new(alloc);
+    for from in 0..order.len() {
+        add_paths(&mut out, snapshot, order, from)?;
+    }
+    Ok(out)
+}
 
 fn add_if(out: &mut Vec<(u32, u32)>, test: bool, edge: (u32, u32)) -> Result<(), AllocError>
     ensures { OnOk result (out.new.items ≡ (if test then out.old.items ++ edge ∷ [] else out.old.items)) }
@@ -17,39 +107,59 @@ fn add_if(out: &mut Vec<(u32, u32)>, test: bool, edge: (u32, u32)) -> Result<(),
     Ok(())
 }
 
-/// Adds the edges of the entry at that place.
-fn add_edges(
-    out: &mut Vec<(u32, u32)>,
-    snapshot: &Snapshot<'_>,
-    order: &[Prefix],
-    from: usize,
-) -> Result<(), AllocError>
-    requires few { length order.now < 2 ^ 32 }
-    requires inside { from < length order.now }
-    ensures { OnOk result (AddsEdges snapshot.now order.now from (length order.now) out.old.items out.new.items) }
-{
-    for to in 0..order.len() {
-        add_if(
-            out,
-            keeps(snapshot, order[from], order[to]),
-            (from as u32, to as u32),
-        )?;
-    }
-    Ok(())
-}
-
-/// The edges that are left without looped paths.
-pub fn edges_of(
+/// Those of the edges that are left without looped paths.
+pub fn kept_of(
     alloc: Global,
     snapshot: &Snapshot<'_>,
     order: &[Prefix],
+    edges: &[(u32, u32)],
 ) -> Result<Vec<(u32, u32)>, AllocError>
-    requires { length order.now < 2 ^ 32 }
+    requires edges { AreEdgesOf snapshot.now order.now (length order.now) edges.now }
     ensures { IfOk result (λ v. AreKeptEdges snapshot.now order.now (length order.now) v.items) }
 {
     let mut out = Vec::new(alloc);
-    for from in 0..order.len() {
-        add_edges(&mut out, snapshot, order, from)?;
+    for place in 0..edges.len() {
+        let edge = edges[place];
+        let kept = keeps(snapshot, order[edge.0 as usize], order[edge.1 as usize]);
+        add_if(&mut out, kept, edge)?;
+    }
+    Ok(out)
+}
+
+fn is_among(p: Prefix, prefixes: &[Prefix]) -> bool
+    ensures { result ≡ is_member same_prefix prefixes.now p }
+{
+    prefixes.iter().any(|q| is_same(p, *q))
+}
+
+fn add_once(out: &mut List<Prefix>, test: bool, p: Prefix) -> Result<(), AllocError>
+    ensures { OnOk result (out.new ≡ (if test then (if is_member same_prefix out.old p then out.old else out.old ++ p ∷ []) else out.old)) }
+{
+    if !test {
+        return Ok(());
+    }
+    if is_among(p, out.as_slice()) {
+        return Ok(());
+    }
+    out.push(p)?;
+    Ok(())
+}
+
+/// The entries with an edge to e, each once.
+pub fn dependants_of(
+    alloc: Global,
+    order: &[Prefix],
+    edges: &[(u32, u32)],
+    e: Prefix,
+) -> Result<List<Prefix>, AllocError>
+    requires { ArePlaces order.now edges.now }
+    ensures { IfOk result (λ v. AreSources order.now edges.now e v) }
+{
+    let mut out = List::new(alloc);
+    for place in 0..edges.len() {
+        let edge = edges[place];
+        let leads = is_same(e, order[edge.1 as usize]);
+        add_once(&mut out, leads, order[edge.0 as usize])?;
     }
     Ok(out)
 }

@@ -11,7 +11,7 @@ ghost use Rattle.fib_entries.specs.Known.{StandsFor, ArePairs, row_of, rank_of, 
 ghost use Rattle.fib_entries.specs.inner.Compare.{AreKept};
 
 use crate::build::take_all;
-use crate::edges::edges_of;
+use crate::edges::{edges_of, kept_of};
 use crate::look::row;
 use crate::ranks::ranks;
 use crate::rows::Row;
@@ -67,7 +67,8 @@ impl Entries {
             return Err(AllocError);
         };
         let edges = edges_of(alloc, &snapshot, listed.as_slice())?;
-        let ranks = ranks(alloc, nodes, edges.as_slice())?;
+        let kept = kept_of(alloc, &snapshot, listed.as_slice(), edges.as_slice())?;
+        let ranks = ranks(alloc, nodes, kept.as_slice())?;
         let mut lists = PathLists::new(alloc);
         let ids = take_all(alloc, &mut lists, snapshot.pairs())?;
         let rows = whole::rows_of(
@@ -76,6 +77,7 @@ impl Entries {
             &lists,
             ids.as_slice(),
             listed.as_slice(),
+            edges.as_slice(),
             ranks.as_slice(),
         )?;
         let objects = snapshot.size(alloc)?;

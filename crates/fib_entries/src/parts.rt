@@ -260,30 +260,6 @@ fn leads(snapshot: &Snapshot<'_>, d: Prefix, p: &Path, e: Prefix) -> bool
     }
 }
 
-/// Whether d has an edge to e.
-pub fn has_edge(snapshot: &Snapshot<'_>, d: Prefix, e: Prefix) -> bool
-    ensures { result ≡ has_edge snapshot.now d e }
-{
-    snapshot.chosen(d).iter().any(|p| leads(snapshot, d, p, e))
-}
-
-/// The entries with an edge to e.
-pub fn dependants_of(
-    alloc: Global,
-    snapshot: &Snapshot<'_>,
-    e: Prefix,
-) -> Result<List<Prefix>, AllocError>
-    ensures { IfOk result (λ v. v ≡ filter (λ d. has_edge snapshot.now d e) (entries snapshot.now)) }
-{
-    let mut out = List::new(alloc);
-    for d in snapshot.entries() {
-        if has_edge(snapshot, *d, e) {
-            out.push(*d)?;
-        }
-    }
-    Ok(out)
-}
-
 /// Whether the path at that place of e's list isn't looped and leads to t.
 fn keeps_at(snapshot: &Snapshot<'_>, e: Prefix, t: Prefix, place: usize, p: &Path) -> bool
     requires { slice_get (chosen snapshot.now e) place ≡ Some p.now }

@@ -1,5 +1,5 @@
-use Rattle.fib_entries.specs.inner.Building.{AreKeptEdges}
+use Rattle.fib_entries.specs.inner.Edges.{AreEdgesOf}
 use Rattle.fib_entries.proofs.edges.edges_of.Given as goal
 
 abbrev pub invariant-loop-from : goal.invariant-loop-from
-invariant-loop-from l = AreKeptEdges l.snapshot l.order l.from l.out.items
+invariant-loop-from l = AreEdgesOf l.snapshot l.order l.from l.out.items

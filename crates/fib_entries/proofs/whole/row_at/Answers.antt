@@ -19,6 +19,6 @@ returns-clause-row c = record {
   looped = c.in_ok-marks_of.ensures;
   met = c.in_ok-mets_of.ensures;
   marked = c.in_ok-marked_of.ensures;
-  dependants = λ d. subst (λ l. Contains l d ↔ Contains (targets c.args.snapshot.now d) c.args.prefix) (sym c.in_ok-dependants_of.ensures) (dependants_are c.args.snapshot.now c.args.prefix d);
-  dependants_once = subst AllDiffer (sym c.in_ok-dependants_of.ensures) (dependants_once c.args.snapshot.now c.args.prefix);
+  dependants = c.requires.all;
+  dependants_once = c.requires.once;
 }

@@ -1,8 +1,16 @@
-use Rattle.std.proofs.Common.{sym, ap, ◌∙◌, subst, refl, Some, ◌+◌}
+use Rattle.std.proofs.Common.{length, sym, ap, ◌∙◌, subst, refl, Some, ◌+◌}
 use Rattle.std.proofs.lemmas.Option.{slice_get_read}
 use Rattle.fib_entries.specs.inner.Building.{AreRows}
 use Rattle.fib_entries.proofs.Anew.{one_row}
+use Rattle.fib_entries.proofs.Edging.{edge_places, sources_are}
 use Rattle.fib_entries.proofs.whole.rows_of.Goals as goal
+
+pub dependants_of-requires : goal.dependants_of-requires
+dependants_of-requires c = edge_places c.args.snapshot.now c.args.order.now (length c.args.order.now) c.args.edges.now c.requires.edges
+
+pub row_at-requires-clause-all : goal.row_at-requires-clause-all
+row_at-requires-clause-all c =
+    sources_are c.args.snapshot.now c.args.order.now c.args.edges.now c.index-order-place.result c.in_ok-dependants.dependants c.requires.same c.requires.edges c.in_ok-dependants.ensures
 
 pub loop-place-preserved : goal.loop-place-preserved
 loop-place-preserved c =

@@ -1,0 +1,25 @@
+use Rattle.std.proofs.Common.{arith, ◌≡◌, ◌<◌, ◌≤◌, ◌+◌, ℕ, List, [], ◌∷◌, length, take, Some, slice_get, refl, sym, ap, ◌∙◌, subst}
+use Rattle.std.specs.Prelude.{Contains, slice_index_or}
+use Rattle.std.proofs.lemmas.Option.{slice_get_read}
+use Rattle.fib_addr.specs.Prefixes.{Prefix}
+use Rattle.fib_resolve.specs.Pairs.{chosen}
+use Rattle.fib_resolve.specs.Loops.{kind_targets}
+use Rattle.fib_interned.proofs.Finding.{some_is}
+use Rattle.fib_entries.specs.inner.Edges.{AreEdgesOf, AddsPaths, AreSources}
+use Rattle.fib_entries.proofs.Anew.{take_more, take_all}
+use Rattle.fib_entries.proofs.Looking.{one_in_order, at_place}
+use Rattle.fib_entries.proofs.Edging.{AreKeptOf, one_path, more_paths, more_edges_of, edge_places, more_kept, all_kept, source_step, edge_in, edge_take}
+use Rattle.fib_entries.proofs.edges.add_paths.Goals as goal
+
+pub loop-p-preserved : goal.loop-p-preserved
+loop-p-preserved c = λ e at.
+    subst (λ l. AddsPaths c.args.snapshot.now c.args.order.now c.args.from e l c.args.out.now.items c.add_path.new.out.items) (sym (take_more c.chosen-p-items.result.now c.loop-p.p-index c.p-item.result c.loop-p-test.true c.p-item.is))
+    (more_paths c.args.snapshot.now c.args.order.now c.args.from e (take c.loop-p.p-index c.chosen-p-items.result.now) c.p-item.result c.args.out.now.items c.loop-p.out.items c.add_path.new.out.items
+    (c.loop-p.invariant e at) (c.in_ok-add_path.ensures e at))
+
+pub returns : goal.returns
+returns c = λ e at.
+    let read = slice_get_read c.args.order.now _ c.args.from c.index-order-from.result refl c.requires.inside c.index-order-from.is in
+    let same = some_is c.index-order-from.result e (sym read ∙ at) in
+    subst (λ l. AddsPaths c.args.snapshot.now c.args.order.now c.args.from e l c.args.out.now.items c.loop-p.out.items)
+    (take_all c.chosen-p-items.result.now c.loop-p.p-index c.loop-p-test.false ∙ (c.chosen-p-items.ensures ∙ ap (chosen c.args.snapshot.now) same)) (c.loop-p.invariant e at)
