@@ -1,5 +1,5 @@
 -- Edges by places, made from paths.
-use Rattle.std.proofs.Common.{arith, ◌≡◌, ◌≢◌, ℕ, zero, suc, ◌+◌, ◌<◌, ◌≤◌, Bool, true, false, ◌||◌, List, [], ◌∷◌, ◌++◌, length, map, take, Option, Some, None, ◌⊎◌, inl, inr, refl, sym, ◌∙◌, ap, subst, slice_get, ◌↔◌, if◌then◌else◌}
+use Rattle.std.proofs.Common.{arith, ◌≡◌, ◌≢◌, ℕ, zero, suc, ◌+◌, ◌<◌, Bool, true, false, ◌||◌, List, [], ◌∷◌, ◌++◌, length, take, Some, inl, inr, refl, sym, ◌∙◌, ap, subst, slice_get, ◌↔◌, if◌then◌else◌}
 use Rattle.std.specs.Prelude.{Contains, slice_index_or}
 use Rattle.std.specs.List.{AllByRecursion}
 use Rattle.std.specs.Set.{is_member}
@@ -7,7 +7,7 @@ use Rattle.std.proofs.lemmas.Bool.{false≢true, cases_lt}
 use Rattle.std.proofs.lemmas.List.Elements.{Contains-append_left, Contains-append_right, Contains-append_cases}
 use Rattle.std.proofs.lemmas.Option.{slice_get_within}
 use Rattle.std.proofs.lemmas.Map.Views.{Contains-from_any}
-use Rattle.fib_list.proofs.Lists.{either, Contains-nil, Contains-flat_map}
+use Rattle.fib_list.proofs.Lists.{Contains-nil, Contains-flat_map}
 use Rattle.fib_reach.specs.Walks.{AllDiffer}
 use Rattle.fib_addr.specs.Prefixes.{Prefix, same_prefix}
 use Rattle.fib_addr.proofs.PrefixLaws.{same_prefix-Decides}
@@ -16,16 +16,15 @@ use Rattle.fib_resolve.specs.Loops.{targets, kind_targets}
 use Rattle.fib_resolve.specs.declared.types.Path.{Path}
 use Rattle.fib_resolve.specs.declared.types.PathKind.{PathKind}
 use Rattle.fib_resolve.specs.declared.types.Tables.{Tables}
-use Rattle.fib_resolve.proofs.Entries.{targets_from_entries}
 use Rattle.fib_resolve.proofs.KeptEdges.{kept_target}
 use Rattle.fib_changes.specs.Ranks.{wakes}
 use Rattle.fib_changes.proofs.Ranking.{wake_edge}
-use Rattle.fib_changes.proofs.Edits.{in_cases, in_front, any_in}
+use Rattle.fib_changes.proofs.Edits.{in_cases, in_front}
 use Rattle.fib_changes.proofs.SamePairs.{flat_map_from}
 use Rattle.fib_changes.proofs.Targets.{edge_entry}
 use Rattle.fib_interned.proofs.Finding.{some_is, none_some}
 use Rattle.fib_entries.specs.inner.Building.{IsKeptEdge, AreKeptEdges}
-use Rattle.fib_entries.specs.inner.Edges.{IsEdge, AreEdgesOf, IsPathEdge, AddsPath, AddsPaths, ArePlaces, AreSources}
+use Rattle.fib_entries.specs.inner.Edges.{AreEdgesOf, IsPathEdge, AddsPath, AddsPaths, ArePlaces, AreSources}
 use Rattle.fib_entries.proofs.Anew.{take_more, entry_of}
 
 -- one path

@@ -1,12 +1,12 @@
 -- What a binary search finds among rows in order.
-use Rattle.std.proofs.Common.{arith, ◌≡◌, ◌≢◌, ℕ, zero, suc, ◌<◌, ◌≤◌, Bool, true, false, List, [], ◌∷◌, length, map, Option, Some, None, ◌⊎◌, inl, inr, refl, sym, ◌∙◌, ap, subst, slice_get, get_or}
-use Rattle.std.specs.Prelude.{Contains, find, Ok, Err, Result, slice_index_or}
+use Rattle.std.proofs.Common.{arith, ◌≡◌, ℕ, zero, suc, ◌<◌, ◌≤◌, Bool, true, List, [], ◌∷◌, length, map, Some, None, inl, inr, refl, sym, ◌∙◌, ap, subst, slice_get}
+use Rattle.std.specs.Prelude.{Contains, find, slice_index_or}
 use Rattle.std.specs.List.{AllByRecursion, HoldsAt}
-use Rattle.std.specs.List.Sorted.{IsStrictlySortedBy, IsBinarySearchResult, IsNonDecreasingBy, IsPartitionPoint}
-use Rattle.std.specs.Ordering.{nat_cmp, ordering_then, ordering_index}
+use Rattle.std.specs.List.Sorted.{IsStrictlySortedBy, IsNonDecreasingBy, IsPartitionPoint}
+use Rattle.std.specs.Ordering.{ordering_index}
 use Rattle.std.specs.declared.cmp.Ordering.{Ordering}
 use Rattle.std.specs.declared.cmp.Ordering.TheVariants.{Less, Equal, Greater}
-use Rattle.std.specs.Cmp.{IsTotalOrder, tied_itself}
+use Rattle.std.specs.Cmp.{tied_itself}
 use Rattle.std.proofs.lemmas.Bool.{false≢true, cases_lt}
 use Rattle.std.proofs.lemmas.Option.{slice_get_within}
 use Rattle.fib_list.proofs.Lists.{either, Contains-nil}
@@ -15,7 +15,7 @@ use Rattle.fib_addr.proofs.PrefixLaws.{same_prefix-Decides}
 use Rattle.fib_cover.specs.Covers.{prefix_cmp, IsAscending}
 use Rattle.fib_cover.proofs.Order.{prefix_total, prefix_exact}
 use Rattle.fib_changes.proofs.Edits.{in_cases}
-use Rattle.fib_interned.proofs.Finding.{some_is, none_some, find_only, find_none, find_place, get_or_at, each_at}
+use Rattle.fib_interned.proofs.Finding.{some_is, none_some, find_only, find_none}
 
 pub never : (p : Prefix) → prefix_cmp p p ≡ Less → ⊥
 never p h = less_equal (sym h ∙ tied_itself prefix_total p)

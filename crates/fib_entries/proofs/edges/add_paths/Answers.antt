@@ -1,14 +1,10 @@
-use Rattle.std.proofs.Common.{arith, ◌≡◌, ◌<◌, ◌≤◌, ◌+◌, ℕ, List, [], ◌∷◌, length, take, Some, slice_get, refl, sym, ap, ◌∙◌, subst}
-use Rattle.std.specs.Prelude.{Contains, slice_index_or}
+use Rattle.std.proofs.Common.{take, refl, sym, ap, ◌∙◌, subst}
 use Rattle.std.proofs.lemmas.Option.{slice_get_read}
-use Rattle.fib_addr.specs.Prefixes.{Prefix}
 use Rattle.fib_resolve.specs.Pairs.{chosen}
-use Rattle.fib_resolve.specs.Loops.{kind_targets}
 use Rattle.fib_interned.proofs.Finding.{some_is}
-use Rattle.fib_entries.specs.inner.Edges.{AreEdgesOf, AddsPaths, AreSources}
+use Rattle.fib_entries.specs.inner.Edges.{AddsPaths}
 use Rattle.fib_entries.proofs.Anew.{take_more, take_all}
-use Rattle.fib_entries.proofs.Looking.{one_in_order, at_place}
-use Rattle.fib_entries.proofs.Edging.{AreKeptOf, one_path, more_paths, more_edges_of, edge_places, more_kept, all_kept, source_step, edge_in, edge_take}
+use Rattle.fib_entries.proofs.Edging.{more_paths}
 use Rattle.fib_entries.proofs.edges.add_paths.Goals as goal
 
 pub loop-p-preserved : goal.loop-p-preserved

@@ -1,11 +1,7 @@
-use Rattle.std.proofs.Common.{length, sym, ap, ◌∙◌, subst, ◌↔◌}
-use Rattle.std.specs.Prelude.{Contains}
-use Rattle.fib_reach.specs.Walks.{AllDiffer}
+use Rattle.std.proofs.Common.{length, sym, ap, ◌∙◌, subst}
 use Rattle.fib_resolve.specs.Pairs.{pairs}
-use Rattle.fib_resolve.specs.Loops.{targets}
 use Rattle.fib_entries.specs.inner.Building.{ArePicked}
 use Rattle.fib_entries.proofs.Picking.{picked_all, zip_length}
-use Rattle.fib_entries.proofs.Anew.{dependants_are, dependants_once}
 use Rattle.fib_entries.proofs.whole.row_at.Goals as goal
 
 pub held_of-requires : goal.held_of-requires
