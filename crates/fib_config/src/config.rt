@@ -93,6 +93,7 @@ impl Config {
         ensures accepted { OnOk result (first_reason (reasons self.old.tables edit.now) ≡ None) }
         ensures edited { OnOk result (self.new.tables ≡ edited self.old.tables edit.now) }
         ensures back { IfOk result (λ u. undone u self.new.tables ≡ self.old.tables) }
+        ensures sound { IfOk result (λ u. IsSound (undone u self.new.tables)) }
         ensures room { self.new.room ≡ self.old.room }
         ensures refused { IfErr result (TellsRefusal (first_reason (reasons self.old.tables edit.now))) }
         ensures err { OnErr result (self.new ≡ self.old) }
