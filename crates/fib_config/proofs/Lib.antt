@@ -1,3 +1,4 @@
 pub mod Counts
 pub mod Made
+pub mod Places
 pub mod Within

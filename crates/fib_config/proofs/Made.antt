@@ -1,5 +1,5 @@
 -- What is known of an edit before its size is.
-use Rattle.std.proofs.Common.{arith, ◌≡◌, ℕ, ◌+◌, ◌≤◌, ◌<◌, true, false, List, ◌∷◌, length, drop, Some, None, get_or, refl, sym, ◌∙◌, ap}
+use Rattle.std.proofs.Common.{arith, ◌≡◌, ℕ, ◌+◌, ◌≤◌, ◌<◌, true, false, List, ◌∷◌, length, drop, Some, None, get_or, refl, sym, ◌∙◌, ap, subst}
 use Rattle.std.specs.Prelude.{nat_lt, Ok, Err}
 use Rattle.std.proofs.lemmas.Bool.{ltb-true, ltb-false}
 use Rattle.std.proofs.lemmas.List.{drop_more, drop_all}
@@ -18,6 +18,9 @@ use Rattle.fib_resolve.specs.declared.types.Edit.{Edit}
 -- an edit without a reason of its own makes sound tables, whatever their size
 pub made_sound : (S : Tables) (e : Edit) → IsSound S → IsWritten e → first_reason (reasons S e) ≡ None → IsSound (edited S e)
 made_sound S e sound written none = sound_edit S (size (edited S e)) e sound written (refused_none S (size (edited S e)) e none (omega arith))
+
+pub made_sound_at : (S T : Tables) (e : Edit) → T ≡ edited S e → first_reason (reasons S e) ≡ None → IsSound S → IsWritten e → IsSound T
+made_sound_at S T e is none sound written = subst IsSound (sym is) (made_sound S e sound written none)
 
 pub made_refused : (S : Tables) (room : ℕ) (e : Edit) (r : Refusal) → first_reason (reasons S e) ≡ Some r → refused S room e ≡ Some r
 made_refused S room e r h = refused_own S room e r h

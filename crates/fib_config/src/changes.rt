@@ -1,17 +1,20 @@
 // The parts of edited tables, made anew.
 
-ghost use Rattle.std.specs.Prelude.{◌≡◌, ℕ, ◌+◌, ◌≤◌, ◌<◌, ◌++◌, [], ◌∷◌, OnOk, IfOk, map, filter, not, position, length, unwrap_or, All};
+ghost use Rattle.std.specs.Prelude.{◌≡◌, ℕ, ◌+◌, ◌≤◌, ◌<◌, ◌++◌, [], ◌∷◌, ◌-◌, OnOk, OnErr, IfOk, map, filter, not, position, length, unwrap_or, All, take, slice_set, slice_index_or};
 ghost use Rattle.std.specs.List.{list_any};
+ghost use Rattle.fib_config.specs.Undone.{place_of, undone, IsBackOf};
 ghost use Rattle.fib_resolve.specs.Keys.{key_of, key_lt, same_key};
 ghost use Rattle.fib_resolve.specs.Tables.{has_name, interface_named, same_address, same_neighbor, is_route};
 ghost use Rattle.fib_resolve.specs.Edits.{number_of, with_state, set_neighbor, set_path, set_paths, kind_of, path_of, source_of, paths_at, set_route, without_route, lacks_key, without_paths, route_left, routes_without};
 
+use crate::undo::Undo;
 use fib_addr::{Addr, Prefix};
 use fib_resolve::{
     Address, Duplicate, FibSource, Interface, List, Name, Neighbor, Path, PathKind, PathSpec,
     Route, SpecKind, Tables, keys,
 };
 use std::alloc::{AllocError, Global};
+use std::mem;
 
 pub fn interface_named(tables: &Tables, name: &Name) -> Option<usize>
     ensures { result ≡ interface_named tables.now name.now }
@@ -99,27 +102,73 @@ pub fn paths_at<'a>(prefix: Prefix, source: FibSource, routes: &'a [Route]) -> &
     &[]
 }
 
-/// The routes with this one in its place.
-pub fn set_route(alloc: Global, new: Route, routes: &[Route]) -> Result<List<Route>, AllocError>
-    ensures { IfOk result (λ x. x ≡ set_route new routes.now) }
+// The place of the route of that prefix and source, or else the number of routes.
+fn place_of_route(prefix: Prefix, source: FibSource, routes: &[Route]) -> usize
+    ensures { result ≡ place_of (is_route prefix source) routes.now }
 {
-    let (prefix, source) = (new.prefix, new.source);
-    let mut out = List::new(alloc);
-    let mut left = Some(new);
-    for r in routes {
+    for (i, r) in routes.iter().enumerate() {
         if is_route(prefix, source, r) {
-            match left.take() {
-                Some(route) => out.push(route)?,
-                None => out.push(r.duplicate(alloc)?)?,
-            }
-        } else {
-            out.push(r.duplicate(alloc)?)?;
+            return i;
         }
     }
-    if let Some(route) = left {
-        out.push(route)?;
+    routes.len()
+}
+
+// Puts the item in place of another, which comes back. Takes no memory.
+fn set_at<T: Drop>(alloc: Global, list: &mut List<T>, place: usize, item: T) -> T
+    requires { place < length list.old }
+    ensures set { list.new ≡ slice_set list.old place item }
+    ensures value { result ≡ slice_index_or list.old place result }
+{
+    let mut items = mem::replace(list, List::new(alloc)).into_vec();
+    let old = mem::replace(&mut items[place], item);
+    *list = List::from_vec(items);
+    old
+}
+
+// Takes the last item out, where there is one. Takes no memory.
+fn drop_last<T: Drop>(alloc: Global, list: &mut List<T>)
+    ensures { list.new ≡ take (length list.old - 1) list.old }
+{
+    let mut items = mem::replace(list, List::new(alloc)).into_vec();
+    let left = items.len().saturating_sub(1);
+    items.truncate(left);
+    *list = List::from_vec(items);
+}
+
+/// Puts the route in its place, or says how that is taken back. Where memory is wanted, the routes stay.
+#[tactic(auto, using(crate::proofs::Places::route_set, crate::proofs::Places::route_end, crate::proofs::Places::set_back, crate::proofs::Places::end_back))]
+pub fn put_route(alloc: Global, new: Route, routes: &mut List<Route>) -> Result<Undo, AllocError>
+    ensures ok { OnOk result (routes.new ≡ set_route new routes.old) }
+    ensures back { IfOk result (λ u. IsBackOf u routes.new routes.old) }
+    ensures err { OnErr result (routes.new ≡ routes.old) }
+{
+    let place = place_of_route(new.prefix, new.source, routes.as_slice());
+    if place < routes.len() {
+        let old = set_at(alloc, routes, place, new);
+        return Ok(Undo::RouteSet { place, old });
     }
-    Ok(out)
+    routes.push(new)?;
+    Ok(Undo::RouteAdded)
+}
+
+/// Takes an edit back. Takes no memory.
+#[tactic(auto, unfolding(crate::specs::Undone::undone))]
+pub fn take_back(alloc: Global, tables: &mut Tables, undo: Undo)
+    ensures { tables.new ≡ undone undo tables.old }
+{
+    match undo {
+        Undo::Interfaces(old) => tables.interfaces = old,
+        Undo::Addresses(old) => tables.addresses = old,
+        Undo::Neighbors(old) => tables.neighbors = old,
+        Undo::Routes(old) => tables.routes = old,
+        Undo::RouteAdded => drop_last(alloc, &mut tables.routes),
+        Undo::RouteSet { place, old } => {
+            if place < tables.routes.len() {
+                let _new = set_at(alloc, &mut tables.routes, place, old);
+            }
+        }
+    }
 }
 
 /// The number of the interface with that name, where there is one.

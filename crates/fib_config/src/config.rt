@@ -3,12 +3,14 @@ ghost use Rattle.std.specs.Prelude.{◌≡◌, ℕ, ◌≤◌, ◌<◌, ◌^◌,
 ghost use Rattle.std.specs.List.{AllByRecursion};
 ghost use Rattle.fib_resolve.specs.Tables.{fresh, IsSound};
 ghost use Rattle.fib_resolve.specs.Edits.{edited};
-ghost use Rattle.fib_resolve.specs.Refusals.{refused, edited_in_turn};
+ghost use Rattle.fib_resolve.specs.Refusals.{refused, edited_in_turn, reasons, first_reason};
+ghost use Rattle.fib_config.specs.Undone.{undone};
 ghost use Rattle.fib_resolve.specs.Reachable.{IsWritten};
 ghost use Rattle.fib_config.specs.Config.{TellsRefusal, TellsFirstRefused};
 
 use crate::errors::{BatchError, EditError};
-use crate::{edits, reasons, sizes};
+use crate::undo::Undo;
+use crate::{changes, edits};
 use fib_resolve::{Duplicate, Edit, List, Refusal, Tables};
 use std::alloc::{AllocError, Global};
 use std::marker::Model;
@@ -81,9 +83,31 @@ impl Config {
         ensures refused { IfErr result (TellsRefusal (refused self.old.tables self.old.room edit.now)) }
         ensures err { OnErr result (self.new ≡ self.old) }
     {
-        let next = edits::made(self.alloc, &self.held, self.most, edit)?;
-        self.held = next;
-        Ok(())
+        edits::made(self.alloc, &mut self.held, self.most, edit)
+    }
+
+    /// Makes the edit whatever room the edited tables take, and says what takes it back; or says why not. After a fault nothing has
+    /// changed. Every reason but the size is a reason here too. The edit is one that a line can write, as for `edit`.
+    pub fn change(&mut self, edit: &Edit) -> Result<Undo, EditError>
+        requires { IsWritten edit.now }
+        ensures accepted { OnOk result (first_reason (reasons self.old.tables edit.now) ≡ None) }
+        ensures edited { OnOk result (self.new.tables ≡ edited self.old.tables edit.now) }
+        ensures back { IfOk result (λ u. undone u self.new.tables ≡ self.old.tables) }
+        ensures sound { IfOk result (λ u. IsSound (undone u self.new.tables)) }
+        ensures room { self.new.room ≡ self.old.room }
+        ensures refused { IfErr result (TellsRefusal (first_reason (reasons self.old.tables edit.now))) }
+        ensures err { OnErr result (self.new ≡ self.old) }
+    {
+        edits::change(self.alloc, &mut self.held, edit)
+    }
+
+    /// Takes an edit back, on the tables that it made. Takes no memory, and gives the tables as they were before it.
+    pub fn undo(&mut self, undo: Undo)
+        requires { IsSound (undone undo self.old.tables) }
+        ensures tables { self.new.tables ≡ undone undo self.old.tables }
+        ensures room { self.new.room ≡ self.old.room }
+    {
+        changes::take_back(self.alloc, &mut self.held, undo);
     }
 
     /// Makes the edits in turn, or says which is the first that is refused on the tables that those before it give, and why. After a

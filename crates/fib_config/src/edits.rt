@@ -1,13 +1,15 @@
 // The edited tables.
-ghost use Rattle.std.specs.Prelude.{◌≡◌, ◌≤◌, ◌++◌, [], ◌∷◌, IfOk, IfErr, OnOk, None, Ok, length, ◌<◌, ◌^◌, ◌-◌};
+ghost use Rattle.std.specs.Prelude.{◌≡◌, ◌≤◌, ◌++◌, [], ◌∷◌, IfOk, IfErr, OnOk, OnErr, None, Ok, length, map, ◌<◌, ◌^◌, ◌-◌};
 ghost use Rattle.std.specs.List.{AllByRecursion};
+ghost use Rattle.fib_config.specs.Undone.{undone, IsBackOf};
 ghost use Rattle.fib_resolve.specs.Tables.{IsSound};
-ghost use Rattle.fib_resolve.specs.Refusals.{refused, edited_in_turn};
+ghost use Rattle.fib_resolve.specs.Refusals.{refused, edited_in_turn, reasons, first_reason};
 ghost use Rattle.fib_resolve.specs.Reachable.{IsWritten};
 ghost use Rattle.fib_config.specs.Config.{TellsRefusal, TellsFirstRefused};
-ghost use Rattle.fib_resolve.specs.Edits.{edited, with_interfaces, with_addresses, with_neighbors, with_routes, route_left, routes_without};
+ghost use Rattle.fib_resolve.specs.Edits.{edited, with_routes, route_left, routes_without, without_paths, paths_at, path_of, paths_with, source_of, set_route, without_route};
 
 use crate::errors::{BatchError, EditError};
+use crate::undo::Undo;
 use crate::{changes, reasons, sizes};
 use fib_addr::Prefix;
 use fib_resolve::{
@@ -15,112 +17,124 @@ use fib_resolve::{
     Tables,
 };
 use std::alloc::{AllocError, Global};
+use std::mem;
 
-fn with_interfaces(
-    alloc: Global,
-    tables: &Tables,
-    interfaces: List<Interface>,
-) -> Result<Tables, AllocError>
-    ensures { IfOk result (λ t. t ≡ with_interfaces tables.now interfaces) }
-{
-    Ok(Tables {
-        interfaces,
-        addresses: tables.addresses.duplicate(alloc)?,
-        neighbors: tables.neighbors.duplicate(alloc)?,
-        routes: tables.routes.duplicate(alloc)?,
-    })
-}
-
-fn with_addresses(
-    alloc: Global,
-    tables: &Tables,
-    addresses: List<Address>,
-) -> Result<Tables, AllocError>
-    ensures { IfOk result (λ t. t ≡ with_addresses tables.now addresses) }
-{
-    Ok(Tables {
-        interfaces: tables.interfaces.duplicate(alloc)?,
-        addresses,
-        neighbors: tables.neighbors.duplicate(alloc)?,
-        routes: tables.routes.duplicate(alloc)?,
-    })
-}
-
-fn with_neighbors(
-    alloc: Global,
-    tables: &Tables,
-    neighbors: List<Neighbor>,
-) -> Result<Tables, AllocError>
-    ensures { IfOk result (λ t. t ≡ with_neighbors tables.now neighbors) }
-{
-    Ok(Tables {
-        interfaces: tables.interfaces.duplicate(alloc)?,
-        addresses: tables.addresses.duplicate(alloc)?,
-        neighbors,
-        routes: tables.routes.duplicate(alloc)?,
-    })
-}
-
-fn with_routes(alloc: Global, tables: &Tables, routes: List<Route>) -> Result<Tables, AllocError>
-    ensures { IfOk result (λ t. t ≡ with_routes tables.now routes) }
-{
-    Ok(Tables {
-        interfaces: tables.interfaces.duplicate(alloc)?,
-        addresses: tables.addresses.duplicate(alloc)?,
-        neighbors: tables.neighbors.duplicate(alloc)?,
-        routes,
-    })
-}
-
-fn route_left(
+// Takes the paths with those keys out of the list of that prefix and source, and the route with its last path.
+#[tactic(auto)]
+fn leave_route(
     alloc: Global,
     prefix: Prefix,
     source: FibSource,
     paths: List<Path>,
-    routes: &[Route],
-) -> Result<List<Route>, AllocError>
-    ensures { IfOk result (λ x. x ≡ route_left prefix source paths routes.now) }
+    routes: &mut List<Route>,
+) -> Result<Undo, AllocError>
+    ensures ok { OnOk result (routes.new ≡ route_left prefix source paths routes.old) }
+    ensures back { IfOk result (λ u. IsBackOf u routes.new routes.old) }
+    ensures err { OnErr result (routes.new ≡ routes.old) }
 {
     match paths.as_slice() {
-        [] => changes::without_route(alloc, prefix, source, routes),
+        [] => drop_route(alloc, prefix, source, routes),
         [_, ..] => {
             let route = Route {
                 prefix,
                 source,
                 paths,
             };
-            changes::set_route(alloc, route, routes)
+            changes::put_route(alloc, route, routes)
         }
     }
 }
 
-fn routes_without(
+fn drop_route(
+    alloc: Global,
+    prefix: Prefix,
+    source: FibSource,
+    routes: &mut List<Route>,
+) -> Result<Undo, AllocError>
+    ensures ok { OnOk result (routes.new ≡ without_route prefix source routes.old) }
+    ensures back { IfOk result (λ u. IsBackOf u routes.new routes.old) }
+    ensures err { OnErr result (routes.new ≡ routes.old) }
+{
+    let left = changes::without_route(alloc, prefix, source, routes.as_slice())?;
+    Ok(Undo::Routes(mem::replace(routes, left)))
+}
+
+// What is left of the list of that prefix and source without those paths.
+fn paths_left(
     alloc: Global,
     tables: &Tables,
     prefix: Prefix,
     source: FibSource,
     specs: &[PathSpec],
-) -> Result<List<Route>, AllocError>
+) -> Result<List<Path>, AllocError>
     requires { length tables.now.interfaces ≤ 256 }
-    ensures { IfOk result (λ x. x ≡ routes_without tables.now prefix source specs.now) }
+    ensures { IfOk result (λ x. x ≡ without_paths (paths_at prefix source tables.now.routes) (map (path_of tables.now) specs.now)) }
 {
-    let routes = tables.routes.as_slice();
+    let gone = changes::paths_of(alloc, tables, specs)?;
+    let old = changes::paths_at(prefix, source, tables.routes.as_slice());
+    changes::without_paths(alloc, old, gone.as_slice())
+}
+
+// Takes the paths out of the route, or the whole route where none is named.
+#[tactic(auto, using(crate::proofs::Places::back_undone))]
+fn del_route(
+    alloc: Global,
+    tables: &mut Tables,
+    prefix: Prefix,
+    source: FibSource,
+    specs: &[PathSpec],
+) -> Result<Undo, AllocError>
+    requires { length tables.old.interfaces ≤ 256 }
+    ensures ok { OnOk result (tables.new ≡ with_routes tables.old (routes_without tables.old prefix source specs.now)) }
+    ensures back { IfOk result (λ u. undone u tables.new ≡ tables.old) }
+    ensures err { OnErr result (tables.new ≡ tables.old) }
+{
     match specs {
-        [] => changes::without_route(alloc, prefix, source, routes),
+        [] => {
+            let undo = drop_route(alloc, prefix, source, &mut tables.routes)?;
+            Ok(undo)
+        }
         [_, ..] => {
-            let gone = changes::paths_of(alloc, tables, specs)?;
-            let old = changes::paths_at(prefix, source, routes);
-            let left = changes::without_paths(alloc, old, gone.as_slice())?;
-            route_left(alloc, prefix, source, left, routes)
+            let left = paths_left(alloc, tables, prefix, source, specs)?;
+            let undo = leave_route(alloc, prefix, source, left, &mut tables.routes)?;
+            Ok(undo)
         }
     }
 }
 
-/// The tables after the edit.
-#[tactic(auto, unfolding(fib_resolve::specs::Edits::edited))]
-fn edited(alloc: Global, tables: &Tables, edit: &Edit) -> Result<Tables, AllocError>
-    requires { length tables.now.interfaces ≤ 256 }
-    ensures { IfOk result (λ t. t ≡ edited tables.now edit.now) }
+// Sets the paths in the route of that prefix and source, which is made where there is none.
+#[tactic(auto, using(crate::proofs::Places::back_undone))]
+fn add_route(
+    alloc: Global,
+    tables: &mut Tables,
+    prefix: Prefix,
+    api: bool,
+    specs: &[PathSpec],
+) -> Result<Undo, AllocError>
+    requires { length tables.old.interfaces ≤ 256 }
+    ensures ok { OnOk result (tables.new ≡ with_routes tables.old (set_route (record { prefix = prefix; source = source_of api; paths = paths_with tables.old prefix api specs.now }) tables.old.routes)) }
+    ensures back { IfOk result (λ u. undone u tables.new ≡ tables.old) }
+    ensures err { OnErr result (tables.new ≡ tables.old) }
+{
+    let source = changes::source_of(api);
+    let new = changes::paths_of(alloc, tables, specs)?;
+    let old = changes::paths_at(prefix, source, tables.routes.as_slice());
+    let route = Route {
+        prefix,
+        source,
+        paths: changes::set_paths(alloc, old, new.as_slice())?,
+    };
+    let undo = changes::put_route(alloc, route, &mut tables.routes)?;
+    Ok(undo)
+}
+
+// Makes the edit where the tables stand, and says what takes it back.
+#[tactic(auto, unfolding(fib_resolve::specs::Edits::edited, crate::specs::Undone::undone))]
+fn make(alloc: Global, tables: &mut Tables, edit: &Edit) -> Result<Undo, AllocError>
+    requires { length tables.old.interfaces ≤ 256 }
+    ensures ok { OnOk result (tables.new ≡ edited tables.old edit.now) }
+    ensures back { IfOk result (λ u. undone u tables.new ≡ tables.old) }
+    ensures err { OnErr result (tables.new ≡ tables.old) }
 {
     match edit {
         Edit::CreateInterface(name) => {
@@ -129,11 +143,11 @@ fn edited(alloc: Global, tables: &Tables, edit: &Edit) -> Result<Tables, AllocEr
                 name: name.duplicate(alloc)?,
                 up: false,
             })?;
-            with_interfaces(alloc, tables, interfaces)
+            Ok(Undo::Interfaces(mem::replace(&mut tables.interfaces, interfaces)))
         }
         Edit::SetState { name, up } => {
             let interfaces = changes::with_states(alloc, name, *up, tables.interfaces.as_slice())?;
-            with_interfaces(alloc, tables, interfaces)
+            Ok(Undo::Interfaces(mem::replace(&mut tables.interfaces, interfaces)))
         }
         Edit::AddAddress { name, addr, len } => {
             let mut addresses = tables.addresses.duplicate(alloc)?;
@@ -142,7 +156,7 @@ fn edited(alloc: Global, tables: &Tables, edit: &Edit) -> Result<Tables, AllocEr
                 addr: *addr,
                 len: *len,
             })?;
-            with_addresses(alloc, tables, addresses)
+            Ok(Undo::Addresses(mem::replace(&mut tables.addresses, addresses)))
         }
         Edit::DelAddress { name, addr, len } => {
             let gone = Address {
@@ -151,7 +165,7 @@ fn edited(alloc: Global, tables: &Tables, edit: &Edit) -> Result<Tables, AllocEr
                 len: *len,
             };
             let addresses = changes::without_address(alloc, &gone, tables.addresses.as_slice())?;
-            with_addresses(alloc, tables, addresses)
+            Ok(Undo::Addresses(mem::replace(&mut tables.addresses, addresses)))
         }
         Edit::SetNeighbor { name, addr, mac } => {
             let new = Neighbor {
@@ -160,58 +174,71 @@ fn edited(alloc: Global, tables: &Tables, edit: &Edit) -> Result<Tables, AllocEr
                 mac: *mac,
             };
             let neighbors = changes::set_neighbor(alloc, new, tables.neighbors.as_slice())?;
-            with_neighbors(alloc, tables, neighbors)
+            Ok(Undo::Neighbors(mem::replace(&mut tables.neighbors, neighbors)))
         }
         Edit::DelNeighbor { name, addr } => {
             let number = changes::number_of(tables, name);
-            let neighbors = changes::without_neighbor(
-                alloc,
-                number,
-                *addr,
-                tables.neighbors.as_slice(),
-            )?;
-            with_neighbors(alloc, tables, neighbors)
+            let held = tables.neighbors.as_slice();
+            let neighbors = changes::without_neighbor(alloc, number, *addr, held)?;
+            Ok(Undo::Neighbors(mem::replace(&mut tables.neighbors, neighbors)))
         }
         Edit::AddRoute { prefix, api, paths } => {
-            let source = changes::source_of(*api);
-            let routes = tables.routes.as_slice();
-            let new = changes::paths_of(alloc, tables, paths.as_slice())?;
-            let old = changes::paths_at(*prefix, source, routes);
-            let route = Route {
-                prefix: *prefix,
-                source,
-                paths: changes::set_paths(alloc, old, new.as_slice())?,
-            };
-            let routes = changes::set_route(alloc, route, routes)?;
-            with_routes(alloc, tables, routes)
+            add_route(alloc, tables, *prefix, *api, paths.as_slice())
         }
         Edit::DelRoute { prefix, api, paths } => {
             let source = changes::source_of(*api);
-            let routes = routes_without(alloc, tables, *prefix, source, paths.as_slice())?;
-            with_routes(alloc, tables, routes)
+            del_route(alloc, tables, *prefix, source, paths.as_slice())
         }
     }
 }
 
-/// The tables after the edit, where it isn't refused.
-#[tactic(auto, using(crate::proofs::Made::made_refused, crate::proofs::Made::made_large, crate::proofs::Made::made_fits, crate::proofs::Made::made_sound))]
-pub fn made(alloc: Global, tables: &Tables, room: u32, edit: &Edit) -> Result<Tables, EditError>
-    requires sound { IsSound tables.now }
+/// Makes the edit where the tables stand, unless a reason other than the size applies.
+#[tactic(auto, using(crate::proofs::Made::made_sound_at))]
+pub fn change(alloc: Global, tables: &mut Tables, edit: &Edit) -> Result<Undo, EditError>
+    requires sound { IsSound tables.old }
     requires written { IsWritten edit.now }
-    requires room { room < 2 ^ 32 - 1 }
-    ensures accepted { OnOk result (refused tables.now room edit.now ≡ None) }
-    ensures edited { IfOk result (λ t. t ≡ edited tables.now edit.now) }
-    ensures sound { IfOk result IsSound }
-    ensures refused { IfErr result (TellsRefusal (refused tables.now room edit.now)) }
+    ensures accepted { OnOk result (first_reason (reasons tables.old edit.now) ≡ None) }
+    ensures edited { OnOk result (tables.new ≡ edited tables.old edit.now) }
+    ensures back { IfOk result (λ u. undone u tables.new ≡ tables.old) }
+    ensures sound { OnOk result (IsSound tables.new) }
+    ensures refused { IfErr result (TellsRefusal (first_reason (reasons tables.old edit.now))) }
+    ensures err { OnErr result (tables.new ≡ tables.old) }
 {
     if let Some(refusal) = reasons::own_refusal(alloc, tables, edit)? {
         return Err(EditError::Refused(refusal));
     }
-    let next = edited(alloc, tables, edit)?;
-    if sizes::is_too_large(alloc, &next, room)? {
-        return Err(EditError::Refused(Refusal::TooLarge));
+    let undo = make(alloc, tables, edit)?;
+    Ok(undo)
+}
+
+/// Makes the edit where the tables stand, where it isn't refused.
+#[tactic(auto, using(crate::proofs::Made::made_refused, crate::proofs::Made::made_large, crate::proofs::Made::made_fits))]
+pub fn made(alloc: Global, tables: &mut Tables, room: u32, edit: &Edit) -> Result<(), EditError>
+    requires sound { IsSound tables.old }
+    requires written { IsWritten edit.now }
+    requires room { room < 2 ^ 32 - 1 }
+    ensures accepted { OnOk result (refused tables.old room edit.now ≡ None) }
+    ensures edited { OnOk result (tables.new ≡ edited tables.old edit.now) }
+    ensures sound { IsSound tables.new }
+    ensures refused { IfErr result (TellsRefusal (refused tables.old room edit.now)) }
+    ensures err { OnErr result (tables.new ≡ tables.old) }
+{
+    let undo = match change(alloc, tables, edit) {
+        Ok(undo) => undo,
+        Err(EditError::Refused(refusal)) => return Err(EditError::Refused(refusal)),
+        Err(EditError::Memory) => return Err(EditError::Memory),
+    };
+    match sizes::is_too_large(alloc, tables, room) {
+        Ok(false) => Ok(()),
+        Ok(true) => {
+            changes::take_back(alloc, tables, undo);
+            Err(EditError::Refused(Refusal::TooLarge))
+        }
+        Err(_) => {
+            changes::take_back(alloc, tables, undo);
+            Err(EditError::Memory)
+        }
     }
-    Ok(next)
 }
 
 /// The tables after all of the edits, where none is refused on those that the edits before it give.
@@ -231,8 +258,8 @@ pub fn made_in_turn(
 {
     let mut next = tables.duplicate(alloc)?;
     for (place, edit) in edits.iter().enumerate() {
-        match made(alloc, &next, room, edit) {
-            Ok(after) => next = after,
+        match made(alloc, &mut next, room, edit) {
+            Ok(()) => {}
             Err(EditError::Refused(refusal)) => {
                 let place = place as u32;
                 return Err(BatchError::Refused { place, refusal });

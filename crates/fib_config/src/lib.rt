@@ -10,9 +10,11 @@ mod edits;
 mod errors;
 mod reasons;
 mod sizes;
+mod undo;
 
 pub use config::Config;
 pub use errors::{BatchError, EditError};
+pub use undo::Undo;
 
 #[cfg(test)]
 mod tests;

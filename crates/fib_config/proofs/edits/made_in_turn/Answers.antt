@@ -8,8 +8,8 @@ returns-in-Err-Refused-clause-refused c =
 
 pub loop-place-preserved : goal.loop-place-preserved
 loop-place-preserved c = record {
-  left = turn_more c.loop-place.place c.loop-place.next c.in-Ok.after c.args.room c.args.edits.now c.index-edits-place.result c.loop-place-test.true c.index-edits-place.is c.in-Ok.ensures.accepted c.in-Ok.ensures.edited ∙ c.loop-place.invariant.left;
-  sound = c.in-Ok.ensures.sound;
+  left = turn_more c.loop-place.place c.loop-place.next _ c.args.room c.args.edits.now c.index-edits-place.result c.loop-place-test.true c.index-edits-place.is c.in-Ok.ensures.accepted c.in-Ok.ensures.edited ∙ c.loop-place.invariant.left;
+  sound = c.made.ensures.sound;
 }
 
 pub returns-clause-made : goal.returns-clause-made

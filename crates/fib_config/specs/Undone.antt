@@ -1,0 +1,30 @@
+-- What taking an edit back gives.
+use Rattle.std.specs.Prelude.{◌≡◌, ℕ, suc, ◌-◌, Bool, List, [], ◌∷◌, length, take, slice_set, cond}
+use Rattle.fib_resolve.specs.Edits.{with_interfaces, with_addresses, with_neighbors, with_routes}
+use Rattle.fib_resolve.specs.declared.types.Route.{Route}
+use Rattle.fib_resolve.specs.declared.types.Tables.{Tables}
+use Rattle.fib_config.specs.declared.undo.Undo.{Undo}
+use Rattle.fib_config.specs.declared.undo.Undo.TheVariants as undos
+
+-- the place of the first that passes, or else the length
+abbrev pub place_of : {X : Type 0} → (X → Bool) → List X → ℕ
+place_of test [] = 0
+place_of test (x ∷ xs) = cond (test x) 0 (suc (place_of test xs))
+
+-- the tables with the part that the edit changed as it was
+unfoldable pub undone : Undo → Tables → Tables
+undone (undos.Interfaces old) S = with_interfaces S old
+undone (undos.Addresses old) S = with_addresses S old
+undone (undos.Neighbors old) S = with_neighbors S old
+undone (undos.Routes old) S = with_routes S old
+undone undos.RouteAdded S = with_routes S (take (length S.routes - 1) S.routes)
+undone (undos.RouteSet place old) S = with_routes S (slice_set S.routes place old)
+
+-- taking it back from these routes gives those
+abbrev pub IsBackOf : Undo → List Route → List Route → Type 0
+IsBackOf (undos.RouteSet place old) new routes = slice_set new place old ≡ routes
+IsBackOf undos.RouteAdded new routes = take (length new - 1) new ≡ routes
+IsBackOf (undos.Routes old) new routes = old ≡ routes
+IsBackOf (undos.Interfaces old) new routes = ⊥
+IsBackOf (undos.Addresses old) new routes = ⊥
+IsBackOf (undos.Neighbors old) new routes = ⊥

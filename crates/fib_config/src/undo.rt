@@ -1,0 +1,19 @@
+// What takes an edit back.
+use fib_resolve::{Address, Interface, List, Neighbor, Route};
+
+/// What takes an edit back, on the tables that it made: `undone` in `specs/Undone` says what each gives.
+#[derive(Drop)]
+pub enum Undo {
+    /// The interfaces are these again.
+    Interfaces(List<Interface>),
+    /// The addresses are these again.
+    Addresses(List<Address>),
+    /// The neighbors are these again.
+    Neighbors(List<Neighbor>),
+    /// The routes are these again.
+    Routes(List<Route>),
+    /// The last route goes.
+    RouteAdded,
+    /// The route at that place is this one again.
+    RouteSet { place: usize, old: Route },
+}
