@@ -1,7 +1,7 @@
 -- What a line does to the version and to the tables.
 use Rattle.std.proofs.Common.{◌≡◌, ◌+◌, ℕ, List, Bool, true, false, Option, Some, None, Result, Ok, Err, refl, inl, inr, ◌⊎◌}
 use Rattle.std.specs.Prelude.{if◌then◌else◌, []}
-use Rattle.fib_resolve.specs.Refusals.{refused, Stop, edited_in_turn}
+use Rattle.fib_resolve.specs.Refusals.{refused, FirstRefused, edited_in_turn}
 use Rattle.fib_resolve.specs.declared.types.Edit.{Edit}
 use Rattle.fib_resolve.specs.declared.types.Refusal.{Refusal}
 use Rattle.fib_resolve.specs.declared.types.Tables.{Tables}
@@ -11,7 +11,7 @@ use Rattle.fib_commands.specs.declared.types.Line.TheVariants as lines
 use Rattle.fib_turns.specs.declared.router.Batch.{Batch}
 use Rattle.fib_turns.specs.declared.router.Router.{Router}
 use Rattle.fib_turns.specs.Routers.{with_batch}
-use Rattle.fib_turns.specs.Turns.{Turn, by_refusal, change_turn, alone, by_stop, commit_turn, within, turn_in, turn_of, asks_in, asks, left_turn, end_turn, refusal_turn}
+use Rattle.fib_turns.specs.Turns.{Turn, by_refusal, change_turn, alone, by_first_refused, commit_turn, within, turn_in, turn_of, asks_in, asks, left_turn, end_turn, refusal_turn}
 use Rattle.fib_print.specs.Lines.{batch_text}
 use Rattle.fib_print.specs.declared.lines.BatchFault.TheVariants as faults
 
@@ -30,9 +30,9 @@ change_steps : (n : ℕ) (r : Router) (edit : Edit) → Steps r (change_turn n r
 unfolding change_turn
 change_steps n r edit = by_refusal_steps n r edit (refused r.config.tables r.config.room edit)
 
-by_stop_steps : (r : Router) (b : Batch) (made : Result Tables Stop) → Steps r (by_stop r b made).0
-by_stop_steps r b (Ok tables) = inr refl
-by_stop_steps r b (Err stop) = inl (refl, refl)
+by_first_refused_steps : (r : Router) (b : Batch) (made : Result Tables FirstRefused) → Steps r (by_first_refused r b made).0
+by_first_refused_steps r b (Ok tables) = inr refl
+by_first_refused_steps r b (Err stop) = inl (refl, refl)
 
 by_spoiled : (n : ℕ) (r : Router) (b : Batch) (spoiled : Bool) (t : Turn) → Steps r t.0 → Steps r (if spoiled then refusal_turn n r (batch_text faults.Spoiled) else t).0
 by_spoiled n r b true t h = inl (refl, refl)
@@ -40,7 +40,7 @@ by_spoiled n r b false t h = h
 
 commit_steps : (n : ℕ) (r : Router) (b : Batch) → Steps r (commit_turn n r b).0
 unfolding commit_turn
-commit_steps n r b = by_spoiled n r b b.spoiled _ (by_stop_steps r b (edited_in_turn r.config.tables r.config.room b.edits))
+commit_steps n r b = by_spoiled n r b b.spoiled _ (by_first_refused_steps r b (edited_in_turn r.config.tables r.config.room b.edits))
 
 alone_steps : (n : ℕ) (r : Router) (said : Option Line) → Steps r (alone n r said).0
 alone_steps n r None = inl (refl, refl)
