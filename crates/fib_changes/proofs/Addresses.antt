@@ -28,7 +28,7 @@ AddressesAgree a all others = (b : Address) → same_address b a ≡ false → C
 address_with : ℕ → ℕ → ℕ → Address
 address_with i addr len = record { interface = i; addr = addr; len = len }
 
-is_it : (b a : Address) → same_address b a ≡ true → b ≡ a
+pub is_it : (b a : Address) → same_address b a ≡ true → b ≡ a
 unfolding address_with
 is_it b a h =
     let x = and_both _ _ h in

@@ -11,3 +11,4 @@ pub mod Cycles
 pub mod EditLaws
 pub mod Prefixed
 pub mod MarkLaws
+pub mod Differing

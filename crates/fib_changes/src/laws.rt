@@ -1,6 +1,6 @@
 //! Laws on what changes touch, each the contract of a function that does nothing.
 
-ghost use Rattle.std.specs.Prelude.{◌≡◌, ◌⊎◌, ◌↔◌, ℕ, List, Bool, true, false, Contains};
+ghost use Rattle.std.specs.Prelude.{◌≡◌, ◌⊎◌, ◌↔◌, ℕ, List, [], ◌∷◌, Bool, true, false, Contains};
 ghost use Rattle.fib_reach.specs.Walks.{Reaches, Leads, Next};
 ghost use Rattle.fib_addr.specs.Prefixes.{Prefix, IsPrefix};
 ghost use Rattle.fib_resolve.specs.declared.types.Tables.{Tables};
@@ -14,6 +14,7 @@ ghost use Rattle.fib_resolve.specs.Touched.{is_touched, differ};
 ghost use Rattle.fib_changes.specs.Sources.{ArePrefixes, HoldsPrefixes, SameSources, SamePairs};
 ghost use Rattle.fib_changes.specs.Causes.{IsCaught, IsThrough, Cause, Within};
 ghost use Rattle.fib_changes.specs.Affected.{affected_by};
+ghost use Rattle.fib_changes.specs.Differ.{Differ, change_of};
 ghost use Rattle.fib_changes.specs.Ranks.{Falls, has_entry, IsRanked};
 ghost use Rattle.fib_changes.specs.Wanted.{aim_by};
 ghost use Rattle.fib_resolve.specs.Aims.{aim, marked_list};
@@ -22,6 +23,11 @@ ghost use Rattle.fib_resolve.specs.Forwarding.{forwards};
 /// The entries of tables whose values are of the Rust types are prefixes: no bit past the length is set.
 pub fn entries_are_prefixes()
     ensures { (S : Tables) → HoldsPrefixes S → (e : Prefix) → Contains (entries S) e → IsPrefix e }
+{}
+
+/// Tables and what an edit makes of them agree but at the one place that the edit changes.
+pub fn edits_differ_there()
+    ensures { (S : Tables) (e : Edit) → IsSound S → Differ (change_of S e ∷ []) S (edited S e) }
 {}
 
 /// A prefix has the same pairs where its sources are the same: its own base pairs, and for a host how its cover attaches it, on which

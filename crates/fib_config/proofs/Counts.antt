@@ -52,6 +52,11 @@ one_more eq x xs =
       | inr isnt ↦ rw isnt (omega arith)
     ]
 
+-- what is put in front adds at most its length
+pub front_count : {K : Type 0} (eq : K → K → Bool) (zs ys : List K) → distinct_count eq (zs ++ ys) ≤ length zs + distinct_count eq ys
+front_count eq [] ys = omega arith
+front_count eq (z ∷ zs) ys = omega (arith, one_more eq z (zs ++ ys), front_count eq zs ys)
+
 pub none_more : {K : Type 0} (eq : K → K → Bool) (x : K) (xs : List K) → is_member eq xs x ≡ true → distinct_count eq (x ∷ xs) ≤ distinct_count eq xs
 none_more eq x xs h = rw h (omega arith)
 

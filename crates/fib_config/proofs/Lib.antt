@@ -2,3 +2,5 @@ pub mod Counts
 pub mod Made
 pub mod Places
 pub mod Within
+pub mod Lists
+pub mod Growing

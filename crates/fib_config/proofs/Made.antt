@@ -1,7 +1,6 @@
 -- What is known of an edit before its size is.
-use Rattle.std.proofs.Common.{arith, ◌≡◌, ℕ, ◌+◌, ◌≤◌, ◌<◌, true, false, List, ◌∷◌, length, drop, Some, None, get_or, refl, sym, ◌∙◌, ap, subst}
-use Rattle.std.specs.Prelude.{nat_lt, Ok, Err}
-use Rattle.std.proofs.lemmas.Bool.{ltb-true, ltb-false}
+use Rattle.std.proofs.Common.{arith, ◌≡◌, ℕ, ◌+◌, ◌-◌, ◌^◌, ◌≤◌, ◌<◌, min, List, ◌∷◌, length, drop, Some, None, get_or, refl, sym, ◌∙◌, ap, subst}
+use Rattle.std.specs.Prelude.{Ok, Err}
 use Rattle.std.proofs.lemmas.List.{drop_more, drop_all}
 use Rattle.fib_resolve.specs.Tables.{IsSound}
 use Rattle.fib_resolve.specs.Edits.{edited}
@@ -10,6 +9,8 @@ use Rattle.fib_resolve.specs.Refusals.{first_reason, reasons, refused, edited_fr
 use Rattle.fib_resolve.specs.Reachable.{IsWritten}
 use Rattle.fib_resolve.proofs.Refused.{refused_own, refused_size, refused_none}
 use Rattle.fib_resolve.proofs.Sound.{sound_edit}
+use Rattle.fib_config.specs.inner.Bounds.{allowance, growth, IsBoundFor}
+use Rattle.fib_config.proofs.Growing.{edit_allowed}
 use Rattle.fib_resolve.specs.declared.types.Refusal.{Refusal}
 use Rattle.fib_resolve.specs.declared.types.Refusal.TheVariants as refusals
 use Rattle.fib_resolve.specs.declared.types.Tables.{Tables}
@@ -25,11 +26,18 @@ made_sound_at S T e is none sound written = subst IsSound (sym is) (made_sound S
 pub made_refused : (S : Tables) (room : ℕ) (e : Edit) (r : Refusal) → first_reason (reasons S e) ≡ Some r → refused S room e ≡ Some r
 made_refused S room e r h = refused_own S room e r h
 
-pub made_large : (S T : Tables) (room : ℕ) (e : Edit) → T ≡ edited S e → nat_lt room (size T) ≡ true → first_reason (reasons S e) ≡ None → refused S room e ≡ Some refusals.TooLarge
-made_large S T room e is large none = refused_size S room e none (ltb-true room (size (edited S e)) (ap (λ (X : Tables). nat_lt room (size X)) (sym is) ∙ large))
+pub made_large : (S T : Tables) (room : ℕ) (e : Edit) → T ≡ edited S e → room < size T → first_reason (reasons S e) ≡ None → refused S room e ≡ Some refusals.TooLarge
+made_large S T room e is large none = refused_size S room e none (subst (λ (X : Tables). room < size X) is large)
 
-pub made_fits : (S T : Tables) (room : ℕ) (e : Edit) → T ≡ edited S e → nat_lt room (size T) ≡ false → first_reason (reasons S e) ≡ None → refused S room e ≡ None
-made_fits S T room e is fits none = refused_none S room e none (ltb-false room (size (edited S e)) (ap (λ (X : Tables). nat_lt room (size X)) (sym is) ∙ fits))
+pub made_fits : (S T : Tables) (room : ℕ) (e : Edit) → T ≡ edited S e → size T ≤ room → first_reason (reasons S e) ≡ None → refused S room e ≡ None
+made_fits S T room e is fits none = refused_none S room e none (subst (λ (X : Tables). size X ≤ room) is fits)
+
+-- the bound that grew with the edit bounds what the edit made
+pub made_bounded : (S T : Tables) (e : Edit) (bound more grown : ℕ) → T ≡ edited S e → IsWritten e → IsBoundFor bound (allowance S) → IsBoundFor more (growth e) → grown ≡ min (bound + more) (2 ^ 64 - 1) → IsBoundFor grown (allowance T)
+made_bounded S T e bound more grown is written bounded by sum =
+    let raised = edit_allowed S e written in
+    let at : allowance T ≡ allowance (edited S e) = ap allowance is in
+    omega (arith, raised, at, bounded, by, sum)
 
 step : (i : ℕ) (S : Tables) (room : ℕ) (es : List Edit) (e : Edit) → i < length es → e ≡ get_or es i e → edited_from i S room (drop i es) ≡ edited_from i S room (e ∷ drop (i + 1) es)
 step i S room es e lt is = ap (edited_from i S room) (drop_more es i e lt ∙ ap (λ x. x ∷ drop (i + 1) es) (sym is))

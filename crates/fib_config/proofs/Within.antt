@@ -1,8 +1,8 @@
--- The size of tables is within its plain bound.
+-- The size of tables is within their allowance, and this within what the program counts.
 use Rattle.std.proofs.Common.{arith, ◌≡◌, ℕ, suc, ◌+◌, ◌-◌, ◌*◌, ◌/◌, ◌≤◌, ◌<◌, ◌==◌, Bool, true, false, cond, List, [], ◌∷◌, ◌++◌, map, length, Option, Some, None, inl, inr, refl, sym, ◌∙◌, ap, subst, get_or, zero-add, take, min, ◌^◌}
 use Rattle.std.specs.Prelude.{Contains, All, flat_map, sum_by, IfSome, nat_lt, nat_le, not, Decides}
 use Rattle.std.specs.List.{AllByRecursion, range_with_len}
-use Rattle.std.specs.Set.{is_member, distinct_count}
+use Rattle.std.specs.Set.{is_member, unique_keys, distinct_count}
 use Rattle.std.specs.List.Sorted.{IsPermutation}
 use Rattle.std.proofs.lemmas.List.Sorted.{Contains-permutation, IsPermutation-refl}
 use Rattle.std.specs.Cmp.{decided, first_so, second_so}
@@ -28,9 +28,11 @@ use Rattle.fib_resolve.specs.declared.types.PathKind.{PathKind}
 use Rattle.fib_resolve.specs.declared.types.PathKind.TheVariants as kinds
 use Rattle.fib_resolve.specs.declared.types.FibSource.TheVariants as sources
 use Rattle.fib_resolve.specs.declared.types.Tables.{Tables}
+use Rattle.fib_resolve.proofs.Covering.{unique_in}
+use Rattle.fib_changes.specs.Sources.{all_hops}
 use Rattle.fib_resolve.proofs.PairLaws.{cond_has, each-all, each-unique, best_has}
-use Rattle.fib_config.specs.Bounds.{own_prefixes, prefix_of_route, host_of, candidates, depth_of, is_shared, left_behind, steps, is_end_kind, is_end, ends_of, IsBoundFor}
-use Rattle.fib_config.proofs.Counts.{count_within, count_within_length, one_more, none_more, count_front, each-left, each-right, each-of_map, each-of_flat_map}
+use Rattle.fib_config.specs.inner.Bounds.{own_prefixes, prefix_of_route, host_of, candidates, depth_of, is_shared, left_behind, steps, route_ends, neighbor_end, ends, same_number, possible, allowance, IsBoundFor}
+use Rattle.fib_config.proofs.Counts.{count_within, count_within_length, front_count, one_more, none_more, count_front, each-left, each-right, each-of_map, each-of_flat_map}
 
 pub each-from_all : {X : Type 0} (P : X → Type 0) (xs : List X) → All P xs → AllByRecursion P xs
 each-from_all P [] h = tt
@@ -39,7 +41,7 @@ each-from_all P (x ∷ xs) h = (h 0 x (omega arith), each-from_all P xs (λ k d 
 each-at_member : {X : Type 0} (P : X → Type 0) (xs : List X) (x : X) → AllByRecursion P xs → Contains xs x → P x
 each-at_member P xs x h c = All-contains P xs x (All-from_recursion P xs h) c
 
-each-itself : {X : Type 0} (xs : List X) → AllByRecursion (Contains xs) xs
+pub each-itself : {X : Type 0} (xs : List X) → AllByRecursion (Contains xs) xs
 each-itself xs = each-from_all (Contains xs) xs (All-contains_itself xs)
 
 prefix_member : (ps : List Prefix) (p : Prefix) → Contains ps p → is_member same_prefix ps p ≡ true
@@ -181,7 +183,7 @@ same_ends : (x y : Adjacency) → (x.interface ≡ y.interface) × (x.next_hop �
 unfolding adjacency_with
 same_ends x y h = ap (λ n. adjacency_with n x.next_hop) h.0 ∙ ap (λ n. adjacency_with y.interface n) h.1
 
-same_adjacency-Decides : (x y : Adjacency) → Decides (same_adjacency x y) (x ≡ y)
+pub same_adjacency-Decides : (x y : Adjacency) → Decides (same_adjacency x y) (x ≡ y)
 same_adjacency-Decides x y =
     Decides-like (same_adjacency x y) (same_ends x y) (λ e. (ap (λ (z : Adjacency). z.interface) e, ap (λ (z : Adjacency). z.next_hop) e))
     (Decides-and (x.interface == y.interface) (x.next_hop == y.next_hop) (Decides-eqb x.interface y.interface) (Decides-eqb x.next_hop y.next_hop))
@@ -191,9 +193,6 @@ pair_adjacencies x = flat_map (λ p. kind_adjacency x.prefix p.kind) x.paths
 
 abbrev connected_adjacencies : Address → List Adjacency
 connected_adjacencies a = flat_map pair_adjacencies (connected_pairs a)
-
-abbrev route_adjacencies : Route → List Adjacency
-route_adjacencies r = pair_adjacencies (route_pair r)
 
 abbrev neighbor_adjacencies : Tables → Neighbor → List Adjacency
 neighbor_adjacencies S n = flat_map pair_adjacencies (neighbor_pairs S n)
@@ -213,7 +212,7 @@ module _ (S : Tables) (hops : List ℕ) (C : List Adjacency) (hs : AllByRecursio
 
   ends_in :
       AllByRecursion (Contains C) (flat_map connected_adjacencies S.addresses) →
-      AllByRecursion (Contains C) (flat_map route_adjacencies S.routes) →
+      AllByRecursion (Contains C) (flat_map route_ends S.routes) →
       AllByRecursion (Contains C) (flat_map (neighbor_adjacencies S) S.neighbors) →
       AllByRecursion (Contains C) (flat_map (derived_adjacencies S) hops) → AllByRecursion AreIn (pairs S)
   unfolding pairs all_pairs base_pairs
@@ -224,7 +223,7 @@ module _ (S : Tables) (hops : List ℕ) (C : List Adjacency) (hs : AllByRecursio
       let derived = map (derived_pair S) (flat_map recursive_hops S.routes) in
       let connected_are = each-flat_map AreIn connected_pairs S.addresses (each-weaker (λ a. AllByRecursion (Contains C) (connected_adjacencies a)) (λ a. AllByRecursion AreIn (connected_pairs a)) (λ a h. each-of_flat_map (Contains C) pair_adjacencies (connected_pairs a) h) S.addresses (each-of_flat_map (Contains C) connected_adjacencies S.addresses of_connected)) in
       let edges_are = each-flat_map AreIn (edge_pairs S.addresses) S.addresses (each-all (λ a. AllByRecursion AreIn (edge_pairs S.addresses a)) edges_free S.addresses) in
-      let routes_are = each-map AreIn route_pair S.routes (each-of_flat_map (Contains C) route_adjacencies S.routes of_routes) in
+      let routes_are = each-map AreIn route_pair S.routes (each-of_flat_map (Contains C) route_ends S.routes of_routes) in
       let neighbors_are = each-flat_map AreIn (neighbor_pairs S) S.neighbors (each-weaker (λ n. AllByRecursion (Contains C) (neighbor_adjacencies S n)) (λ n. AllByRecursion AreIn (neighbor_pairs S n)) (λ n h. each-of_flat_map (Contains C) pair_adjacencies (neighbor_pairs S n) h) S.neighbors (each-of_flat_map (Contains C) (neighbor_adjacencies S) S.neighbors of_neighbors)) in
       let hops_are = each-of_flat_map (Contains C) (derived_adjacencies S) hops of_derived in
       let derived_are = each-map AreIn (derived_pair S) (flat_map recursive_hops S.routes) (each-weaker (Contains hops) (λ a. AreIn (derived_pair S a)) (λ a c. each-at_member (λ x. AreIn (derived_pair S x)) hops a hops_are c) (flat_map recursive_hops S.routes) hs) in
@@ -243,23 +242,19 @@ module _ (S : Tables) (hops : List ℕ) (C : List Adjacency) (hs : AllByRecursio
   unfolding chosen
   chosen_in h e = best_in e (best_pair e (pairs S)) (best_has AreIn e (pairs S) h)
 
-  adjacencies_within : AllByRecursion AreIn (pairs S) → length (adjacencies S) ≤ length C
+  adjacencies_within : AllByRecursion AreIn (pairs S) → length (adjacencies S) ≤ distinct_count same_adjacency C
   unfolding adjacencies
   adjacencies_within h =
       let all = flat_map (adjacencies_of S) (entries S) in
-      count_within_length (decided same_adjacency same_adjacency-Decides) all C
+      count_within (decided same_adjacency same_adjacency-Decides) all C
       (each-weaker (Contains C) (λ x. is_member same_adjacency C x ≡ true) (λ x c. (is_member-Decides same_adjacency-Decides C x).1 c) all
       (each-flat_map (Contains C) (adjacencies_of S) (entries S) (each-all (λ e. AllByRecursion (Contains C) (adjacencies_of S e)) (chosen_in h) (entries S))))
-
-length-by : {X Y : Type 0} (f : X → List Y) (g : X → ℕ) → ((x : X) → length (f x) ≤ g x) → (xs : List X) → length (flat_map f xs) ≤ sum_by g xs
-length-by f g h [] = omega arith
-length-by f g h (x ∷ xs) = omega (arith, h x, length-by f g h xs, length-append (f x) (flat_map f xs), sum_by-cons g x xs)
 
 length-each : {X Y : Type 0} (f : X → List Y) → ((x : X) → length (f x) ≤ 1) → (xs : List X) → length (flat_map f xs) ≤ length xs
 length-each f h [] = omega arith
 length-each f h (x ∷ xs) = omega (arith, h x, length-each f h xs, length-append (f x) (flat_map f xs))
 
-kind_length : (e : Prefix) (k : PathKind) → length (kind_adjacency e k) ≤ cond (is_end_kind k) 1 0
+pub kind_length : (e : Prefix) (k : PathKind) → length (kind_adjacency e k) ≤ 1
 kind_length e (kinds.Hop a i) = omega arith
 kind_length e (kinds.Attached i) = cond_has (λ (xs : List Adjacency). length xs ≤ 1) (e.len == 32) (record { interface = i; next_hop = e.bits } ∷ []) [] (omega arith) (omega arith)
 kind_length e kinds.Drop = omega arith
@@ -267,13 +262,8 @@ kind_length e kinds.Local = omega arith
 kind_length e (kinds.Recursive a) = omega arith
 kind_length e kinds.Cover = omega arith
 
-route_length : (r : Route) → length (route_adjacencies r) ≤ ends_of r
-route_length r = length-by (λ p. kind_adjacency r.prefix p.kind) (λ p. cond (is_end p) 1 0) (λ p. kind_length r.prefix p.kind) r.paths
-
 one_length : (e : Prefix) (k : PathKind) → length (kind_adjacency e k ++ []) ≤ 1
-one_length e k =
-    let most : cond (is_end_kind k) 1 0 ≤ 1 = cond_has (λ n. n ≤ 1) (is_end_kind k) 1 0 (omega arith) (omega arith) in
-    omega (arith, kind_length e k, most, length-append (kind_adjacency e k) [])
+one_length e k = omega (arith, kind_length e k, length-append (kind_adjacency e k) [])
 
 connected_length : (a : Address) → length (connected_adjacencies a) ≤ 1
 connected_length a =
@@ -282,71 +272,97 @@ connected_length a =
     cond_has (λ (xs : List Pair). length (flat_map pair_adjacencies (xs ++ itself ∷ [])) ≤ 1) (nat_lt a.len 32) (own ∷ []) []
     (let e = one_length (masked a.addr a.len) (kinds.Attached a.interface) in omega (arith, e, length-append (kind_adjacency (masked a.addr a.len) (kinds.Attached a.interface) ++ []) [])) (omega arith)
 
-neighbor_length : (S : Tables) (n : Neighbor) → length (neighbor_adjacencies S n) ≤ 1
+neighbor_in_ends : (S : Tables) (C : List Adjacency) (n : Neighbor) → Contains C (neighbor_end n) → AllByRecursion (Contains C) (neighbor_adjacencies S n)
 unfolding neighbor_pairs
-neighbor_length S n =
-    cond_has (λ (xs : List Pair). length (flat_map pair_adjacencies xs) ≤ 1) (is_interface (attached_by S n.addr) n.interface) (one (host n.addr) sources.Adjacency (kinds.Hop n.addr n.interface) ∷ []) [] (omega arith) (omega arith)
+neighbor_in_ends S C n h =
+    cond_has (λ (xs : List Pair). AllByRecursion (Contains C) (flat_map pair_adjacencies xs)) (is_interface (attached_by S n.addr) n.interface) (one (host n.addr) sources.Adjacency (kinds.Hop n.addr n.interface) ∷ []) [] (h, tt) tt
 
 derived_length : (S : Tables) (a : ℕ) → length (derived_adjacencies S a) ≤ 1
 unfolding derived_pair
 derived_length S a = one_length (host a) (derived_kind a (attached_by S a))
 
-pub adjacencies_count : (S : Tables) (hops : List ℕ) → AllByRecursion (Contains hops) (flat_map recursive_hops S.routes) → length (adjacencies S) ≤ length S.addresses + length S.neighbors + sum_by ends_of S.routes + length hops
+pub adjacencies_count : (S : Tables) (hops : List ℕ) → AllByRecursion (Contains hops) (all_hops S) → length (adjacencies S) ≤ distinct_count same_adjacency (ends S) + length S.addresses + length hops
+unfolding ends
 adjacencies_count S hops hs =
     let a = flat_map connected_adjacencies S.addresses in
-    let r = flat_map route_adjacencies S.routes in
-    let n = flat_map (neighbor_adjacencies S) S.neighbors in
+    let r = flat_map route_ends S.routes in
+    let n = map neighbor_end S.neighbors in
     let d = flat_map (derived_adjacencies S) hops in
-    let C = a ++ r ++ n ++ d in
+    let C = (a ++ d) ++ (r ++ n) in
     let P : Adjacency → Type 0 = Contains C in
     let all = each-itself C in
-    let arn = each-left P (a ++ r ++ n) d all in
-    let ar = each-left P (a ++ r) n arn in
-    let within = adjacencies_within S hops C hs (ends_in S hops C hs (each-left P a r ar) (each-right P a r ar) (each-right P (a ++ r) n arn) (each-right P (a ++ r ++ n) d all)) in
+    let front = each-left P (a ++ d) (r ++ n) all in
+    let back = each-right P (a ++ d) (r ++ n) all in
+    let near = each-of_map P neighbor_end S.neighbors (each-right P r n back) in
+    let neighbors = each-flat_map P (neighbor_adjacencies S) S.neighbors (each-weaker (λ x. P (neighbor_end x)) (λ x. AllByRecursion P (neighbor_adjacencies S x)) (neighbor_in_ends S C) S.neighbors near) in
+    let within = adjacencies_within S hops C hs (ends_in S hops C hs (each-left P a d front) (each-left P r n back) neighbors (each-right P a d front)) in
     omega (
       arith,
       within,
-      length-append (a ++ r ++ n) d,
-      length-append (a ++ r) n,
-      length-append a r,
+      front_count same_adjacency (a ++ d) (r ++ n),
+      length-append a d,
       length-each connected_adjacencies connected_length S.addresses,
-      length-by route_adjacencies ends_of route_length S.routes,
-      length-each (neighbor_adjacencies S) (neighbor_length S) S.neighbors,
       length-each (derived_adjacencies S) (derived_length S) hops,
     )
 
--- the whole bound, from prefixes that contain every candidate
-pub size_count : (S : Tables) (hops : List ℕ) (qs : List Prefix) → All (Contains hops) (flat_map recursive_hops S.routes) → All (Contains qs) (candidates S hops) → size S ≤ 1 + steps everything qs + (length S.addresses + length S.neighbors + sum_by ends_of S.routes + length hops)
-unfolding size
-size_count S hops qs hs cs =
-    let Q = everything ∷ qs in
-    let hops_in = each-from_all (Contains hops) (flat_map recursive_hops S.routes) hs in
-    let in_all = each-weaker (Contains qs) (Contains Q) (λ p c. Contains-append_right (everything ∷ []) qs p c) (candidates S hops) (each-from_all (Contains qs) (candidates S hops) cs) in
-    omega (arith, entries_count S hops Q in_all hops_in, plies_count S hops Q in_all hops_in, steps_count everything qs, adjacencies_count S hops hops_in)
+pub same_number-Decides : (a b : ℕ) → Decides (same_number a b) (a ≡ b)
+same_number-Decides a b = Decides-eqb a b
+
+-- what is left without repeats has every item
+unique_each : {X : Type 0} (eq : X → X → Bool) → ((a b : X) → Decides (eq a b) (a ≡ b)) → (xs : List X) → AllByRecursion (Contains (unique_keys eq xs)) xs
+unique_each eq same xs =
+    each-weaker (Contains xs) (Contains (unique_keys eq xs))
+    (λ x c. (unique_in eq (decided eq same) (λ a b e. (same a b).0 e) xs x).0 c) xs (each-itself xs)
+
+hops_each : (hops : List ℕ) → AllByRecursion (Contains (unique_keys same_number hops)) hops
+hops_each hops = unique_each same_number same_number-Decides hops
+
+-- the size is within what is allowed for
+pub size_allowed : (S : Tables) → size S ≤ allowance S
+unfolding size allowance possible
+size_allowed S =
+    let hops = all_hops S in
+    let Q = everything ∷ candidates S hops in
+    let in_all = each-weaker (Contains (candidates S hops)) (Contains Q) (λ p c. Contains-append_right (everything ∷ []) (candidates S hops) p c) (candidates S hops) (each-itself (candidates S hops)) in
+    omega (arith, entries_count S hops Q in_all (each-itself hops), plies_count S hops Q in_all (each-itself hops), adjacencies_count S (unique_keys same_number hops) (hops_each hops))
 
 -- what is in another order
 pub all_permuted : {X : Type 0} (xs ys : List X) → IsPermutation xs ys → All (Contains ys) xs
 all_permuted xs ys p k d l = Contains-permutation xs ys (get_or xs k d) p (All-contains_itself xs k d l)
 
-pub all_moved : {X : Type 0} (out xs ys : List X) → IsPermutation xs ys → All (Contains out) ys → All (Contains out) xs
-all_moved out xs ys p h k d l = All-contains (Contains out) ys (get_or xs k d) h (all_permuted xs ys p k d l)
-
-pub all_taken : {X : Type 0} (out xs ys zs : List X) → xs ≡ zs → IsPermutation xs ys → All (Contains out) ys → All (Contains out) zs
-all_taken out xs ys zs e p h = subst (λ l. All (Contains out) l) e (all_moved out xs ys p h)
-
--- one more is found in what contains all that the list before does
-pub all_more : {X : Type 0} (old new xs : List X) (i : ℕ) (x : X) → i < length xs → x ≡ get_or xs i x → ((y : X) → Contains old y → Contains new y) → Contains new x → All (Contains old) (take i xs) → All (Contains new) (take (i + 1) xs)
-all_more old new xs i x l e kept has h =
-    subst (λ ys. All (Contains new) ys) (sym (take_more xs i x l))
-    (All-append (Contains new) (take i xs) (get_or xs i x ∷ [])
-    (λ k d b. kept (get_or (take i xs) k d) (h k d b))
-    (All-from_recursion (Contains new) (get_or xs i x ∷ []) (subst (Contains new) e has, tt)))
+-- what the program counts: the steps along sorted prefixes, the Hop ends, the addresses and the next hops
+pub allowance_counted : (S : Tables) (hops : List ℕ) (qs : List Prefix) (found : List Adjacency) → All (Contains hops) (all_hops S) → All (Contains qs) (candidates S hops) → All (Contains found) (ends S) → allowance S ≤ 1 + steps everything qs + (length found + length S.addresses + length hops)
+unfolding allowance possible candidates
+allowance_counted S hops qs found hs cs es =
+    let all = all_hops S in
+    let Q = everything ∷ qs in
+    let own = map prefix_of fixed_pairs ++ flat_map own_prefixes S.addresses ++ map prefix_of_route S.routes ++ map host_of S.neighbors in
+    let inside = each-from_all (Contains qs) (own ++ map host hops) cs in
+    let hosts = each-of_map (Contains qs) host hops (each-right (Contains qs) own (map host hops) inside) in
+    let all_in = each-append (Contains qs) own (map host all) (each-left (Contains qs) own (map host hops) inside)
+      (each-map (Contains qs) host all (each-weaker (Contains hops) (λ a. Contains qs (host a)) (λ a c. each-at_member (λ x. Contains qs (host x)) hops a hosts c) all (each-from_all (Contains hops) all hs))) in
+    let within : AllByRecursion (Contains Q) (everything ∷ (own ++ map host all)) = (
+      Contains-append_left (everything ∷ []) qs everything (0, omega arith, refl),
+      each-weaker (Contains qs) (Contains Q) (λ p c. Contains-append_right (everything ∷ []) qs p c) (own ++ map host all) all_in,
+    ) in
+    let entries = count_within same_prefix_equiv (everything ∷ (own ++ map host all)) Q (each-weaker (Contains Q) (λ p. is_member same_prefix Q p ≡ true) (prefix_member Q) (everything ∷ (own ++ map host all)) within) in
+    let plies = count_within same_prefix_equiv (flat_map plies_of (everything ∷ (own ++ map host all))) (flat_map plies_of Q)
+      (each-flat_map (λ p. is_member same_prefix (flat_map plies_of Q) p ≡ true) plies_of (everything ∷ (own ++ map host all))
+      (each-weaker (Contains Q) (λ e. AllByRecursion (λ p. is_member same_prefix (flat_map plies_of Q) p ≡ true) (plies_of e)) (plies_among Q) (everything ∷ (own ++ map host all)) within)) in
+    let near = count_within_length (decided same_adjacency same_adjacency-Decides) (ends S) found
+      (each-weaker (Contains found) (λ x. is_member same_adjacency found x ≡ true) (λ x c. (is_member-Decides same_adjacency-Decides found x).1 c) (ends S) (each-from_all (Contains found) (ends S) es)) in
+    let next = count_within_length (decided same_number same_number-Decides) all hops
+      (each-weaker (Contains hops) (λ x. is_member same_number hops x ≡ true) (λ x c. (is_member-Decides same_number-Decides hops x).1 c) all (each-from_all (Contains hops) all hs)) in
+    omega (arith, entries, plies, steps_count everything qs, near, next)
+  where
+    plies_among : (Q : List Prefix) (e : Prefix) → Contains Q e → AllByRecursion (λ p. is_member same_prefix (flat_map plies_of Q) p ≡ true) (plies_of e)
+    plies_among Q e c =
+        each-weaker (Contains (plies_of e)) (λ p. is_member same_prefix (flat_map plies_of Q) p ≡ true)
+        (λ p k. prefix_member (flat_map plies_of Q) p (Contains-flat_map plies_of Q e p c k)) (plies_of e) (each-itself (plies_of e))
 
 -- the sum that the program makes
-pub bound_reaches : (S : Tables) (hops : List ℕ) (found sorted : List Prefix) (count objects ends r : ℕ) → All (Contains hops) (flat_map recursive_hops S.routes) → found ≡ candidates S hops → IsPermutation found sorted → IsBoundFor count (steps everything sorted) → objects ≡ min (count + 1) (2 ^ 64 - 1) → IsBoundFor ends (length S.addresses + length S.neighbors + sum_by ends_of S.routes + length hops) → r ≡ min (objects + ends) (2 ^ 64 - 1) → IsBoundFor r (size S)
-bound_reaches S hops found sorted count objects ends r hs e p counted plus ended total =
-    let cs = all_taken sorted found found (candidates S hops) e (IsPermutation-refl found) (all_permuted found sorted p) in
-    omega (arith, size_count S hops sorted hs cs, counted, plus, ended, total)
-
-pub all_whole : {X : Type 0} (out xs : List X) (i : ℕ) → length xs ≤ i → All (Contains out) (take i xs) → All (Contains out) xs
-all_whole out xs i over h = subst (λ ys. All (Contains out) ys) (take_all i xs over) h
+pub allowance_reached : (S : Tables) (hops : List ℕ) (sorted : List Prefix) (found : List Adjacency) (count objects others r : ℕ) → hops ≡ unique_keys same_number (all_hops S) → IsPermutation (candidates S hops) sorted → found ≡ unique_keys same_adjacency (ends S) → IsBoundFor count (steps everything sorted) → IsBoundFor objects (1 + count) → IsBoundFor others (length found + length S.addresses + length hops) → IsBoundFor r (objects + others) → IsBoundFor r (allowance S)
+allowance_reached S hops sorted found count objects others r next p near counted plus ended total =
+    let hs : AllByRecursion (Contains hops) (all_hops S) = subst (λ l. AllByRecursion (Contains l) (all_hops S)) (sym next) (hops_each (all_hops S)) in
+    let es : AllByRecursion (Contains found) (ends S) = subst (λ l. AllByRecursion (Contains l) (ends S)) (sym near) (unique_each same_adjacency same_adjacency-Decides (ends S)) in
+    omega (arith, allowance_counted S hops sorted found (All-from_recursion (Contains hops) (all_hops S) hs) (all_permuted (candidates S hops) sorted p) (All-from_recursion (Contains found) (ends S) es), counted, plus, ended, total)

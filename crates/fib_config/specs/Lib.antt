@@ -1,3 +1,3 @@
-pub mod Bounds
+pub mod inner
 pub mod Config
 pub mod Undone

@@ -1,85 +1,19 @@
-// A plain upper bound on the size of tables, for which no cover is sought.
+// An upper bound on the size of tables, for which no cover is sought, and by how much an edit raises it.
 ghost use Rattle.std.specs.Prelude.{◌≡◌, ℕ, ◌≤◌, ◌<◌, ◌+◌, ◌-◌, ◌^◌, ◌/◌, ◌++◌, ◌∷◌, [], true, OnOk, IfOk, map, flat_map, filter_map, length, count_by, sum_by, Contains, not};
 ghost use Rattle.std.specs.List.{AllByRecursion, All, range_with_len};
 ghost use Rattle.fib_addr.specs.Longest.{everything};
 ghost use Rattle.fib_addr.specs.Prefixes.{host};
-ghost use Rattle.fib_resolve.specs.Pairs.{fixed_pairs, prefix_of, recursive_kind, recursive_of, recursive_hops};
-ghost use Rattle.fib_resolve.specs.Sizes.{size};
+ghost use Rattle.fib_resolve.specs.Pairs.{fixed_pairs, prefix_of};
+ghost use Rattle.fib_resolve.specs.Sizes.{same_adjacency};
+ghost use Rattle.std.specs.Set.{unique_keys};
+ghost use Rattle.std.specs.List.Sorted.{IsPermutation};
+ghost use Rattle.fib_changes.specs.Sources.{all_hops};
 ghost use Rattle.fib_resolve.specs.Tables.{IsSound};
-ghost use Rattle.fib_config.specs.Bounds.{own_prefixes, prefix_of_route, host_of, candidates, depth_of, is_shared, left_behind, steps, is_end_kind, is_end, ends_of, IsBoundFor};
+ghost use Rattle.fib_config.specs.inner.Bounds.{own_prefixes, prefix_of_route, host_of, candidates, depth_of, is_shared, left_behind, steps, route_ends, neighbor_end, ends, same_number, allowance, growth, IsBoundFor};
 
 use fib_addr::{Addr, Prefix};
-use fib_resolve::{Address, Neighbor, Path, PathKind, Route, Tables};
+use fib_resolve::{Address, Adjacency, Edit, Neighbor, Route, Tables};
 use std::alloc::{AllocError, Global};
-
-fn recursive_hop(path: &Path) -> Option<Addr>
-    ensures { result ≡ recursive_of path.now }
-{
-    match path.kind {
-        PathKind::Recursive(a) => Some(a),
-        _ => None,
-    }
-}
-
-fn hops_of(alloc: Global, paths: &[Path]) -> Result<Vec<Addr>, AllocError>
-    ensures { IfOk result (λ v. v.items ≡ filter_map recursive_of paths.now) }
-{
-    paths.iter().filter_map(|p| recursive_hop(p)).collect(alloc)
-}
-
-// The next hops of all recursive paths, with repeats.
-fn all_hops(alloc: Global, routes: &[Route]) -> Result<Vec<Addr>, AllocError>
-    ensures { IfOk result (λ v. v.items ≡ flat_map recursive_hops routes.now) }
-{
-    let mut out = Vec::new(alloc);
-    for r in routes {
-        let hops = hops_of(alloc, r.paths.as_slice())?;
-        out.extend_from_slice(hops.as_slice())?;
-    }
-    Ok(out)
-}
-
-fn is_last(hops: &[Addr], hop: Addr) -> bool
-    ensures { result ≡ true → Contains hops.now hop }
-{
-    match hops.last() {
-        Some(last) => *last == hop,
-        None => false,
-    }
-}
-
-// Appends the address, unless it is the last already.
-fn add_hop(out: &mut Vec<Addr>, hop: Addr) -> Result<(), AllocError>
-    ensures kept { OnOk result ((x : ℕ) → Contains out.old.items x → Contains out.new.items x) }
-    ensures has { OnOk result (Contains out.new.items hop) }
-{
-    if is_last(out.as_slice(), hop) {
-        return Ok(());
-    }
-    out.push(hop)?;
-    Ok(())
-}
-
-// The addresses without those that equal the one before.
-fn without_runs(alloc: Global, hops: &[Addr]) -> Result<Vec<Addr>, AllocError>
-    ensures { IfOk result (λ v. All (Contains v.items) hops.now) }
-{
-    let mut out = Vec::new(alloc);
-    for hop in hops {
-        add_hop(&mut out, *hop)?;
-    }
-    Ok(out)
-}
-
-// The next hops of all recursive paths, each once.
-fn next_hops(alloc: Global, routes: &[Route]) -> Result<Vec<Addr>, AllocError>
-    ensures { IfOk result (λ v. All (Contains v.items) (flat_map recursive_hops routes.now)) }
-{
-    let mut hops = all_hops(alloc, routes)?;
-    hops.sort()?;
-    let distinct = without_runs(alloc, hops.as_slice())?;
-    Ok(distinct)
-}
 
 fn add_fixed(out: &mut Vec<Prefix>) -> Result<(), AllocError>
     ensures { OnOk result (out.new.items ≡ out.old.items ++ map prefix_of fixed_pairs) }
@@ -142,7 +76,7 @@ fn add_hosts(out: &mut Vec<Prefix>, hops: &[Addr]) -> Result<(), AllocError>
 }
 
 // Every prefix that can be effective, with repeats.
-#[tactic(auto, using(fib_resolve::proofs::Sound::short_addresses), unfolding(crate::specs::Bounds::candidates))]
+#[tactic(auto, using(fib_resolve::proofs::Sound::short_addresses), unfolding(crate::specs::inner::Bounds::candidates))]
 fn candidates(alloc: Global, tables: &Tables, hops: &[Addr]) -> Result<Vec<Prefix>, AllocError>
     requires { IsSound tables.now }
     ensures { IfOk result (λ v. v.items ≡ candidates tables.now hops.now) }
@@ -181,7 +115,7 @@ fn plies_left_behind(p: Prefix, q: Prefix) -> usize
 }
 
 // The entry and the plies of the first that the second doesn't have.
-#[tactic(auto, unfolding(crate::specs::Bounds::left_behind))]
+#[tactic(auto, unfolding(crate::specs::inner::Bounds::left_behind))]
 fn left_behind(p: Prefix, q: Prefix) -> usize
     ensures { IsBoundFor result (left_behind p q) }
 {
@@ -190,7 +124,7 @@ fn left_behind(p: Prefix, q: Prefix) -> usize
 }
 
 // The entries and plies of the prefixes and of 0.0.0.0/0, where each counts unless the next prefix has it.
-#[tactic(auto, unfolding(crate::specs::Bounds::steps))]
+#[tactic(auto, unfolding(crate::specs::inner::Bounds::steps))]
 fn steps(prefixes: &[Prefix]) -> usize
     ensures { IsBoundFor result (steps everything prefixes.now) }
 {
@@ -205,48 +139,109 @@ fn steps(prefixes: &[Prefix]) -> usize
         .saturating_add(usize::from(depth_of(last)))
 }
 
-fn is_end(path: &Path) -> bool
-    ensures { result ≡ is_end path.now }
+fn add_ends_of(out: &mut Vec<Adjacency>, route: &Route) -> Result<(), AllocError>
+    ensures { OnOk result (out.new.items ≡ out.old.items ++ route_ends route.now) }
 {
-    matches!(path.kind, PathKind::Hop { .. } | PathKind::Attached(_))
+    fib_plain::add_adjacencies(out, route.prefix, route.paths.as_slice())
 }
 
-fn ends_of(route: &Route) -> usize
-    ensures { result ≡ ends_of route.now }
+fn add_route_ends(out: &mut Vec<Adjacency>, routes: &[Route]) -> Result<(), AllocError>
+    ensures { OnOk result (out.new.items ≡ out.old.items ++ flat_map route_ends routes.now) }
 {
-    route.paths.as_slice().iter().filter(|p| is_end(p)).count()
-}
-
-// How many paths have a Hop end of their own.
-fn ends(routes: &[Route]) -> usize
-    ensures { IsBoundFor result (sum_by ends_of routes.now) }
-{
-    let mut count = 0usize;
     for r in routes {
-        count = count.saturating_add(ends_of(r));
+        add_ends_of(out, r)?;
     }
-    count
+    Ok(())
 }
 
-// At least the number of Hop ends, where recursive paths have these next hops.
-fn adjacencies(tables: &Tables, hops: &[Addr]) -> usize
-    ensures { IsBoundFor result (length tables.now.addresses + length tables.now.neighbors + sum_by ends_of tables.now.routes + length hops.now) }
+fn add_neighbor_ends(out: &mut Vec<Adjacency>, neighbors: &[Neighbor]) -> Result<(), AllocError>
+    ensures { OnOk result (out.new.items ≡ out.old.items ++ map neighbor_end neighbors.now) }
 {
-    ends(tables.routes.as_slice())
-        .saturating_add(tables.addresses.as_slice().len())
-        .saturating_add(tables.neighbors.as_slice().len())
+    for n in neighbors {
+        out.push(Adjacency {
+            interface: n.interface,
+            next_hop: n.addr,
+        })?;
+    }
+    Ok(())
+}
+
+// The Hop ends of all routes and neighbors, each once.
+#[tactic(auto, unfolding(crate::specs::inner::Bounds::ends))]
+fn ends(alloc: Global, tables: &Tables) -> Result<Vec<Adjacency>, AllocError>
+    ensures { IfOk result (λ v. v.items ≡ unique_keys same_adjacency (ends tables.now)) }
+{
+    let mut out = Vec::new(alloc);
+    add_route_ends(&mut out, tables.routes.as_slice())?;
+    add_neighbor_ends(&mut out, tables.neighbors.as_slice())?;
+    fib_plain::distinct(alloc, out.as_slice())
+}
+
+// The next hops of all recursive paths, each once.
+fn next_hops(alloc: Global, tables: &Tables) -> Result<Vec<Addr>, AllocError>
+    ensures { IfOk result (λ v. v.items ≡ unique_keys same_number (all_hops tables.now)) }
+{
+    let hops = fib_plain::recursive_hops(alloc, tables.routes.as_slice())?;
+    fib_plain::distinct(alloc, hops.as_slice())
+}
+
+// The prefixes that can be effective, in order.
+fn sorted_candidates(
+    alloc: Global,
+    tables: &Tables,
+    hops: &[Addr],
+) -> Result<Vec<Prefix>, AllocError>
+    requires { IsSound tables.now }
+    ensures { IfOk result (λ v. IsPermutation (candidates tables.now hops.now) v.items) }
+{
+    let mut prefixes = candidates(alloc, tables, hops)?;
+    prefixes.sort()?;
+    Ok(prefixes)
+}
+
+// At least the number of Hop ends: an address and a next hop can have one each.
+fn adjacencies(ends: &[Adjacency], addresses: &[Address], hops: &[Addr]) -> usize
+    ensures { IsBoundFor result (length ends.now + length addresses.now + length hops.now) }
+{
+    ends.len()
+        .saturating_add(addresses.len())
         .saturating_add(hops.len())
 }
 
-/// A number that the size of the tables doesn't exceed, unless the size is 2^64 or more: it counts every prefix that an address, a
-/// route, a neighbor or a next hop can make effective, without a look at covers and sources.
-pub fn size_bound(alloc: Global, tables: &Tables) -> Result<usize, AllocError>
+/// A number that the allowance of the tables doesn't exceed, unless that is 2^64 or more: it counts every prefix that an address, a
+/// route, a neighbor or a next hop can make effective with its plies, and every Hop end, without a look at covers and sources.
+pub fn allowance(alloc: Global, tables: &Tables) -> Result<usize, AllocError>
     requires { IsSound tables.now }
-    ensures { IfOk result (λ bound. IsBoundFor bound (size tables.now)) }
+    ensures { IfOk result (λ bound. IsBoundFor bound (allowance tables.now)) }
 {
-    let hops = next_hops(alloc, tables.routes.as_slice())?;
-    let mut prefixes = candidates(alloc, tables, hops.as_slice())?;
-    prefixes.sort()?;
+    let hops = next_hops(alloc, tables)?;
+    let prefixes = sorted_candidates(alloc, tables, hops.as_slice())?;
+    let ends = ends(alloc, tables)?;
     let objects = steps(prefixes.as_slice()).saturating_add(1);
-    Ok(objects.saturating_add(adjacencies(tables, hops.as_slice())))
+    let others = adjacencies(
+        ends.as_slice(),
+        tables.addresses.as_slice(),
+        hops.as_slice(),
+    );
+    Ok(objects.saturating_add(others))
+}
+
+/// By how much the edit can raise the allowance of tables.
+#[tactic(auto, unfolding(crate::specs::inner::Bounds::growth))]
+pub fn growth(edit: &Edit) -> usize
+    ensures { IsBoundFor result (growth edit.now) }
+{
+    match edit {
+        Edit::AddAddress { .. } => 37,
+        Edit::SetNeighbor { .. } => 10,
+        Edit::AddRoute { prefix, paths, .. } => paths
+            .len()
+            .saturating_mul(10)
+            .saturating_add(1 + usize::from(depth_of(*prefix))),
+        Edit::DelRoute { prefix, .. } => 1 + usize::from(depth_of(*prefix)),
+        Edit::CreateInterface(_)
+        | Edit::SetState { .. }
+        | Edit::DelAddress { .. }
+        | Edit::DelNeighbor { .. } => 0,
+    }
 }

@@ -195,7 +195,8 @@ fn kind_of(tables: &Tables, kind: &SpecKind) -> PathKind
     }
 }
 
-fn path_of(tables: &Tables, spec: &PathSpec) -> Path
+/// The path that is written so.
+pub fn path_of(tables: &Tables, spec: &PathSpec) -> Path
     requires { length tables.now.interfaces ≤ 256 }
     ensures { result ≡ path_of tables.now spec.now }
 {
@@ -224,7 +225,8 @@ pub fn source_of(api: bool) -> FibSource
     if api { FibSource::Api } else { FibSource::Cli }
 }
 
-fn is_same_address(a: &Address, b: &Address) -> bool
+/// Whether both are one address of one interface.
+pub fn is_same_address(a: &Address, b: &Address) -> bool
     ensures { result ≡ same_address a.now b.now }
 {
     a.interface == b.interface && a.addr == b.addr && a.len == b.len

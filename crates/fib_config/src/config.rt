@@ -5,32 +5,38 @@ ghost use Rattle.fib_resolve.specs.Tables.{fresh, IsSound};
 ghost use Rattle.fib_resolve.specs.Edits.{edited};
 ghost use Rattle.fib_resolve.specs.Refusals.{refused, edited_in_turn, reasons, first_reason};
 ghost use Rattle.fib_config.specs.Undone.{undone};
+ghost use Rattle.fib_changes.specs.Differ.{change_of};
 ghost use Rattle.fib_resolve.specs.Reachable.{IsWritten};
 ghost use Rattle.fib_config.specs.Config.{TellsRefusal, TellsFirstRefused};
 
 use crate::errors::{BatchError, EditError};
-use crate::undo::Undo;
+use crate::undo::{Edited, Undo};
 use crate::{changes, edits};
 use fib_resolve::{Duplicate, Edit, List, Refusal, Tables};
 use std::alloc::{AllocError, Global};
 use std::marker::Model;
 
 /// Tables that edits made, and the most objects that they may take.
+///
+/// Beside them stands a number that the tables' size doesn't exceed and that each edit raises by what it can add, so that the tables are
+/// counted anew only where that number passes the room.
 #[derive(Drop)]
 pub struct Config {
     held: Tables,
     most: u32,
+    bound: usize,
     alloc: Global,
 }
 
 impl Model for Config {
-    ghost use Rattle.fib_config.specs.Config.{Setup, IsFine};
+    ghost use Rattle.fib_config.specs.Config.{Setup};
+    ghost use Rattle.fib_config.specs.inner.Fields.{AreFields};
 
     ghost Value = { Setup };
 
     ghost view = { λ c. record { tables = c.held; room = c.most } };
 
-    ghost invariant = { λ c. IsFine (record { tables = c.held; room = c.most }) };
+    ghost invariant = { λ c. AreFields c.held c.most c.bound };
 }
 
 impl Config {
@@ -48,6 +54,7 @@ impl Config {
                 routes: List::new(alloc),
             },
             most: room,
+            bound: usize::MAX,
             alloc,
         })
     }
@@ -67,6 +74,7 @@ impl Config {
         Ok(Config {
             held: self.held.duplicate(self.alloc)?,
             most: self.most,
+            bound: self.bound,
             alloc: self.alloc,
         })
     }
@@ -83,22 +91,30 @@ impl Config {
         ensures refused { IfErr result (TellsRefusal (refused self.old.tables self.old.room edit.now)) }
         ensures err { OnErr result (self.new ≡ self.old) }
     {
-        edits::made(self.alloc, &mut self.held, self.most, edit)
+        edits::made(
+            self.alloc,
+            &mut self.held,
+            &mut self.bound,
+            self.most,
+            edit,
+        )
     }
 
-    /// Makes the edit whatever room the edited tables take, and says what takes it back; or says why not. After a fault nothing has
-    /// changed. Every reason but the size is a reason here too. The edit is one that a line can write, as for `edit`.
-    pub fn change(&mut self, edit: &Edit) -> Result<Undo, EditError>
+    /// Makes the edit whatever room the edited tables take, and says at which place of the tables it changed something and what takes it
+    /// back; or says why not. After a fault nothing has changed. Every reason but the size is a reason here too. The edit is one that a
+    /// line can write, as for `edit`.
+    pub fn change(&mut self, edit: &Edit) -> Result<Edited, EditError>
         requires { IsWritten edit.now }
         ensures accepted { OnOk result (first_reason (reasons self.old.tables edit.now) ≡ None) }
         ensures edited { OnOk result (self.new.tables ≡ edited self.old.tables edit.now) }
-        ensures back { IfOk result (λ u. undone u self.new.tables ≡ self.old.tables) }
-        ensures sound { IfOk result (λ u. IsSound (undone u self.new.tables)) }
+        ensures place { IfOk result (λ x. x.change ≡ change_of self.old.tables edit.now) }
+        ensures back { IfOk result (λ x. undone x.undo self.new.tables ≡ self.old.tables) }
+        ensures sound { IfOk result (λ x. IsSound (undone x.undo self.new.tables)) }
         ensures room { self.new.room ≡ self.old.room }
         ensures refused { IfErr result (TellsRefusal (first_reason (reasons self.old.tables edit.now))) }
         ensures err { OnErr result (self.new ≡ self.old) }
     {
-        edits::change(self.alloc, &mut self.held, edit)
+        edits::changed(self.alloc, &mut self.held, &mut self.bound, edit)
     }
 
     /// Takes an edit back, on the tables that it made. Takes no memory, and gives the tables as they were before it.
@@ -108,10 +124,12 @@ impl Config {
         ensures room { self.new.room ≡ self.old.room }
     {
         changes::take_back(self.alloc, &mut self.held, undo);
+        self.bound = usize::MAX;
     }
 
     /// Makes the edits in turn, or says which is the first that is refused on the tables that those before it give, and why. After a
-    /// fault nothing has changed. Each edit is one that a line can write, as for `edit`, and there are fewer than 2^32.
+    /// fault nothing has changed: the edits are made on a copy. Each edit is one that a line can write, as for `edit`, and there are
+    /// fewer than 2^32.
     pub fn edit_all(&mut self, edits: &[Edit]) -> Result<(), BatchError>
         requires written { AllByRecursion IsWritten edits.now }
         requires few { length edits.now < 2 ^ 32 }
@@ -120,8 +138,11 @@ impl Config {
         ensures refused { IfErr result (TellsFirstRefused (edited_in_turn self.old.tables self.old.room edits.now)) }
         ensures err { OnErr result (self.new ≡ self.old) }
     {
-        let next = edits::made_in_turn(self.alloc, &self.held, self.most, edits)?;
+        let mut next = self.held.duplicate(self.alloc)?;
+        let mut bound = self.bound;
+        edits::made_in_turn(self.alloc, &mut next, &mut bound, self.most, edits)?;
         self.held = next;
+        self.bound = bound;
         Ok(())
     }
 }

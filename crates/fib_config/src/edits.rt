@@ -2,6 +2,8 @@
 ghost use Rattle.std.specs.Prelude.{◌≡◌, ◌≤◌, ◌++◌, [], ◌∷◌, IfOk, IfErr, OnOk, OnErr, None, Ok, length, map, ◌<◌, ◌^◌, ◌-◌};
 ghost use Rattle.std.specs.List.{AllByRecursion};
 ghost use Rattle.fib_config.specs.Undone.{undone, IsBackOf};
+ghost use Rattle.fib_config.specs.inner.Bounds.{allowance, IsBoundFor};
+ghost use Rattle.fib_changes.specs.Differ.{change_of};
 ghost use Rattle.fib_resolve.specs.Tables.{IsSound};
 ghost use Rattle.fib_resolve.specs.Refusals.{refused, edited_in_turn, reasons, first_reason};
 ghost use Rattle.fib_resolve.specs.Reachable.{IsWritten};
@@ -9,9 +11,10 @@ ghost use Rattle.fib_config.specs.Config.{TellsRefusal, TellsFirstRefused};
 ghost use Rattle.fib_resolve.specs.Edits.{edited, with_routes, route_left, routes_without, without_paths, paths_at, path_of, paths_with, source_of, set_route, without_route};
 
 use crate::errors::{BatchError, EditError};
-use crate::undo::Undo;
-use crate::{changes, reasons, sizes};
+use crate::undo::{Edited, Undo};
+use crate::{bounds, changes, reasons, sizes};
 use fib_addr::Prefix;
+use fib_changes::Change;
 use fib_resolve::{
     Address, Duplicate, Edit, FibSource, Interface, List, Neighbor, Path, PathSpec, Refusal, Route,
     Tables,
@@ -192,14 +195,43 @@ fn make(alloc: Global, tables: &mut Tables, edit: &Edit) -> Result<Undo, AllocEr
     }
 }
 
+/// The place of the tables that the edit changes.
+fn change_of(tables: &Tables, edit: &Edit) -> Change
+    requires { length tables.now.interfaces ≤ 256 }
+    ensures { result ≡ change_of tables.now edit.now }
+{
+    match edit {
+        Edit::CreateInterface(_) => Change::Flag(tables.interfaces.len() as u32),
+        Edit::SetState { name, .. } => Change::Flag(changes::number_of(tables, name)),
+        Edit::AddAddress { name, addr, len } | Edit::DelAddress { name, addr, len } => {
+            Change::Address(Address {
+                interface: changes::number_of(tables, name),
+                addr: *addr,
+                len: *len,
+            })
+        }
+        Edit::SetNeighbor { name, addr, .. } | Edit::DelNeighbor { name, addr } => {
+            Change::Neighbor {
+                interface: changes::number_of(tables, name),
+                addr: *addr,
+            }
+        }
+        Edit::AddRoute { prefix, api, .. } | Edit::DelRoute { prefix, api, .. } => Change::Route {
+            prefix: *prefix,
+            source: changes::source_of(*api),
+        },
+    }
+}
+
 /// Makes the edit where the tables stand, unless a reason other than the size applies.
 #[tactic(auto, using(crate::proofs::Made::made_sound_at))]
-pub fn change(alloc: Global, tables: &mut Tables, edit: &Edit) -> Result<Undo, EditError>
+pub fn change(alloc: Global, tables: &mut Tables, edit: &Edit) -> Result<Edited, EditError>
     requires sound { IsSound tables.old }
     requires written { IsWritten edit.now }
     ensures accepted { OnOk result (first_reason (reasons tables.old edit.now) ≡ None) }
     ensures edited { OnOk result (tables.new ≡ edited tables.old edit.now) }
-    ensures back { IfOk result (λ u. undone u tables.new ≡ tables.old) }
+    ensures place { IfOk result (λ x. x.change ≡ change_of tables.old edit.now) }
+    ensures back { IfOk result (λ x. undone x.undo tables.new ≡ tables.old) }
     ensures sound { OnOk result (IsSound tables.new) }
     ensures refused { IfErr result (TellsRefusal (first_reason (reasons tables.old edit.now))) }
     ensures err { OnErr result (tables.new ≡ tables.old) }
@@ -207,30 +239,68 @@ pub fn change(alloc: Global, tables: &mut Tables, edit: &Edit) -> Result<Undo, E
     if let Some(refusal) = reasons::own_refusal(alloc, tables, edit)? {
         return Err(EditError::Refused(refusal));
     }
+    let change = change_of(tables, edit);
     let undo = make(alloc, tables, edit)?;
-    Ok(undo)
+    Ok(Edited { change, undo })
+}
+
+/// The same beside a bound on the allowance, which grows with the edit.
+#[tactic(auto, using(crate::proofs::Made::made_bounded))]
+pub fn changed(
+    alloc: Global,
+    tables: &mut Tables,
+    bound: &mut usize,
+    edit: &Edit,
+) -> Result<Edited, EditError>
+    requires sound { IsSound tables.old }
+    requires bound { IsBoundFor bound.old (allowance tables.old) }
+    requires written { IsWritten edit.now }
+    ensures accepted { OnOk result (first_reason (reasons tables.old edit.now) ≡ None) }
+    ensures edited { OnOk result (tables.new ≡ edited tables.old edit.now) }
+    ensures place { IfOk result (λ x. x.change ≡ change_of tables.old edit.now) }
+    ensures back { IfOk result (λ x. undone x.undo tables.new ≡ tables.old) }
+    ensures sound { IsSound tables.new }
+    ensures bound { IsBoundFor bound.new (allowance tables.new) }
+    ensures refused { IfErr result (TellsRefusal (first_reason (reasons tables.old edit.now))) }
+    ensures err { OnErr result (tables.new ≡ tables.old) }
+{
+    let edited = change(alloc, tables, edit)?;
+    *bound = bound.saturating_add(bounds::growth(edit));
+    Ok(edited)
 }
 
 /// Makes the edit where the tables stand, where it isn't refused.
-#[tactic(auto, using(crate::proofs::Made::made_refused, crate::proofs::Made::made_large, crate::proofs::Made::made_fits))]
-pub fn made(alloc: Global, tables: &mut Tables, room: u32, edit: &Edit) -> Result<(), EditError>
+#[tactic(auto, using(crate::proofs::Made::made_refused, crate::proofs::Made::made_large, crate::proofs::Made::made_fits, crate::proofs::Made::made_bounded))]
+pub fn made(
+    alloc: Global,
+    tables: &mut Tables,
+    bound: &mut usize,
+    room: u32,
+    edit: &Edit,
+) -> Result<(), EditError>
     requires sound { IsSound tables.old }
+    requires bound { IsBoundFor bound.old (allowance tables.old) }
     requires written { IsWritten edit.now }
     requires room { room < 2 ^ 32 - 1 }
     ensures accepted { OnOk result (refused tables.old room edit.now ≡ None) }
     ensures edited { OnOk result (tables.new ≡ edited tables.old edit.now) }
     ensures sound { IsSound tables.new }
+    ensures bound { IsBoundFor bound.new (allowance tables.new) }
     ensures refused { IfErr result (TellsRefusal (refused tables.old room edit.now)) }
     ensures err { OnErr result (tables.new ≡ tables.old) }
 {
     let undo = match change(alloc, tables, edit) {
-        Ok(undo) => undo,
+        Ok(edited) => edited.undo,
         Err(EditError::Refused(refusal)) => return Err(EditError::Refused(refusal)),
         Err(EditError::Memory) => return Err(EditError::Memory),
     };
-    match sizes::is_too_large(alloc, tables, room) {
-        Ok(false) => Ok(()),
-        Ok(true) => {
+    let grown = bound.saturating_add(bounds::growth(edit));
+    match sizes::fitting_bound(alloc, tables, grown, room) {
+        Ok(Some(fitting)) => {
+            *bound = fitting;
+            Ok(())
+        }
+        Ok(None) => {
             changes::take_back(alloc, tables, undo);
             Err(EditError::Refused(Refusal::TooLarge))
         }
@@ -241,24 +311,26 @@ pub fn made(alloc: Global, tables: &mut Tables, room: u32, edit: &Edit) -> Resul
     }
 }
 
-/// The tables after all of the edits, where none is refused on those that the edits before it give.
+/// Makes the edits in turn where the tables stand, as long as none is refused. What it leaves where one is refused is what those before it made.
 pub fn made_in_turn(
     alloc: Global,
-    tables: &Tables,
+    tables: &mut Tables,
+    bound: &mut usize,
     room: u32,
     edits: &[Edit],
-) -> Result<Tables, BatchError>
-    requires sound { IsSound tables.now }
+) -> Result<(), BatchError>
+    requires sound { IsSound tables.old }
+    requires bound { IsBoundFor bound.old (allowance tables.old) }
     requires written { AllByRecursion IsWritten edits.now }
     requires few { length edits.now < 2 ^ 32 }
     requires room { room < 2 ^ 32 - 1 }
-    ensures made { IfOk result (λ t. edited_in_turn tables.now room edits.now ≡ Ok t) }
-    ensures sound { IfOk result IsSound }
-    ensures refused { IfErr result (TellsFirstRefused (edited_in_turn tables.now room edits.now)) }
+    ensures made { OnOk result (edited_in_turn tables.old room edits.now ≡ Ok tables.new) }
+    ensures sound { IsSound tables.new }
+    ensures bound { IsBoundFor bound.new (allowance tables.new) }
+    ensures refused { IfErr result (TellsFirstRefused (edited_in_turn tables.old room edits.now)) }
 {
-    let mut next = tables.duplicate(alloc)?;
     for (place, edit) in edits.iter().enumerate() {
-        match made(alloc, &mut next, room, edit) {
+        match made(alloc, tables, bound, room, edit) {
             Ok(()) => {}
             Err(EditError::Refused(refusal)) => {
                 let place = place as u32;
@@ -267,5 +339,5 @@ pub fn made_in_turn(
             Err(EditError::Memory) => return Err(BatchError::Memory),
         }
     }
-    Ok(next)
+    Ok(())
 }

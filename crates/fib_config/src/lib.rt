@@ -14,7 +14,7 @@ mod undo;
 
 pub use config::Config;
 pub use errors::{BatchError, EditError};
-pub use undo::Undo;
+pub use undo::{Edited, Undo};
 
 #[cfg(test)]
 mod tests;

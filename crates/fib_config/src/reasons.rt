@@ -1,16 +1,17 @@
 // Why an edit is refused.
-ghost use Rattle.std.specs.Prelude.{◌≡◌, ◌≤◌, [], ◌∷◌, IfOk, All, length, nat_lt};
+ghost use Rattle.std.specs.Prelude.{◌≡◌, ◌≤◌, ◌<◌, ◌||◌, [], ◌∷◌, Some, IfOk, All, length, map, nat_lt};
 ghost use Rattle.std.specs.List.{list_any};
 ghost use Rattle.fib_resolve.specs.Keys.{is_drop_or_local};
 ghost use Rattle.fib_resolve.specs.Tables.{IsSound, same_address, same_neighbor, connects_elsewhere, is_mixed, is_route};
-ghost use Rattle.fib_resolve.specs.Edits.{source_of};
+ghost use Rattle.fib_resolve.specs.Edits.{source_of, set_paths, path_of};
+ghost use Rattle.fib_config.specs.inner.Lists.{list_reasons, writes_drop_or_local};
 ghost use Rattle.fib_resolve.specs.Refusals.{unknown, names_unknown, some_unknown, has_address, connected_elsewhere, has_neighbor, has_route, lacks_a_key, when, reasons, first_reason};
 ghost use Rattle.fib_resolve.specs.Reachable.{IsWritten};
 
 use crate::changes;
 use fib_addr::{Addr, Prefix};
 use fib_resolve::{
-    Address, Edit, FibSource, Name, Neighbor, Path, PathSpec, Refusal, SpecKind, Tables,
+    Address, Edit, FibSource, List, Name, Path, PathSpec, Refusal, SpecKind, Tables,
 };
 use std::alloc::{AllocError, Global};
 
@@ -35,12 +36,6 @@ fn some_unknown(tables: &Tables, specs: &[PathSpec]) -> bool
     specs.iter().any(|spec| names_unknown(tables, &spec.kind))
 }
 
-fn is_same_address(a: &Address, b: &Address) -> bool
-    ensures { result ≡ same_address a.now b.now }
-{
-    a.interface == b.interface && a.addr == b.addr && a.len == b.len
-}
-
 fn has_address(tables: &Tables, a: &Address) -> bool
     ensures { result ≡ has_address tables.now a.now }
 {
@@ -48,7 +43,7 @@ fn has_address(tables: &Tables, a: &Address) -> bool
         .addresses
         .as_slice()
         .iter()
-        .any(|b| is_same_address(b, a))
+        .any(|b| changes::is_same_address(b, a))
 }
 
 fn connects_elsewhere(a: &Address, b: &Address) -> bool
@@ -97,6 +92,71 @@ fn is_mixed(paths: &[Path]) -> bool
     ensures { result ≡ is_mixed paths.now }
 {
     paths.len() > 1 && has_drop_or_local(paths)
+}
+
+/// Why a list isn't one of a route: it is mixed, or too long.
+fn refused_list(paths: &[Path]) -> Option<Refusal>
+    ensures { result ≡ first_reason (list_reasons paths.now) }
+{
+    if is_mixed(paths) {
+        Some(Refusal::MixedPaths)
+    } else if paths.len() > 16 {
+        Some(Refusal::TooManyPaths)
+    } else {
+        None
+    }
+}
+
+fn is_drop_or_local(kind: &SpecKind) -> bool
+    ensures { result ≡ writes_drop_or_local kind.now }
+{
+    matches!(kind, SpecKind::Drop | SpecKind::Local)
+}
+
+fn some_drop_or_local(specs: &[PathSpec]) -> bool
+    ensures { result ≡ list_any (λ spec. writes_drop_or_local spec.kind) specs.now }
+{
+    specs.iter().any(|spec| is_drop_or_local(&spec.kind))
+}
+
+fn drops_or_is_local(paths: &[Path], specs: &[PathSpec]) -> bool
+    ensures { result ≡ (list_any (λ p. is_drop_or_local p.kind) paths.now || list_any (λ spec. writes_drop_or_local spec.kind) specs.now) }
+{
+    has_drop_or_local(paths) || some_drop_or_local(specs)
+}
+
+/// Why a list that is too long already isn't one of a route, when further paths are set in it.
+fn refused_long_list(tables: &Tables, paths: &[Path], specs: &[PathSpec]) -> Refusal
+    requires { 16 < length paths.now }
+    ensures { Some result ≡ first_reason (list_reasons (set_paths paths.now (map (path_of tables.now) specs.now))) }
+{
+    if drops_or_is_local(paths, specs) {
+        Refusal::MixedPaths
+    } else {
+        Refusal::TooManyPaths
+    }
+}
+
+/// Why paths can't be set in a list. Takes no more memory and time a path than a list of seventeen.
+fn refused_paths(
+    alloc: Global,
+    tables: &Tables,
+    old: &[Path],
+    specs: &[PathSpec],
+) -> Result<Option<Refusal>, AllocError>
+    requires { length tables.now.interfaces ≤ 256 }
+    ensures { IfOk result (λ o. o ≡ first_reason (list_reasons (set_paths old.now (map (path_of tables.now) specs.now)))) }
+{
+    let mut list = List::from_vec(Vec::from_slice(alloc, old)?);
+    for place in 0..specs.len() {
+        if list.len() > 16 {
+            let refusal = refused_long_list(tables, list.as_slice(), &specs[place..]);
+            return Ok(Some(refusal));
+        }
+        let path = changes::path_of(tables, &specs[place]);
+        list = changes::set_path(alloc, path, list.as_slice())?;
+    }
+    Ok(refused_list(list.as_slice()))
 }
 
 fn lacks_a_key(old: &[Path], paths: &[Path]) -> bool
@@ -197,16 +257,8 @@ pub fn own_refusal(
                 return Ok(Some(Refusal::NoSuchInterface));
             }
             let source = changes::source_of(*api);
-            let new = changes::paths_of(alloc, tables, paths.as_slice())?;
             let old = changes::paths_at(*prefix, source, tables.routes.as_slice());
-            let list = changes::set_paths(alloc, old, new.as_slice())?;
-            if is_mixed(list.as_slice()) {
-                Ok(Some(Refusal::MixedPaths))
-            } else if list.as_slice().len() > 16 {
-                Ok(Some(Refusal::TooManyPaths))
-            } else {
-                Ok(None)
-            }
+            refused_paths(alloc, tables, old, paths.as_slice())
         }
         Edit::DelRoute { prefix, api, paths } => {
             if some_unknown(tables, paths.as_slice()) {

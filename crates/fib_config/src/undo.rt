@@ -1,4 +1,5 @@
 // What takes an edit back.
+use fib_changes::Change;
 use fib_resolve::{Address, Interface, List, Neighbor, Route};
 
 /// What takes an edit back, on the tables that it made: `undone` in `specs/Undone` says what each gives.
@@ -16,4 +17,11 @@ pub enum Undo {
     RouteAdded,
     /// The route at that place is this one again.
     RouteSet { place: usize, old: Route },
+}
+
+/// An edit that was made: the place that it changed, and what takes it back.
+#[derive(Drop)]
+pub struct Edited {
+    pub change: Change,
+    pub undo: Undo,
 }

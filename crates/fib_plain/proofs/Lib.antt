@@ -1,3 +1,4 @@
+pub mod Backward
 pub mod Best
 pub mod Numbers
 pub mod Members

@@ -7,7 +7,8 @@ ghost use Rattle.fib_resolve.specs.Pairs.{base_pairs, short_prefixes, cover, att
 ghost use Rattle.fib_resolve.specs.Tables.{IsSound};
 ghost use Rattle.fib_plain.specs.inner.Bases.{IsBase};
 
-use crate::{base, search};
+use crate::repeats::distinct;
+use crate::{base, paths, search};
 use fib_addr::{Addr, Prefix};
 use fib_list::Duplicate;
 use fib_resolve::{FibSource, Neighbor, Pair, Path, PathKind, Route, Tables, keys};
@@ -124,55 +125,17 @@ fn add_derived(
     Ok(())
 }
 
-fn recursive_hop(path: &Path) -> Option<Addr>
-    ensures { result ≡ recursive_of path.now }
-{
-    match path.kind {
-        PathKind::Recursive(a) => Some(a),
-        _ => None,
-    }
-}
-
-fn recursive_hops(alloc: Global, paths: &[Path]) -> Result<Vec<Addr>, AllocError>
-    ensures { IfOk result (λ v. v.items ≡ filter_map recursive_of paths.now) }
-{
-    paths.iter().filter_map(|p| recursive_hop(p)).collect(alloc)
-}
-
-/// The next hops of all recursive paths.
-fn all_recursive_hops(alloc: Global, routes: &[Route]) -> Result<Vec<Addr>, AllocError>
-    ensures { IfOk result (λ v. v.items ≡ flat_map recursive_hops routes.now) }
-{
-    let mut out = Vec::new(alloc);
-    for r in routes {
-        let hops = recursive_hops(alloc, r.paths.as_slice())?;
-        out.extend_from_slice(hops.as_slice())?;
-    }
-    Ok(out)
-}
-
 #[tactic(auto, unfolding(fib_resolve::specs::Pairs::all_pairs))]
 fn all_pairs(alloc: Global, base: Base<'_>) -> Result<Vec<Pair>, AllocError>
     requires base { IsBase base }
     requires sound { IsSound base.tables.now }
     ensures { IfOk result (λ v. v.items ≡ all_pairs base.entry.tables.now) }
 {
-    let hops = all_recursive_hops(alloc, base.tables.routes.as_slice())?;
+    let hops = paths::recursive_hops(alloc, base.tables.routes.as_slice())?;
     let mut out = base::base_pairs(alloc, base.tables)?;
     add_neighbors(&mut out, alloc, base)?;
     add_derived(&mut out, alloc, base, hops.as_slice())?;
     Ok(out)
-}
-
-fn is_same_list(xs: &[Path], ys: &[Path]) -> bool
-    ensures { result ≡ pointwise same_path xs.now ys.now }
-{
-    match (xs, ys) {
-        ([], []) => true,
-        ([x, others @ ..], [y, rest @ ..]) => keys::is_same_path(x, y)
-            && is_same_list(others, rest),
-        _ => false,
-    }
 }
 
 /// Whether both have one prefix, source and list.
@@ -181,7 +144,7 @@ pub fn is_same_pair(x: &Pair, y: &Pair) -> bool
 {
     search::is_same_prefix(x.prefix, y.prefix)
         && keys::is_same_source(x.source, y.source)
-        && is_same_list(x.paths.as_slice(), y.paths.as_slice())
+        && paths::is_same_list(x.paths.as_slice(), y.paths.as_slice())
 }
 
 fn has_pair(pairs: &[Pair], x: &Pair) -> bool
@@ -221,5 +184,5 @@ pub fn entries(alloc: Global, tables: &Tables, all: &[Pair]) -> Result<Vec<Prefi
     ensures { IfOk result (λ v. v.items ≡ entries tables.now) }
 {
     let prefixes = search::prefixes_of(alloc, all)?;
-    search::distinct(alloc, prefixes.as_slice())
+    distinct(alloc, prefixes.as_slice())
 }

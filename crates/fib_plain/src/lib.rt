@@ -10,7 +10,9 @@ mod effective;
 mod facts;
 mod known;
 mod loops;
+mod paths;
 mod possible;
+mod repeats;
 mod rounds;
 mod search;
 mod sizes;
@@ -20,6 +22,8 @@ mod view;
 mod ways;
 
 pub use answers::{ends, resolve, size, touched, usable};
+pub use repeats::distinct;
+pub use paths::{add_adjacencies, adjacency_of, is_same_list, recursive_hop, recursive_hops};
 pub use snapshot::Snapshot;
 
 #[cfg(test)]

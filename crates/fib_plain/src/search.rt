@@ -40,26 +40,6 @@ pub fn is_same_prefix(p: Prefix, q: Prefix) -> bool
     p == q
 }
 
-pub fn is_among(p: Prefix, prefixes: &[Prefix]) -> bool
-    ensures { result ≡ is_member same_prefix prefixes.now p }
-{
-    prefixes.iter().any(|q| is_same_prefix(p, *q))
-}
-
-/// The prefixes, each once.
-pub fn distinct(alloc: Global, prefixes: &[Prefix]) -> Result<Vec<Prefix>, AllocError>
-    ensures { IfOk result (λ v. v.items ≡ unique_keys same_prefix prefixes.now) }
-{
-    let mut out = Vec::new(alloc);
-    for i in 0..prefixes.len() {
-        let p = prefixes[i];
-        if !is_among(p, &prefixes[i + 1..]) {
-            out.push(p)?;
-        }
-    }
-    Ok(out)
-}
-
 /// The place of the better of two pairs, the first where they are of one source.
 fn better_place(pairs: &[Pair], first: usize, other: Option<usize>) -> usize
     requires first { first < length pairs.now }

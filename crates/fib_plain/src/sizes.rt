@@ -7,10 +7,11 @@ ghost use Rattle.fib_resolve.specs.Pairs.{entries, chosen};
 ghost use Rattle.fib_resolve.specs.Sizes.{plies_of, plies, kind_adjacency, same_adjacency, adjacencies_of, adjacencies, size};
 ghost use Rattle.fib_plain.specs.inner.Rows.{IsKnown};
 
+use crate::repeats::distinct;
 use crate::known::{self, Known};
-use crate::search;
+use crate::paths;
 use fib_addr::{Addr, Prefix};
-use fib_resolve::{Adjacency, Path, PathKind};
+use fib_resolve::Adjacency;
 use std::alloc::{AllocError, Global};
 
 fn add_plies(out: &mut Vec<Prefix>, p: Prefix) -> Result<(), AllocError>
@@ -33,38 +34,7 @@ fn plies(alloc: Global, known: Known<'_>) -> Result<Vec<Prefix>, AllocError>
     for e in known.entries {
         add_plies(&mut out, *e)?;
     }
-    search::distinct(alloc, out.as_slice())
-}
-
-/// The Hop end of a path, if it has one.
-fn adjacency_of(e: Prefix, kind: PathKind) -> Option<Adjacency>
-    ensures { option_to_list result ≡ kind_adjacency e kind }
-{
-    match kind {
-        PathKind::Hop {
-            next_hop,
-            interface,
-        } => Some(Adjacency {
-            interface,
-            next_hop,
-        }),
-        PathKind::Attached(interface) if e.len() == 32 => Some(Adjacency {
-            interface,
-            next_hop: e.bits(),
-        }),
-        _ => None,
-    }
-}
-
-fn add_adjacencies(out: &mut Vec<Adjacency>, e: Prefix, paths: &[Path]) -> Result<(), AllocError>
-    ensures { OnOk result (out.new.items ≡ out.old.items ++ flat_map (λ p. kind_adjacency e p.kind) paths.now) }
-{
-    for p in paths {
-        if let Some(adjacency) = adjacency_of(e, p.kind) {
-            out.push(adjacency)?;
-        }
-    }
-    Ok(())
+    distinct(alloc, out.as_slice())
 }
 
 fn all_adjacencies(alloc: Global, known: Known<'_>) -> Result<Vec<Adjacency>, AllocError>
@@ -73,32 +43,7 @@ fn all_adjacencies(alloc: Global, known: Known<'_>) -> Result<Vec<Adjacency>, Al
 {
     let mut out = Vec::new(alloc);
     for e in known.entries {
-        add_adjacencies(&mut out, *e, known::chosen(known, *e))?;
-    }
-    Ok(out)
-}
-
-fn is_same(x: &Adjacency, y: &Adjacency) -> bool
-    ensures { result ≡ same_adjacency x.now y.now }
-{
-    x == y
-}
-
-fn is_among(x: &Adjacency, all: &[Adjacency]) -> bool
-    ensures { result ≡ is_member same_adjacency all.now x.now }
-{
-    all.iter().any(|y| is_same(x, y))
-}
-
-fn distinct(alloc: Global, all: &[Adjacency]) -> Result<Vec<Adjacency>, AllocError>
-    ensures { IfOk result (λ v. v.items ≡ unique_keys same_adjacency all.now) }
-{
-    let mut out = Vec::new(alloc);
-    for i in 0..all.len() {
-        let x = &all[i];
-        if !is_among(x, &all[i + 1..]) {
-            out.push(*x)?;
-        }
+        paths::add_adjacencies(&mut out, *e, known::chosen(known, *e))?;
     }
     Ok(out)
 }

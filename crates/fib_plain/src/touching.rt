@@ -7,6 +7,7 @@ ghost use Rattle.fib_resolve.specs.Pairs.{same_pair, chosen, entries, pairs};
 ghost use Rattle.fib_resolve.specs.Touched.{other_flag, other_mac, kind_changes, same_pairs, pairs_of, is_touched, touched};
 ghost use Rattle.fib_plain.specs.inner.Views.{IsView};
 
+use crate::repeats::distinct;
 use crate::view::{self, View};
 use crate::{effective, facts, known, search, ways};
 use fib_addr::{Addr, Prefix};
@@ -125,7 +126,7 @@ fn all_entries(
 {
     let mut all = before.to_vec(alloc)?;
     all.extend_from_slice(after)?;
-    search::distinct(alloc, all.as_slice())
+    distinct(alloc, all.as_slice())
 }
 
 /// The touched prefixes, each once.

@@ -1,5 +1,5 @@
 use Rattle.std.proofs.Common.{◌≡◌, ◌++◌, map, take}
-use Rattle.fib_config.specs.Bounds.{host_of}
+use Rattle.fib_config.specs.inner.Bounds.{host_of}
 use Rattle.fib_config.proofs.bounds.add_neighbors.Given as goal
 
 abbrev pub invariant-loop-n : goal.invariant-loop-n

@@ -1,5 +1,5 @@
 use Rattle.std.proofs.Common.{◌≡◌, ◌++◌, map, take}
-use Rattle.fib_config.specs.Bounds.{prefix_of_route}
+use Rattle.fib_config.specs.inner.Bounds.{prefix_of_route}
 use Rattle.fib_config.proofs.bounds.add_routes.Given as goal
 
 abbrev pub invariant-loop-r : goal.invariant-loop-r

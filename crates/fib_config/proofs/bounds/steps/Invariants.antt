@@ -1,6 +1,6 @@
 use Rattle.std.proofs.Common.{◌+◌, drop}
 use Rattle.fib_addr.specs.Longest.{everything}
-use Rattle.fib_config.specs.Bounds.{steps, IsBoundFor}
+use Rattle.fib_config.specs.inner.Bounds.{steps, IsBoundFor}
 use Rattle.fib_config.proofs.bounds.steps.Given as goal
 
 abbrev pub invariant-loop-p : goal.invariant-loop-p

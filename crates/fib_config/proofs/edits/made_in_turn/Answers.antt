@@ -4,13 +4,14 @@ use Rattle.fib_config.proofs.edits.made_in_turn.Goals as goal
 
 pub returns-in-Err-Refused-clause-refused : goal.returns-in-Err-Refused-clause-refused
 returns-in-Err-Refused-clause-refused c =
-    rw c.in-Err-Refused.refusal-is (sym c.loop-place.invariant.left ∙ turn_stops c.loop-place.place c.loop-place.next c.args.room c.args.edits.now c.index-edits-place.result c.in-Err-Refused.refusal c.loop-place-test.true c.index-edits-place.is (rw c.in-Err-Refused.field-0-is at c.in-Err-Refused.ensures.refused))
+    rw c.in-Err-Refused.refusal-is (sym c.loop-place.invariant.left ∙ turn_stops c.loop-place.place c.loop-place.tables c.args.room c.args.edits.now c.index-edits-place.result c.in-Err-Refused.refusal c.loop-place-test.true c.index-edits-place.is (rw c.in-Err-Refused.field-0-is at c.in-Err-Refused.ensures.refused))
 
 pub loop-place-preserved : goal.loop-place-preserved
 loop-place-preserved c = record {
-  left = turn_more c.loop-place.place c.loop-place.next _ c.args.room c.args.edits.now c.index-edits-place.result c.loop-place-test.true c.index-edits-place.is c.in-Ok.ensures.accepted c.in-Ok.ensures.edited ∙ c.loop-place.invariant.left;
+  left = turn_more c.loop-place.place c.loop-place.tables _ c.args.room c.args.edits.now c.index-edits-place.result c.loop-place-test.true c.index-edits-place.is c.in-Ok.ensures.accepted c.in-Ok.ensures.edited ∙ c.loop-place.invariant.left;
   sound = c.made.ensures.sound;
+  bound = c.made.ensures.bound;
 }
 
 pub returns-clause-made : goal.returns-clause-made
-returns-clause-made c = sym c.loop-place.invariant.left ∙ turn_ends c.loop-place.place c.loop-place.next c.args.room c.args.edits.now c.loop-place-test.false
+returns-clause-made c = sym c.loop-place.invariant.left ∙ turn_ends c.loop-place.place c.loop-place.tables c.args.room c.args.edits.now c.loop-place-test.false
