@@ -1,8 +1,8 @@
 -- Each edit changes tables at one place.
-use Rattle.std.proofs.Common.{arith, ◌≡◌, ◌≢◌, ℕ, zero, suc, ◌+◌, ◌<◌, Bool, true, false, cond, not, ◌&&◌, ◌==◌, List, [], ◌∷◌, ◌++◌, map, filter, length, Option, Some, None, inl, inr, refl, sym, ◌∙◌, ap, subst, slice_get, ◌↔◌}
-use Rattle.std.specs.Prelude.{Contains, find, option_map, bytes_eq, nat_lt}
+use Rattle.std.proofs.Common.{arith, ◌≡◌, ℕ, zero, suc, ◌<◌, Bool, true, false, cond, not, ◌&&◌, ◌==◌, List, [], ◌∷◌, ◌++◌, map, filter, length, Option, inl, inr, refl, sym, ◌∙◌, ap, slice_get, ◌↔◌}
+use Rattle.std.specs.Prelude.{Contains, find, option_map, nat_lt}
 use Rattle.std.specs.List.{AllByRecursion, IsDistinct, position_or_len}
-use Rattle.std.proofs.lemmas.Bool.{false≢true, cases_lt, lt-ltb}
+use Rattle.std.proofs.lemmas.Bool.{false≢true, lt-ltb}
 use Rattle.std.proofs.lemmas.Bool.Decides.{Decides-eqb}
 use Rattle.std.proofs.lemmas.Slice.Eq.{bytes_eq-Decides}
 use Rattle.fib_list.proofs.Lists.{either}
@@ -11,9 +11,9 @@ use Rattle.fib_addr.specs.Prefixes.{Prefix}
 use Rattle.fib_addr.proofs.PrefixLaws.{same_prefix-Decides}
 use Rattle.fib_resolve.specs.Keys.{source_rank}
 use Rattle.fib_resolve.specs.Forwarding.{up_of, is_up}
-use Rattle.fib_resolve.specs.Resolution.{is_neighbor, mac_of}
+use Rattle.fib_resolve.specs.Resolution.{is_neighbor}
 use Rattle.fib_resolve.specs.Tables.{has_name, same_name, same_address, same_neighbor, is_route, IsSound}
-use Rattle.fib_resolve.specs.Edits.{edited, number_of, with_state, set_neighbor, with_interfaces, with_addresses, with_neighbors, with_routes, address_at, neighbor_at, source_of, paths_with}
+use Rattle.fib_resolve.specs.Edits.{edited, number_of, with_state, set_neighbor, with_interfaces, address_at, neighbor_at, source_of, paths_with}
 use Rattle.fib_resolve.specs.declared.types.Address.{Address}
 use Rattle.fib_resolve.specs.declared.types.Edit.{Edit}
 use Rattle.fib_resolve.specs.declared.types.Edit.TheVariants as edits
@@ -24,7 +24,6 @@ use Rattle.fib_resolve.specs.declared.types.Route.{Route}
 use Rattle.fib_resolve.specs.declared.types.Tables.{Tables}
 use Rattle.fib_resolve.proofs.OneList.{source_by_rank}
 use Rattle.fib_changes.specs.Differ.{Differ, change_of}
-use Rattle.fib_changes.specs.declared.change.Change.{Change}
 use Rattle.fib_changes.specs.declared.change.Change.TheVariants as changes
 use Rattle.fib_changes.proofs.Addresses.{is_it, pushed_agree, filtered_agree}
 use Rattle.fib_changes.proofs.Edits.{in_front, set_agrees, deleted_agrees}
@@ -150,7 +149,6 @@ route_off prefix source r other =
           absurd (other (itself (changes.Route prefix source) (changes.Route r.prefix r.source) (ap (λ p. changes.Route p r.source) at ∙ ap (changes.Route prefix) by))))
       | inr isnt ↦ isnt
     ]
-
 
 same : {X : Type 0} (xs : List X) (x : X) → Contains xs x ↔ Contains xs x
 same xs x = (λ c. c, λ c. c)

@@ -374,7 +374,7 @@ added_allowed S prefix api specs =
     let new = map (path_of S) specs in
     let others = set_route (record { prefix = prefix; source = source_of api; paths = paths_with S prefix api specs }) S.routes in
     let from = made_by S.routes prefix new (paths_with S prefix api specs) (source_of api)
-      (λ p c. elim (set_paths_in (paths_at prefix (source_of api) S.routes) new p c) [ inl fresh ↦ inl fresh | inr old ↦ inr (path_at prefix (source_of api) S.routes p old) ]) in
+    (λ p c. elim (set_paths_in (paths_at prefix (source_of api) S.routes) new p c) [ inl fresh ↦ inl fresh | inr old ↦ inr (path_at prefix (source_of api) S.routes p old) ]) in
     let most = allowed_more S (with_routes S others) (prefix ∷ []) (filter_map recursive_of new) (flat_map (λ p. kind_adjacency prefix p.kind) new) 0 (routes_grow S others prefix new from) in
     omega (arith, most, own_one prefix, hops_and_ends prefix new, length-map (path_of S) specs)
 
@@ -404,7 +404,7 @@ dropped_allowed S name addr len =
     let test : Address → Bool = λ a. not (same_address a (address_at S name addr len)) in
     let others = filter test S.addresses in
     let old : (p : Prefix) → Contains (flat_map own_prefixes others) p → Contains [] p ⊎ Contains (flat_map own_prefixes S.addresses) p = λ p c.
-      (let r = flat_map_from own_prefixes others p c in inr (Contains-flat_map own_prefixes S.addresses r.0 p (filter_from test S.addresses r.0 r.1).0 r.2)) in
+    (let r = flat_map_from own_prefixes others p c in inr (Contains-flat_map own_prefixes S.addresses r.0 p (filter_from test S.addresses r.0 r.1).0 r.2)) in
     omega (arith, allowed_more S (with_addresses S others) [] [] [] 0 (addresses_grow S others [] 0 (omega (arith, filter_length test S.addresses)) old))
 
 neighbor_allowed : (S : Tables) (name : List ℕ) (addr mac : ℕ) → allowance (edited S (edits.SetNeighbor name addr mac)) ≤ allowance S + growth (edits.SetNeighbor name addr mac)

@@ -340,19 +340,19 @@ allowance_counted S hops qs found hs cs es =
     let inside = each-from_all (Contains qs) (own ++ map host hops) cs in
     let hosts = each-of_map (Contains qs) host hops (each-right (Contains qs) own (map host hops) inside) in
     let all_in = each-append (Contains qs) own (map host all) (each-left (Contains qs) own (map host hops) inside)
-      (each-map (Contains qs) host all (each-weaker (Contains hops) (λ a. Contains qs (host a)) (λ a c. each-at_member (λ x. Contains qs (host x)) hops a hosts c) all (each-from_all (Contains hops) all hs))) in
+    (each-map (Contains qs) host all (each-weaker (Contains hops) (λ a. Contains qs (host a)) (λ a c. each-at_member (λ x. Contains qs (host x)) hops a hosts c) all (each-from_all (Contains hops) all hs))) in
     let within : AllByRecursion (Contains Q) (everything ∷ (own ++ map host all)) = (
       Contains-append_left (everything ∷ []) qs everything (0, omega arith, refl),
       each-weaker (Contains qs) (Contains Q) (λ p c. Contains-append_right (everything ∷ []) qs p c) (own ++ map host all) all_in,
     ) in
     let entries = count_within same_prefix_equiv (everything ∷ (own ++ map host all)) Q (each-weaker (Contains Q) (λ p. is_member same_prefix Q p ≡ true) (prefix_member Q) (everything ∷ (own ++ map host all)) within) in
     let plies = count_within same_prefix_equiv (flat_map plies_of (everything ∷ (own ++ map host all))) (flat_map plies_of Q)
-      (each-flat_map (λ p. is_member same_prefix (flat_map plies_of Q) p ≡ true) plies_of (everything ∷ (own ++ map host all))
-      (each-weaker (Contains Q) (λ e. AllByRecursion (λ p. is_member same_prefix (flat_map plies_of Q) p ≡ true) (plies_of e)) (plies_among Q) (everything ∷ (own ++ map host all)) within)) in
+    (each-flat_map (λ p. is_member same_prefix (flat_map plies_of Q) p ≡ true) plies_of (everything ∷ (own ++ map host all))
+    (each-weaker (Contains Q) (λ e. AllByRecursion (λ p. is_member same_prefix (flat_map plies_of Q) p ≡ true) (plies_of e)) (plies_among Q) (everything ∷ (own ++ map host all)) within)) in
     let near = count_within_length (decided same_adjacency same_adjacency-Decides) (ends S) found
-      (each-weaker (Contains found) (λ x. is_member same_adjacency found x ≡ true) (λ x c. (is_member-Decides same_adjacency-Decides found x).1 c) (ends S) (each-from_all (Contains found) (ends S) es)) in
+    (each-weaker (Contains found) (λ x. is_member same_adjacency found x ≡ true) (λ x c. (is_member-Decides same_adjacency-Decides found x).1 c) (ends S) (each-from_all (Contains found) (ends S) es)) in
     let next = count_within_length (decided same_number same_number-Decides) all hops
-      (each-weaker (Contains hops) (λ x. is_member same_number hops x ≡ true) (λ x c. (is_member-Decides same_number-Decides hops x).1 c) all (each-from_all (Contains hops) all hs)) in
+    (each-weaker (Contains hops) (λ x. is_member same_number hops x ≡ true) (λ x c. (is_member-Decides same_number-Decides hops x).1 c) all (each-from_all (Contains hops) all hs)) in
     omega (arith, entries, plies, steps_count everything qs, near, next)
   where
     plies_among : (Q : List Prefix) (e : Prefix) → Contains Q e → AllByRecursion (λ p. is_member same_prefix (flat_map plies_of Q) p ≡ true) (plies_of e)

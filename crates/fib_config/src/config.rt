@@ -91,13 +91,7 @@ impl Config {
         ensures refused { IfErr result (TellsRefusal (refused self.old.tables self.old.room edit.now)) }
         ensures err { OnErr result (self.new ≡ self.old) }
     {
-        edits::made(
-            self.alloc,
-            &mut self.held,
-            &mut self.bound,
-            self.most,
-            edit,
-        )
+        edits::made(self.alloc, &mut self.held, &mut self.bound, self.most, edit)
     }
 
     /// Makes the edit whatever room the edited tables take, and says at which place of the tables it changed something and what takes it

@@ -67,3 +67,14 @@ fn two_links_of_thirty_objects(rt: HostRuntime) -> Result<(), Fail> {
     assert_eq!(rt; copy.edit_all(&edits[..1]), Ok(()));
     Ok(())
 }
+
+#[test]
+fn an_edit_is_taken_back(rt: HostRuntime) -> Result<(), Fail> {
+    let alloc = rt.alloc();
+    let mut config = Config::new(alloc, 32)?;
+    let made = config.change(&edit_of(alloc, 0)?)?;
+    assert_eq!(rt; config.tables().interfaces.len(), 1);
+    config.undo(made.undo);
+    assert_eq!(rt; config.tables().interfaces.len(), 0);
+    Ok(())
+}

@@ -1,25 +1,12 @@
 // Which prefixes a change touches, by the rows before and after.
 ghost use Rattle.std.specs.Prelude.{◌≡◌, ◌↔◌, IsTrue, IsSome, Some};
 ghost use Rattle.std.specs.List.{list_any, list_all};
-ghost use Rattle.std.specs.Cmp.Lexicographic.{pointwise};
-ghost use Rattle.fib_resolve.specs.Keys.{same_path};
 ghost use Rattle.fib_interned.specs.Interned.{kept_of};
 ghost use Rattle.fib_entries.specs.inner.Compare.{AreKept, is_that, has_that, all_there, AreAlike};
 
 use crate::rows::Row;
 use fib_paths::{PathListId, PathLists};
 use fib_resolve::{FibSource, Marked, Path, keys};
-
-fn is_same_list(xs: &[Path], ys: &[Path]) -> bool
-    ensures { result ≡ pointwise same_path xs.now ys.now }
-{
-    match (xs, ys) {
-        ([], []) => true,
-        ([x, others @ ..], [y, rest @ ..]) => keys::is_same_path(x, y)
-            && is_same_list(others, rest),
-        _ => false,
-    }
-}
 
 /// Whether it is the source with that list.
 fn is_that(
@@ -31,7 +18,7 @@ fn is_that(
     requires { IsSome (kept_of lists.now held.1) }
     ensures { result ≡ is_that lists.now source paths.now held }
 {
-    keys::is_same_source(held.0, source) && is_same_list(lists.content(held.1), paths)
+    keys::is_same_source(held.0, source) && fib_plain::is_same_list(lists.content(held.1), paths)
 }
 
 /// Whether the source with that list is among them.

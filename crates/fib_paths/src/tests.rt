@@ -28,3 +28,15 @@ fn equal_lists_are_one(rt: HostRuntime) -> Result<(), Fail> {
     assert_eq!(rt; lists.count(), 2);
     Ok(())
 }
+
+#[test]
+fn a_list_goes_with_its_last_user(rt: HostRuntime) -> Result<(), Fail> {
+    let mut lists = PathLists::new(rt.alloc());
+    let one = [via(1)];
+    let id = lists.take(&one)?;
+    assert_eq!(rt; lists.content(id).len(), 1);
+    assert_eq!(rt; lists.users(id), 1);
+    lists.give(id);
+    assert_eq!(rt; lists.count(), 0);
+    Ok(())
+}
