@@ -1,0 +1,4 @@
+pub mod Planes
+pub mod Puts
+pub mod Sound
+pub mod inner
