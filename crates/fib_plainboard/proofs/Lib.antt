@@ -1,0 +1,5 @@
+pub mod Views
+pub mod Keeping
+pub mod Passing
+pub mod Hopping
+pub mod Ending
