@@ -1,16 +1,15 @@
 -- A pass ends, with a right and steady answer.
-use Rattle.std.proofs.Common.{◌≡◌, ◌≢◌, ℕ, ◌+◌, ◌*◌, ◌%◌, ◌<◌, ◌≤◌, false, List, [], ◌∷◌, ◌++◌, length, refl, sym, ap, ◌∙◌, subst, arith, get_or-set_same, get_or-set_other, length-set}
-use Rattle.std.specs.Prelude.{slice_index, slice_index_or, slice_set, Option, Some, None}
+use Rattle.std.proofs.Common.{◌≡◌, ◌≢◌, ℕ, ◌+◌, ◌%◌, ◌^◌, ◌<◌, false, List, ◌++◌, length, sym, ap, ◌∙◌, subst, arith, get_or-set_same, get_or-set_other, length-set}
+use Rattle.std.specs.Prelude.{slice_index, slice_index_or, slice_set, Some, None}
 use Rattle.std.proofs.lemmas.List.{append-nil}
 use mathlib.Core.Logic.{dite}
 use native.Mathlib.Decide.{ℕ_discrete}
 use Rattle.fib_resolve.specs.declared.types.End.{End}
-use Rattle.fib_results.specs.declared.record.Version.{Version}
 use Rattle.fib_results.specs.Trails.{IsRecordOk}
 use Rattle.fib_results.specs.Steady.{IsSteady}
 use Rattle.fib_results.specs.Versions.{unpacked}
 use Rattle.fib_core.specs.Walk.{ended}
-use Rattle.fib_core.specs.Trails.{Trail, AreLawful, finished, place, trail_at}
+use Rattle.fib_core.specs.Trails.{Trail, AreLawful, place, trail_at}
 use Rattle.fib_lawful.specs.State.{Control, Worker, View, control, worker, spent, learned, stopped, taken_home}
 use Rattle.fib_lawful.specs.Frame.{HasView}
 use Rattle.fib_lawful.proofs.Views.{set_there}
@@ -18,7 +17,6 @@ use Rattle.fib_rule.specs.Rule.{IsLawful}
 use Rattle.fib_rule.specs.Steady.{AreSteady}
 use Rattle.fib_rule.proofs.Keeping as keep
 use Rattle.fib_rule.proofs.Tells as tells
-use Rattle.fib_board.specs.Boards.{Board}
 use Rattle.fib_plainboard.specs.Plain.{Pass, Plain, pass_of, board_ended, pass_ended, answer_of}
 use Rattle.fib_plainboard.specs.inner.Sits.{control_with, view_of, Sits, IsPlain}
 use Rattle.fib_plainboard.proofs.Views.{at_other, worker_apart, workers_apart}
@@ -126,6 +124,7 @@ module _ (words : List ℕ) (p : Plain) (s : IsPlain words p) (n : ℕ) (q : Pas
             (at_other One Seat t.seat (worker Stopped) (worker (view_of p.board m r)) other
             (at_other s.views Seat t.seat (worker Learned) (worker (view_of p.board m r)) other t.has))));
         follows = t.follows;
+        left = subst (λ x. x + 2 < 2 ^ 64) rest t.left;
       }
 
   runs_else : (m : ℕ) (r : Pass) → pass_of (pass_ended p n) m ≡ Some r → m ≢ n
@@ -151,7 +150,7 @@ module _ (words : List ℕ) (p : Plain) (s : IsPlain words p) (n : ℕ) (q : Pas
       low : (m : ℕ) → n < length p.board.rests → slice_index (slice_set p.board.rests n (slice_index p.board.rests n + 2)) m % 2 ≡ 0
       low m lt = dite (ℕ_discrete m n)
           (λ same. ap (λ i. slice_index (slice_set p.board.rests n (slice_index p.board.rests n + 2)) i % 2) same
-            ∙ ap (λ x. x % 2) (get_or-set_same p.board.rests n (slice_index p.board.rests n + 2) 0 lt) ∙ two (slice_index p.board.rests n) (s.even n))
+          ∙ ap (λ x. x % 2) (get_or-set_same p.board.rests n (slice_index p.board.rests n + 2) 0 lt) ∙ two (slice_index p.board.rests n) (s.even n))
           (λ ne. ap (λ x. x % 2) (get_or-set_other p.board.rests n m (slice_index p.board.rests n + 2) 0 ne) ∙ s.even m)
         where
           two : (x : ℕ) → x % 2 ≡ 0 → (x + 2) % 2 ≡ 0

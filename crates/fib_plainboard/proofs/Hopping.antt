@@ -1,11 +1,11 @@
 -- A hop makes the walk's next load, or reads an adjacency.
-use Rattle.std.proofs.Common.{◌≡◌, ◌≢◌, ℕ, zero, suc, ◌+◌, ◌*◌, ◌/◌, ◌-◌, ◌%◌, ◌^◌, ◌<◌, ◌≤◌, true, List, [], ◌∷◌, length, refl, sym, ap, ◌∙◌, subst, arith}
-use Rattle.std.specs.Prelude.{slice_index, slice_set, Option, Some, None, option_map, IfSome, IfNone}
+use Rattle.std.proofs.Common.{◌≡◌, ℕ, ◌+◌, ◌*◌, ◌/◌, ◌-◌, ◌%◌, ◌^◌, ◌<◌, List, [], ◌∷◌, length, refl, sym, ap, ◌∙◌, subst, arith}
+use Rattle.std.specs.Prelude.{slice_index, slice_set, Option, Some, option_map, IfSome, IfNone}
 use Rattle.std.proofs.lemmas.List.{set-set}
 use Rattle.fib_addr.specs.Prefixes.{nibble}
 use Rattle.fib_resolve.specs.declared.types.End.{End}
 use Rattle.fib_core.specs.declared.word.Word.{Word}
-use Rattle.fib_core.specs.Words.{decoded, goes, is_edge, value_of}
+use Rattle.fib_core.specs.Words.{decoded, value_of}
 use Rattle.fib_core.specs.Walk.{Place, ply, balance, adjacency, ended, object_of, asked, next, from_ply, from_balance, halved, hop_of, mac_in}
 use Rattle.fib_core.specs.Trails.{Load, Follows, IsGoing, IsMac, IsProper, IsProperEnd, IsSoundTrail, place}
 use Rattle.fib_core.proofs.Numbers.{goes_of}
@@ -14,8 +14,8 @@ use Rattle.fib_hops.specs.declared.stage.Stage.{Stage}
 use Rattle.fib_hops.specs.declared.stage.Stage.TheVariants as stages
 use Rattle.fib_hops.specs.Stages.{StandsAt, end_in}
 use Rattle.fib_plainboard.specs.Plain.{Pass, Plain, pass_of, load_of, further, pass_hopped, hopped_on, loads_in, FoundEdge}
-use Rattle.fib_plainboard.specs.inner.Reads.{word_in, IsIn, IsAdjacencyIn, IsReadable, IsNext}
-use Rattle.fib_plainboard.specs.inner.Sits.{Sits, IsPlain}
+use Rattle.fib_plainboard.specs.inner.Reads.{word_in, IsIn, IsReadable, IsNext}
+use Rattle.fib_plainboard.specs.inner.Sits.{IsPlain}
 use Rattle.fib_plainboard.proofs.Keeping.{cell_now, word_now, words_long}
 use Rattle.fib_plainboard.proofs.Passing.{with_pass, with_load, pass_same, inside, sound, place_inside, hops_once}
 
@@ -44,7 +44,7 @@ module _ (words : List ℕ) (p : Plain) (s : IsPlain words p) (n : ℕ) (q : Pas
   is_in : (o : ℕ) → o < p.board.objects → IsIn words o
   is_in o lt = record {
     room = (let long = words_long words p s in omega arith);
-    words = λ t low. word_now words p s (16 * o + t) (omega arith);
+    found = λ t low. word_now words p s (16 * o + t) (omega arith);
   }
 
   -- the three words of the adjacency o
@@ -153,7 +153,7 @@ module _ (words : List ℕ) (p : Plain) (s : IsPlain words p) (n : ℕ) (q : Pas
   readable (stages.Ended e) at going = tt
 
   -- where it stands then
-  stands_at : (stage then_at : Stage) → StandsAt q.hash (place q.loads) stage → IsGoing (place q.loads) → IsNext words q.addr q.hash stage then_at
+  pub stands_at : (stage then_at : Stage) → StandsAt q.hash (place q.loads) stage → IsGoing (place q.loads) → IsNext words q.addr q.hash stage then_at
       → StandsAt q.hash (place (further Cells q.addr q.hash (place q.loads) q.loads)) then_at
   stands_at (stages.Ply o d) r at going is =
       let lt : o < p.board.objects = subst (λ x. object_of x < p.board.objects) at (place_inside words p s n q runs going) in

@@ -1,16 +1,15 @@
 -- The control plane's calls keep what belongs together.
-use Rattle.std.proofs.Common.{◌≡◌, ◌≢◌, ℕ, ◌+◌, ◌*◌, ◌<◌, true, false, List, [], ◌∷◌, length, refl, sym, ap, ◌∙◌, subst, arith}
+use Rattle.std.proofs.Common.{◌≡◌, ℕ, ◌+◌, ◌*◌, ◌<◌, true, false, List, length, sym, ap, ◌∙◌, subst}
 use Rattle.std.specs.Prelude.{slice_index, slice_index_or, slice_set, Some, None}
 use Rattle.fib_resolve.specs.declared.types.Tables.{Tables}
-use Rattle.fib_results.specs.declared.record.Version.{Version}
 use Rattle.fib_results.specs.Versions.{packed, unpacked}
 use Rattle.fib_results.proofs.Versions.{unpacked_packed}
 use Rattle.fib_core.specs.declared.word.Word.{Word}
 use Rattle.fib_core.specs.Words.{IsWord, encoded}
 use Rattle.fib_core.specs.Union.{Union, scanned}
 use Rattle.fib_core.specs.Trails.{AreLawful}
-use Rattle.fib_lawful.specs.State.{Control, Log, View, control, worker, stored_union, begun, settled}
-use Rattle.fib_lawful.specs.Frame.{HasView, IsDesk}
+use Rattle.fib_lawful.specs.State.{Control, Log, control, worker, stored_union, begun, settled}
+use Rattle.fib_lawful.specs.Frame.{IsDesk}
 use Rattle.fib_lawful.specs.Lawful.{OfControl}
 use Rattle.fib_lawful.proofs.Framing.{own}
 use Rattle.fib_lawful.proofs.Views.{set_there}
@@ -18,12 +17,12 @@ use Rattle.fib_rule.specs.Rule.{IsLawful, parts}
 use Rattle.fib_rule.specs.Steady.{AreSteady}
 use Rattle.fib_rule.proofs.Keeping as keep
 use Rattle.fib_rule.proofs.Tells.{pass_known}
-use Rattle.fib_board.specs.Boards.{Board, as_control, board_begun, board_settled}
+use Rattle.fib_board.specs.Boards.{as_control, board_begun, board_settled}
 use Rattle.fib_board.specs.May.{MayStore, MayBegin, MaySettle}
 use Rattle.fib_board.specs.Told.{IsBoard}
 use Rattle.fib_board.proofs.Ruling.{store_allowed, begin_allowed, told}
 use Rattle.fib_plainboard.specs.Plain.{Pass, Plain, pass_of, with_board}
-use Rattle.fib_plainboard.specs.inner.Sits.{control_with, view_of, Sits, IsPlain, put_at, looked_at, settled_at}
+use Rattle.fib_plainboard.specs.inner.Sits.{control_with, view_of, Sits, IsPlain, put_at, looked_at}
 use Rattle.fib_plainboard.proofs.Views.{at_other, worker_apart}
 
 module _ (words : List ℕ) (p : Plain) (s : IsPlain words p) where
@@ -92,6 +91,7 @@ module _ (words : List ℕ) (p : Plain) (s : IsPlain words p) where
         has = at_other s.views 0 t.seat (control (control_with (record p.board { union = u; log = l; stored = m }) s.home s.picked)) (worker (view_of p.board n q))
             (worker_apart s.views Own (view_of p.board n q) t.seat s.mine t.has) t.has;
         follows = t.follows;
+        left = t.left;
       }
 
   pub stores : (k : ℕ) (w : Word) → MayStore p.board k w → IsPlain (slice_set words (16 + k) (encoded w)) (put_at p k (encoded w))

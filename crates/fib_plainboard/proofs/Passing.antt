@@ -1,5 +1,5 @@
 -- Passes begin and go on.
-use Rattle.std.proofs.Common.{◌≡◌, ◌≢◌, ℕ, zero, suc, ◌+◌, ◌*◌, ◌%◌, ◌^◌, ◌<◌, ◌≤◌, true, false, List, [], ◌∷◌, ◌++◌, length, refl, sym, ap, ◌∙◌, subst, arith, get_or-set_same, get_or-set_other, length-set}
+use Rattle.std.proofs.Common.{◌≡◌, ◌≢◌, ℕ, zero, suc, ◌+◌, ◌*◌, ◌^◌, ◌<◌, true, false, List, [], ◌∷◌, ◌++◌, length, refl, sym, ap, ◌∙◌, subst, arith, get_or-set_same, get_or-set_other, length-set}
 use Rattle.std.specs.Prelude.{slice_index, slice_index_or, slice_set, Option, Some, None, unwrap_or}
 use Rattle.std.specs.List.{AllByRecursion}
 use mathlib.Core.Logic.{dite}
@@ -7,7 +7,7 @@ use native.Mathlib.Decide.{ℕ_discrete}
 use Rattle.fib_results.specs.declared.record.Version.{Version}
 use Rattle.fib_union.specs.Unions.{owner}
 use Rattle.fib_core.specs.Walk.{object_of, asked}
-use Rattle.fib_core.specs.Trails.{Load, Follows, IsGoing, IsSoundTrail, place, stands, visited}
+use Rattle.fib_core.specs.Trails.{Load, IsGoing, IsSoundTrail, place, stands, visited}
 use Rattle.fib_core.proofs.Numbers.{owner_of}
 use Rattle.fib_lawful.specs.State.{Control, Worker, View, control, worker, hopped, lo_at, new_worker, picking, sent, started}
 use Rattle.fib_lawful.specs.Frame.{HasView}
@@ -16,10 +16,9 @@ use Rattle.fib_rule.specs.Rule.{IsLawful}
 use Rattle.fib_rule.specs.May.{MayLoad, MaySend}
 use Rattle.fib_rule.proofs.Keeping as keep
 use Rattle.fib_rule.proofs.Tells as tells
-use Rattle.fib_board.specs.Boards.{Board}
 use Rattle.fib_board.specs.Crews.{board_sent}
 use Rattle.fib_plainboard.specs.Plain.{Pass, Plain, pass_of, pass_begun, load_of}
-use Rattle.fib_plainboard.specs.inner.Sits.{control_with, view_of, Sits, IsPlain}
+use Rattle.fib_plainboard.specs.inner.Sits.{view_of, Sits, IsPlain}
 use Rattle.fib_plainboard.proofs.Views.{at_other, at_left, at_last, at_below, worker_apart, workers_apart}
 use Rattle.fib_plainboard.proofs.Keeping.{Own, facts, cell_now}
 
@@ -59,7 +58,7 @@ lo_same (l ∷ t) v = refl
 
 module _ (words : List ℕ) (p : Plain) (s : IsPlain words p) where
   -- a pass begins: its number is picked, its seat is split off, and it stores its pass word
-  module _ (n a h : ℕ) (known : n < p.board.workers) (none : pass_of p n ≡ None) (flow : (a < 2 ^ 32) × (h < 2 ^ 32)) where
+  module _ (n a h : ℕ) (known : n < p.board.workers) (none : pass_of p n ≡ None) (flow : (a < 2 ^ 32) × (h < 2 ^ 32)) (left : slice_index p.board.rests n + 2 < 2 ^ 64) where
     abbrev First : Pass
     First = record { addr = a; hash = h; lo = p.board.log.version; loads = [] }
 
@@ -106,17 +105,17 @@ module _ (words : List ℕ) (p : Plain) (s : IsPlain words p) where
         let below = at_below s.views seat (worker v) has in
         let same = same_length in
         at_other Sent (length Two) seat (worker (started (new_worker Picked) (slice_index p.board.rests n + 1))) (worker v) (λ e. omega arith)
-            (at_left Two (worker (new_worker Picked) ∷ []) seat (worker v)
-            (at_other One 0 seat (control (sent Picked)) (worker v) apart
-            (at_other s.views 0 seat (control Picked) (worker v) apart has)))
+        (at_left Two (worker (new_worker Picked) ∷ []) seat (worker v)
+        (at_other One 0 seat (control (sent Picked)) (worker v) apart
+        (at_other s.views 0 seat (control Picked) (worker v) apart has)))
 
     sits_begun : (m : ℕ) (q : Pass) → pass_of (pass_begun p n a h) m ≡ Some q → Sits Begun (board_sent p.board n) m q
     sits_begun m q e = dite (ℕ_discrete m n)
         (λ same. subst (λ (x : ℕ × Pass). Sits Begun (board_sent p.board n) x.0 x.1)
-            (λ i. (sym same i, some_is First q (sym (pass_same p.passes n (Some First) in_passes) ∙ ap (pass_of (pass_begun p n a h)) (sym same) ∙ e) i))
-            (record { seat = length Two; has = set_there Sent (length Two) (worker (new_worker Picked)) (worker (started (new_worker Picked) (slice_index p.board.rests n + 1))) (at_last Two (worker (new_worker Picked))); follows = flow }))
+        (λ i. (sym same i, some_is First q (sym (pass_same p.passes n (Some First) in_passes) ∙ ap (pass_of (pass_begun p n a h)) (sym same) ∙ e) i))
+        (record { seat = length Two; has = set_there Sent (length Two) (worker (new_worker Picked)) (worker (started (new_worker Picked) (slice_index p.board.rests n + 1))) (at_last Two (worker (new_worker Picked))); follows = flow; left = left }))
         (λ ne. let t = s.sits m q (sym (pass_other p.passes n (Some First) m ne) ∙ e) in
-            record { seat = t.seat; has = still t.seat (view_of p.board m q) t.has; follows = t.follows })
+        record { seat = t.seat; has = still t.seat (view_of p.board m q) t.has; follows = t.follows; left = t.left })
 
     pub begins : IsPlain (slice_set words (n + 1) (slice_index p.board.rests n + 1)) (pass_begun p n a h)
     begins = record {
@@ -143,7 +142,7 @@ module _ (words : List ℕ) (p : Plain) (s : IsPlain words p) where
 
   -- a running pass
   module _ (n : ℕ) (q : Pass) (runs : pass_of p n ≡ Some q) where
-    abbrev Sat : Worker
+    abbrev pub Sat : Worker
     Sat = view_of p.board n q
 
     pub sound : IsSoundTrail p.board.objects q.loads
@@ -183,17 +182,19 @@ module _ (words : List ℕ) (p : Plain) (s : IsPlain words p) where
       sits_gone : (m : ℕ) (r : Pass) → pass_of (with_pass p n Next) m ≡ Some r → Sits Gone p.board m r
       sits_gone m r e = dite (ℕ_discrete m n)
           (λ same. subst (λ (x : ℕ × Pass). Sits Gone p.board x.0 x.1)
-              (λ i. (sym same i, some_is Next r (sym (pass_same p.passes n (Some Next) (inside p.passes n q runs)) ∙ ap (pass_of (with_pass p n Next)) (sym same) ∙ e) i))
-              (record {
-                seat = (s.sits n q runs).seat;
-                has = set_there s.views (s.sits n q runs).seat (worker Sat) (worker (view_of p.board n Next)) (s.sits n q runs).has;
-                follows = (asks, going, (s.sits n q runs).follows);
-              }))
+          (λ i. (sym same i, some_is Next r (sym (pass_same p.passes n (Some Next) (inside p.passes n q runs)) ∙ ap (pass_of (with_pass p n Next)) (sym same) ∙ e) i))
+          (record {
+            seat = (s.sits n q runs).seat;
+            has = set_there s.views (s.sits n q runs).seat (worker Sat) (worker (view_of p.board n Next)) (s.sits n q runs).has;
+            follows = (asks, going, (s.sits n q runs).follows);
+            left = (s.sits n q runs).left;
+          }))
           (λ ne. let t = s.sits m r (sym (pass_other p.passes n (Some Next) m ne) ∙ e) in record {
             seat = t.seat;
             has = at_other s.views (s.sits n q runs).seat t.seat (worker (view_of p.board n Next)) (worker (view_of p.board m r))
                 (workers_apart s.views Sat (view_of p.board m r) (s.sits n q runs).seat t.seat (s.sits n q runs).has t.has (λ same. ne (sym same))) t.has;
             follows = t.follows;
+            left = t.left;
           })
 
       pub hops_once : IsPlain words (with_pass p n Next)

@@ -10,4 +10,3 @@ mod plain_board;
 mod running;
 
 pub use plain_board::PlainBoard;
-

@@ -1,13 +1,15 @@
 // The board as one value, and its passes.
-ghost use Rattle.std.specs.Prelude.{IfNone, IfOk, IfSome, IsTrue, None, Some, slice_index, slice_index_or, ◌*◌, ◌+◌, ◌<◌, ◌≡◌, ◌↔◌, false, length};
+ghost use Rattle.std.specs.Prelude.{IfNone, IfOk, IfSome, IsTrue, None, Some, replicate, slice_index, slice_index_or, ◌*◌, ◌+◌, ◌<◌, ◌≡◌, ◌↔◌, false, length};
 ghost use Rattle.fib_resolve.specs.declared.types.End.{End as Ending};
 ghost use Rattle.fib_results.specs.Steady.{IsSteady};
 ghost use Rattle.fib_results.specs.Trails.{IsRecordOk};
 ghost use Rattle.fib_core.specs.Trails.{Follows, place};
 ghost use Rattle.fib_core.specs.Words.{IsWord, decoded};
+ghost use Rattle.fib_hops.specs.declared.stage.Stage.TheVariants.{Ended};
 ghost use Rattle.fib_hops.specs.Stages.{end_in};
 ghost use Rattle.fib_lawful.specs.State.{left_of};
 ghost use Rattle.fib_board.specs.Told.{IsWithinLimits};
+ghost use Rattle.fib_plainboard.specs.declared.running.Running.{Running as Kept};
 ghost use Rattle.fib_plainboard.specs.Plain.{FoundEdge, HasEnd, IsOnItsWay, IsRunning, Pass, answer_of, fresh_plain, hopped_on, loads_in, pass_begun, pass_ended, pass_of};
 ghost use Rattle.fib_plainboard.specs.inner.Reads.{IsNext, IsReadable};
 
@@ -44,19 +46,26 @@ impl Model for PlainBoard {
     ghost invariant = { λ b. IsPlain b.words.items b.memory × IsKept b.objects b.workers b.passes b.memory };
 }
 
+// That many words, each 0.
+fn zeros(alloc: Global, count: usize) -> Result<Vec<u64>, AllocError>
+    ensures { IfOk result (λ v. v.items ≡ replicate count 0) }
+{
+    Ok(vec![in alloc; 0; count]?)
+}
+
 // The word in a cell, which is word 16 + 16 * object + slot.
-fn word_at(words: &[u64], object: u32, slot: u32) -> Word
-    requires inside { 16 + (16 * object + slot) < length words.now }
-    requires word { IsWord (slice_index words.now (16 + (16 * object + slot))) }
-    ensures { result ≡ decoded (slice_index words.now (16 + (16 * object + slot))) }
+fn word_at(words: &Vec<u64>, object: u32, slot: u32) -> Word
+    requires inside { 16 + (16 * object + slot) < length words.now.items }
+    requires word { IsWord (slice_index words.now.items (16 + (16 * object + slot))) }
+    ensures { result ≡ decoded (slice_index words.now.items (16 + (16 * object + slot))) }
 {
     Word::decode(words[16 + 16 * object as usize + slot as usize])
 }
 
 // One load of a ply's or a balance's cell, or the three words of an adjacency.
-fn next_stage(words: &[u64], addr: Addr, hash: u32, stage: Stage) -> Stage
-    requires { IsReadable words.now stage }
-    ensures { IsNext words.now addr hash stage result }
+fn next_stage(words: &Vec<u64>, addr: Addr, hash: u32, stage: Stage) -> Stage
+    requires { IsReadable words.now.items stage }
+    ensures { IsNext words.now.items addr hash stage result }
 {
     match stage {
         Stage::Ply { object, depth } => {
@@ -77,14 +86,49 @@ fn next_stage(words: &[u64], addr: Addr, hash: u32, stage: Stage) -> Stage
     }
 }
 
+// The pass at the stage to which the hop brings it.
+fn hopped(words: &Vec<u64>, pass: Running) -> Running
+    requires { IsReadable words.now.items pass.stage }
+    ensures same { (result.addr ≡ pass.addr) × (result.hash ≡ pass.hash) × (result.lo ≡ pass.lo) }
+    ensures next { IsNext words.now.items pass.addr pass.hash pass.stage result.stage }
+{
+    let stage = next_stage(words, pass.addr, pass.hash, pass.stage);
+    Running {
+        addr: pass.addr,
+        hash: pass.hash,
+        lo: pass.lo,
+        stage,
+    }
+}
+
 // A running pass.
 fn running_pass(passes: &[Option<Running>; 8], worker: usize) -> Running
-    requires { (r : Rattle.fib_plainboard.specs.declared.running.Running.Running) × (slice_index_or passes.now worker None ≡ Some r) }
+    requires { (r : Kept) × (slice_index_or passes.now worker None ≡ Some r) }
     ensures { slice_index_or passes.now worker None ≡ Some result }
 {
     match passes[worker] {
         Some(pass) => pass,
         None => unreachable!(),
+    }
+}
+
+// The address as a number of 32 bits.
+fn bits_of(addr: Addr) -> u32
+    ensures { result ≡ addr }
+{
+    addr.0
+}
+
+// The end of a stage that is one.
+fn ended(stage: Stage) -> End
+    requires { (e : Ending) × (stage ≡ Ended e) }
+    ensures { stage ≡ Ended result }
+{
+    match stage {
+        Stage::Ended(end) => end,
+        Stage::Ply { .. } => unreachable!(),
+        Stage::Balance { .. } => unreachable!(),
+        Stage::Adjacency { .. } => unreachable!(),
     }
 }
 
@@ -95,7 +139,7 @@ impl PlainBoard {
         requires { IsWithinLimits objects workers }
         ensures { IfOk result (λ b. b ≡ fresh_plain objects workers) }
     {
-        let words = vec![in alloc; 0; 16 + 16 * objects as usize]?;
+        let words = zeros(alloc, 16 + 16 * objects as usize)?;
         let memory = Memory::new(alloc, &Room { objects, workers })?;
         Ok(PlainBoard {
             words,
@@ -118,7 +162,7 @@ impl PlainBoard {
         let place = worker as usize;
         let lo = Version::decode(self.words[0]);
         self.words[place + 1] += 1;
-        self.memory.send(worker as u64, addr.0 as u64);
+        self.memory.send(worker as u64, bits_of(addr) as u64);
         self.memory.aim(worker as u64, hash as u64);
         self.passes[place] = Some(Running {
             addr,
@@ -139,11 +183,11 @@ impl PlainBoard {
         ensures other { IfSome result (λ _. FoundEdge (loads_in (pass_of self.new worker)) → ⊥) }
     {
         let place = worker as usize;
-        let pass = running_pass(&self.passes, place);
-        let stage = next_stage(self.words.as_slice(), pass.addr, pass.hash, pass.stage);
+        let pass = hopped(&self.words, running_pass(&self.passes, place));
+        let end = pass.stage.end();
         self.memory.hop(worker as u64);
-        self.passes[place] = Some(Running { stage, ..pass });
-        stage.end()
+        self.passes[place] = Some(pass);
+        end
     }
 
     /// Ends the running pass of that worker, which has its end. The answer is right and steady over the versions that the pass spanned, from that
@@ -161,15 +205,12 @@ impl PlainBoard {
         self.words[place + 1] += 1;
         self.memory.end(worker as u64);
         self.passes[place] = None;
-        let Stage::Ended(end) = pass.stage else {
-            unreachable!()
-        };
         Record {
             addr: pass.addr,
             hash: pass.hash,
             lo: pass.lo,
             hi,
-            end,
+            end: ended(pass.stage),
         }
     }
 
@@ -186,7 +227,10 @@ impl PlainBoard {
 impl Board for PlainBoard {
     ghost view = { λ p. p.board };
 
-    fn tells(&self) {}
+    fn tells(&self) {
+        // The type's invariant tells it, once a field is used.
+        let _objects = self.objects;
+    }
 
     fn objects(&self) -> u32 {
         self.objects
@@ -201,7 +245,7 @@ impl Board for PlainBoard {
     }
 
     fn load(&self, object: u32, slot: u32) -> Word {
-        word_at(self.words.as_slice(), object, slot)
+        word_at(&self.words, object, slot)
     }
 
     fn store(&mut self, object: u32, slot: u32, word: Word) {

@@ -16,7 +16,7 @@ word_in words k = decoded (slice_index words (16 + k))
 -- the object is one, and its cells hold words
 pub record IsIn (words : List ℕ) (o : ℕ) : Type 0 where
   pub room : 32 + 16 * o ≤ length words
-  pub words : (s : ℕ) → s < 16 → IsWord (slice_index words (16 + (16 * o + s)))
+  pub found : (s : ℕ) → s < 16 → IsWord (slice_index words (16 + (16 * o + s)))
 
 pub record IsAdjacencyIn (words : List ℕ) (o : ℕ) : Type 0 where
   pub interface : value_of (word_in words (16 * o + 0)) < 2 ^ 32

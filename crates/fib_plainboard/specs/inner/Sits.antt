@@ -1,5 +1,5 @@
 -- How the words, the running passes and the rule of the shared words belong together.
-use Rattle.std.specs.Prelude.{◌≡◌, ℕ, ◌+◌, ◌*◌, ◌%◌, ◌<◌, false, List, [], Option, Some, None, option_map, length, slice_index, slice_index_or, slice_set}
+use Rattle.std.specs.Prelude.{◌≡◌, ℕ, ◌+◌, ◌%◌, ◌^◌, ◌<◌, false, List, [], Option, Some, None, option_map, length, slice_index, slice_index_or, slice_set}
 use mathlib.Core.Option.{some, none}
 use Rattle.atomic_table.specs.Table.{Step, Me}
 use Rattle.fib_resolve.specs.declared.types.Tables.{Tables}
@@ -45,6 +45,7 @@ pub record Sits (views : List View) (b : Board) (n : ℕ) (q : Pass) : Type 0 wh
   pub seat : ℕ
   pub has : HasView views seat (worker (view_of b n q))
   pub follows : Follows q.addr q.hash q.loads
+  pub left : slice_index b.rests n + 2 < 2 ^ 64
 
 -- the words and some views meet the rule; the control plane's view is the board's, and each running pass has its seat
 pub record IsPlain (words : List ℕ) (p : Plain) : Type 0 where
@@ -69,8 +70,8 @@ Keeps (Some r) None = ⊥
 Keeps (Some r) (Some q) = (r.addr ≡ q.addr) × (r.hash ≡ q.hash) × (r.lo ≡ q.lo) × StandsAt q.hash (place q.loads) r.stage
 
 pub record IsKept (objects workers : ℕ) (running : List (Option Running)) (p : Plain) : Type 0 where
-  pub objects : p.board.objects ≡ objects
-  pub workers : p.board.workers ≡ workers
+  pub all : p.board.objects ≡ objects
+  pub crew : p.board.workers ≡ workers
   pub long : length running ≡ 8
   pub keeps : (n : ℕ) → Keeps (slice_index_or running n None) (pass_of p n)
 
