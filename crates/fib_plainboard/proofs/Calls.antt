@@ -1,6 +1,6 @@
 -- What each call of a plain board owes, of its fields.
 use Rattle.std.proofs.Common.{◌≡◌, ℕ, zero, suc, ◌+◌, ◌-◌, ◌*◌, ◌/◌, ◌%◌, ◌^◌, ◌<◌, false, List, [], ◌∷◌, length, get_or, refl, sym, ap, ◌∙◌, subst, arith, get_or-set_same, get_or-set_other, length-set}
-use Rattle.std.specs.Prelude.{slice_index, slice_index_or, slice_set, replicate, Option, Some, None, option_map, is_some, IsTrue}
+use Rattle.std.specs.Prelude.{slice_index, slice_index_or, slice_set, replicate, Option, Some, None, option_map, is_some, IsTrue, IfNone, IfSome}
 use Rattle.std.proofs.lemmas.Grind.{get_or_default_zero}
 use Rattle.std.proofs.lemmas.List.{set-set}
 use Rattle.std.proofs.lemmas.Bool.{false≢true}
@@ -21,12 +21,12 @@ use Rattle.fib_lawful.specs.State.{control, first_control, left_of}
 use Rattle.fib_rule.proofs.Fresh.{fresh_lawful}
 use Rattle.fib_hops.specs.declared.stage.Stage.{Stage}
 use Rattle.fib_hops.specs.declared.stage.Stage.TheVariants as stages
-use Rattle.fib_hops.specs.Stages.{StandsAt}
+use Rattle.fib_hops.specs.Stages.{StandsAt, end_in}
 use Rattle.fib_board.specs.Crews.{board_sent}
 use Rattle.fib_board.specs.May.{MayStore, MayBegin, MaySettle}
 use Rattle.fib_board.specs.Told.{IsWithinLimits}
 use Rattle.fib_plainboard.specs.declared.running.Running.{Running}
-use Rattle.fib_plainboard.specs.Plain.{Pass, Plain, pass_of, fresh_plain, IsRunning, pass_begun, pass_hopped, pass_ended, answer_of, loads_in, FoundEdge}
+use Rattle.fib_plainboard.specs.Plain.{Pass, Plain, pass_of, fresh_plain, IsRunning, IsOnItsWay, HasEnd, pass_begun, pass_hopped, pass_ended, answer_of, loads_in, FoundEdge}
 use Rattle.fib_plainboard.specs.inner.Reads.{IsReadable, IsNext}
 use Rattle.fib_plainboard.specs.inner.Sits.{IsPlain, IsKept, Keeps, put_at, looked_at, settled_at, begun_with, sent_at, aimed_at, with_hash, ended_at, hopped_at}
 use Rattle.fib_plainboard.proofs.Keeping as keep
@@ -110,6 +110,12 @@ module _ (running : List (Option Running)) (passes : List (Option Pass)) (n : �
     where
       both : (a : Option Running) (b : Option Pass) (c : Option Running) (d : Option Pass) → a ≡ c → b ≡ d → Keeps c d → Keeps a b
       both a b c d x y h = subst (λ (u : Option Running). Keeps u b) (sym x) (subst (Keeps c) (sym y) h)
+
+-- it is then on its way
+pub begun_on : (p : Plain) (n a h : ℕ) → n < length p.passes → IsOnItsWay (pass_begun p n a h) n
+begun_on p n a h lt =
+    let first : Pass = record { addr = a; hash = h; lo = p.board.log.version; loads = [] } in
+    (first, pass_same p.passes n (Some first) lt, tt)
 
 module _ (words : List ℕ) (p : Plain) (s : IsPlain words p) (objects workers : ℕ) (running : List (Option Running)) (k : IsKept objects workers running p) where
   pub in_words : (i : ℕ) → i < 16 → i < length words
@@ -200,9 +206,11 @@ module _ (words : List ℕ) (p : Plain) (s : IsPlain words p) (objects workers :
       next_is : IsNext words q.addr q.hash kept.stage then_kept.stage
       next_is = subst (λ (x : ℕ × ℕ). IsNext words x.0 x.1 kept.stage then_kept.stage) (λ i. (is_kept.0 i, is_kept.1 i)) next
 
-      pub hop_stands : StandsAt q.hash (place (loads_in (pass_of new n))) then_kept.stage
-      hop_stands = subst (λ (r : Plain). StandsAt q.hash (place (loads_in (pass_of r n))) then_kept.stage) (sym then)
-          (hopping.stands words p s n q runs kept.stage then_kept.stage is_kept.3 going next_is)
+      hop_stands : StandsAt q.hash (place (pass_hopped p.board.union.cells q).loads) then_kept.stage
+      hop_stands = hopping.stands_at words p s n q runs kept.stage then_kept.stage is_kept.3 going next_is
+
+      hop_runs : pass_of new n ≡ Some (pass_hopped p.board.union.cells q)
+      hop_runs = ap (λ (r : Plain). pass_of r n) then ∙ hopping.hopped_runs words p s n q runs
 
       pub hop_kept : IsPlain words new × IsKept objects workers (slice_set running n (Some then_kept)) new
       hop_kept = subst (λ r. IsPlain words r × IsKept objects workers (slice_set running n (Some then_kept)) r) (sym then) (
@@ -217,11 +225,15 @@ module _ (words : List ℕ) (p : Plain) (s : IsPlain words p) (objects workers :
         },
       )
 
-      pub hop_edge : (FoundEdge (loads_in (pass_of new n)) → IsGoing (place (loads_in (pass_of new n)))) × (IsGoing (place (loads_in (pass_of new n))) → FoundEdge (loads_in (pass_of new n)))
-      hop_edge = subst (λ (r : Plain). (FoundEdge (loads_in (pass_of r n)) → IsGoing (place (loads_in (pass_of r n)))) × (IsGoing (place (loads_in (pass_of r n))) → FoundEdge (loads_in (pass_of r n)))) (sym then) (
-        hopping.edge_on words p s n q runs kept.stage is_kept.3 going,
-        hopping.on_edge words p s n q runs kept.stage is_kept.3 going,
-      )
+      -- its answer
+      module _ (r : Option End) (gives : (h : ℕ) (at : Place) → StandsAt h at then_kept.stage → r ≡ end_in at) where
+        pub hop_on : IfNone r (IsOnItsWay new n × FoundEdge (loads_in (pass_of new n)))
+        hop_on = hopping.none_on new n (pass_hopped p.board.union.cells q) hop_runs r (gives q.hash (place (pass_hopped p.board.union.cells q).loads) hop_stands)
+            (hopping.on_edge words p s n q runs kept.stage is_kept.3 going)
+
+        pub hop_ended : IfSome r (λ e. HasEnd new n e × (FoundEdge (loads_in (pass_of new n)) → ⊥))
+        hop_ended = hopping.some_ended new n (pass_hopped p.board.union.cells q) hop_runs r (gives q.hash (place (pass_hopped p.board.union.cells q).loads) hop_stands)
+            (hopping.edge_on words p s n q runs kept.stage is_kept.3 going)
 
     -- and ends
     module _ (e : End) (at : place q.loads ≡ ended e) where

@@ -13,7 +13,7 @@ use Rattle.fib_core.proofs.Stands.{low16, ply_moves, balance_moves, goes_on}
 use Rattle.fib_hops.specs.declared.stage.Stage.{Stage}
 use Rattle.fib_hops.specs.declared.stage.Stage.TheVariants as stages
 use Rattle.fib_hops.specs.Stages.{StandsAt, end_in}
-use Rattle.fib_plainboard.specs.Plain.{Pass, Plain, pass_of, load_of, further, pass_hopped, hopped_on, loads_in, FoundEdge}
+use Rattle.fib_plainboard.specs.Plain.{Pass, Plain, pass_of, load_of, further, pass_hopped, hopped_on, loads_in, FoundEdge, IsOnItsWay, HasEnd}
 use Rattle.fib_plainboard.specs.inner.Reads.{word_in, IsIn, IsReadable, IsNext}
 use Rattle.fib_plainboard.specs.inner.Sits.{IsPlain}
 use Rattle.fib_plainboard.proofs.Keeping.{cell_now, word_now, words_long}
@@ -179,10 +179,6 @@ module _ (words : List ℕ) (p : Plain) (s : IsPlain words p) (n : ℕ) (q : Pas
       (ap (λ x. place (further Cells q.addr q.hash x q.loads)) at ∙ place_three o at ∙ (λ j. ended (hop_of (sym i j) (sym g j) (sym m j))))
   stands_at (stages.Ended e) r at going is = absurd (subst IsGoing at going)
 
-  pub stands : (stage then_at : Stage) → StandsAt q.hash (place q.loads) stage → IsGoing (place q.loads) → IsNext words q.addr q.hash stage then_at
-      → StandsAt q.hash (place (loads_in (pass_of (hopped_on p n) n))) then_at
-  stands stage r at going is = subst (λ o. StandsAt q.hash (place (loads_in o)) r) (sym hopped_runs) (stands_at stage r at going is)
-
   -- it goes on exactly where it loaded an edge
   going_at : (stage : Stage) → StandsAt q.hash (place q.loads) stage → IsGoing (place q.loads)
       → IsGoing (place (further Cells q.addr q.hash (place q.loads) q.loads)) → FoundEdge (further Cells q.addr q.hash (place q.loads) q.loads)
@@ -201,32 +197,35 @@ module _ (words : List ℕ) (p : Plain) (s : IsPlain words p) (n : ℕ) (q : Pas
   going_at (stages.Ended e) at going on = absurd (subst IsGoing at going)
 
   pub on_edge : (stage : Stage) → StandsAt q.hash (place q.loads) stage → IsGoing (place q.loads)
-      → IsGoing (place (loads_in (pass_of (hopped_on p n) n))) → FoundEdge (loads_in (pass_of (hopped_on p n) n))
-  on_edge stage at going = subst (λ o. IsGoing (place (loads_in o)) → FoundEdge (loads_in o)) (sym hopped_runs) (going_at stage at going)
+      → IsGoing (place (pass_hopped Cells q).loads) → FoundEdge (pass_hopped Cells q).loads
+  on_edge = going_at
 
   pub edge_on : (stage : Stage) → StandsAt q.hash (place q.loads) stage → IsGoing (place q.loads)
-      → FoundEdge (loads_in (pass_of (hopped_on p n) n)) → IsGoing (place (loads_in (pass_of (hopped_on p n) n)))
+      → FoundEdge (pass_hopped Cells q).loads → IsGoing (place (pass_hopped Cells q).loads)
   edge_on stage at going =
       let k : IsPlain words (hopped_on p n) = hops stage at going in
-      subst (λ o. FoundEdge (loads_in o) → IsGoing (place (loads_in o))) (sym hopped_runs)
-      (edge_going q.addr q.hash p.board.objects (further Cells q.addr q.hash (place q.loads) q.loads)
-      (k.sits n (pass_hopped Cells q) hopped_runs).follows (sound words (hopped_on p n) k n (pass_hopped Cells q) hopped_runs))
+      edge_going q.addr q.hash p.board.objects (further Cells q.addr q.hash (place q.loads) q.loads)
+      (k.sits n (pass_hopped Cells q) hopped_runs).follows (sound words (hopped_on p n) k n (pass_hopped Cells q) hopped_runs)
 
 -- None exactly where the last load was of an edge
-pub none_edge : (t : List Load) (r : Option End) → (IsGoing (place t) → FoundEdge t) → r ≡ end_in (place t) → IfNone r (FoundEdge t)
-none_edge t r on is = subst (λ x. IfNone x (FoundEdge t)) (sym is) (by_place (place t) on)
-  where
-    by_place : (x : Place) → (IsGoing x → FoundEdge t) → IfNone (end_in x) (FoundEdge t)
-    by_place (ply o d) on = on tt
-    by_place (balance o m) on = on tt
-    by_place (adjacency o read) on = on tt
-    by_place (ended e) on = tt
+module _ (p : Plain) (n : ℕ) (q : Pass) (runs : pass_of p n ≡ Some q) (r : Option End) (is : r ≡ end_in (place q.loads)) where
+  pub none_on : (IsGoing (place q.loads) → FoundEdge q.loads) → IfNone r (IsOnItsWay p n × FoundEdge (loads_in (pass_of p n)))
+  none_on on = subst (λ x. IfNone x (IsOnItsWay p n × FoundEdge (loads_in (pass_of p n)))) (sym is) (by_place (place q.loads) (λ g. g))
+    where
+      going : IsGoing (place q.loads) → IsOnItsWay p n × FoundEdge (loads_in (pass_of p n))
+      going g = ((q, runs, g), subst (λ o. FoundEdge (loads_in o)) (sym runs) (on g))
 
-pub some_no_edge : (t : List Load) (r : Option End) → (FoundEdge t → IsGoing (place t)) → r ≡ end_in (place t) → IfSome r (λ e. FoundEdge t → ⊥)
-some_no_edge t r on is = subst (λ x. IfSome x (λ e. FoundEdge t → ⊥)) (sym is) (by_place (place t) on)
-  where
-    by_place : (x : Place) → (FoundEdge t → IsGoing x) → IfSome (end_in x) (λ e. FoundEdge t → ⊥)
-    by_place (ply o d) on = tt
-    by_place (balance o m) on = tt
-    by_place (adjacency o read) on = tt
-    by_place (ended e) on = on
+      by_place : (x : Place) → (IsGoing x → IsGoing (place q.loads)) → IfNone (end_in x) (IsOnItsWay p n × FoundEdge (loads_in (pass_of p n)))
+      by_place (ply o d) same = going (same tt)
+      by_place (balance o m) same = going (same tt)
+      by_place (adjacency o read) same = going (same tt)
+      by_place (ended e) same = tt
+
+  pub some_ended : (FoundEdge q.loads → IsGoing (place q.loads)) → IfSome r (λ e. HasEnd p n e × (FoundEdge (loads_in (pass_of p n)) → ⊥))
+  some_ended on = subst (λ x. IfSome x (λ e. HasEnd p n e × (FoundEdge (loads_in (pass_of p n)) → ⊥))) (sym is) (by_place (place q.loads) refl)
+    where
+      by_place : (x : Place) → place q.loads ≡ x → IfSome (end_in x) (λ e. HasEnd p n e × (FoundEdge (loads_in (pass_of p n)) → ⊥))
+      by_place (ply o d) at = tt
+      by_place (balance o m) at = tt
+      by_place (adjacency o read) at = tt
+      by_place (ended e) at = ((q, runs, at), λ edge. subst IsGoing at (on (subst (λ o. FoundEdge (loads_in o)) runs edge)))

@@ -10,3 +10,6 @@ mod plain_board;
 mod running;
 
 pub use plain_board::PlainBoard;
+
+#[cfg(test)]
+mod tests;

@@ -3,10 +3,9 @@ ghost use Rattle.std.specs.Prelude.{IfNone, IfOk, IfSome, IsTrue, None, Some, re
 ghost use Rattle.fib_resolve.specs.declared.types.End.{End as Ending};
 ghost use Rattle.fib_results.specs.Steady.{IsSteady};
 ghost use Rattle.fib_results.specs.Trails.{IsRecordOk};
-ghost use Rattle.fib_core.specs.Trails.{Follows, place};
+ghost use Rattle.fib_core.specs.Trails.{Follows};
 ghost use Rattle.fib_core.specs.Words.{IsWord, decoded};
 ghost use Rattle.fib_hops.specs.declared.stage.Stage.TheVariants.{Ended};
-ghost use Rattle.fib_hops.specs.Stages.{end_in};
 ghost use Rattle.fib_lawful.specs.State.{left_of};
 ghost use Rattle.fib_board.specs.Told.{IsWithinLimits};
 ghost use Rattle.fib_plainboard.specs.declared.running.Running.{Running as Kept};
@@ -157,7 +156,8 @@ impl PlainBoard {
         requires worker { worker < self.old.board.workers }
         requires rests { pass_of self.old worker ≡ None }
         requires left { 0 < left_of (slice_index self.old.board.rests worker) }
-        ensures { self.new ≡ pass_begun self.old worker addr hash }
+        ensures pass { self.new ≡ pass_begun self.old worker addr hash }
+        ensures on { IsOnItsWay self.new worker }
     {
         let place = worker as usize;
         let lo = Version::decode(self.words[0]);
@@ -178,9 +178,8 @@ impl PlainBoard {
         requires { IsOnItsWay self.old worker }
         ensures pass { self.new ≡ hopped_on self.old worker }
         ensures follows { (q : Pass) → pass_of self.new worker ≡ Some q → Follows q.addr q.hash q.loads }
-        ensures end { result ≡ end_in (place (loads_in (pass_of self.new worker))) }
-        ensures edge { IfNone result (FoundEdge (loads_in (pass_of self.new worker))) }
-        ensures other { IfSome result (λ _. FoundEdge (loads_in (pass_of self.new worker)) → ⊥) }
+        ensures on { IfNone result (IsOnItsWay self.new worker × FoundEdge (loads_in (pass_of self.new worker))) }
+        ensures ended { IfSome result (λ e. HasEnd self.new worker e × (FoundEdge (loads_in (pass_of self.new worker)) → ⊥)) }
     {
         let place = worker as usize;
         let pass = hopped(&self.words, running_pass(&self.passes, place));

@@ -1,11 +1,11 @@
-use Rattle.std.proofs.Common.{◌≡◌, ◌+◌, ◌<◌, ◌^◌, ap, sym, ◌∙◌, subst, refl, arith}
+use Rattle.std.proofs.Common.{◌≡◌, ◌+◌, ◌<◌, ◌^◌, length, ap, sym, ◌∙◌, subst, refl, arith}
 use Rattle.fib_plainboard.specs.Plain.{Plain, pass_of}
 use Rattle.fib_plainboard.proofs.Keeping as keep
 use Rattle.fib_plainboard.proofs.Calls as calls
 use Rattle.std.specs.Prelude.{None, slice_index}
 use Rattle.fib_results.specs.Versions.{unpacked}
 use Rattle.fib_lawful.specs.State.{left_of}
-use Rattle.fib_plainboard.specs.Plain.{pass_begun}
+use Rattle.fib_plainboard.specs.Plain.{IsOnItsWay, pass_begun}
 use Rattle.fib_plainboard.specs.inner.Sits.{aimed_at, sent_at}
 use Rattle.fib_plainboard.proofs.plain_board.PlainBoard.begin.Goals as goal
 
@@ -39,11 +39,19 @@ invariant_of-self c =
     (c.decode-lo.ensures ∙ ap unpacked (sym (calls.found c.self.inside.words.items 0 c.index.result.now c.index.ensures top)) ∙ keep.version_now c.self.inside.words.items c.self.inside.memory c.self.invariant.0)
     (c.first.ensures c.args.hash)
 
-pub returns : goal.returns
-returns c =
+pub returns-clause-pass : goal.returns-clause-pass
+returns-clause-pass c =
     let known : c.args.worker < c.self.inside.memory.board.workers = subst (λ (p : Plain). c.args.worker < p.board.workers) (sym c.self.view_is) c.requires.worker in
     let eight = c.self.invariant.0.limits.eight in
     let long = c.self.invariant.0.long in
     c.aim.ensures ∙ ap (λ (p : Plain). aimed_at p c.args.worker c.args.hash) (c.send.ensures ∙ ap (λ a. sent_at c.self.inside.memory c.args.worker a) c.bits_of.ensures)
     ∙ calls.begun_is c.self.inside.memory c.args.worker c.args.addr c.args.hash (omega arith)
     ∙ ap (λ (p : Plain). pass_begun p c.args.worker c.args.addr c.args.hash) c.self.view_is
+
+pub returns-clause-on : goal.returns-clause-on
+returns-clause-on c =
+    let known : c.args.worker < c.self.inside.memory.board.workers = subst (λ (p : Plain). c.args.worker < p.board.workers) (sym c.self.view_is) c.requires.worker in
+    let eight = c.self.invariant.0.limits.eight in
+    let long : length c.self.inside.memory.passes ≡ 8 = c.self.invariant.0.long in
+    let here : c.args.worker < length c.args.self.now.passes = subst (λ (p : Plain). c.args.worker < length p.passes) c.self.view_is (omega arith) in
+    subst (λ (p : Plain). IsOnItsWay p c.args.worker) (sym (returns-clause-pass c)) (calls.begun_on c.args.self.now c.args.worker c.args.addr c.args.hash here)

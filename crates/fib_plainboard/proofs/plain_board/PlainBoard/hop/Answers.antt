@@ -1,9 +1,7 @@
 use Rattle.std.proofs.Common.{sym, subst}
 use Rattle.fib_plainboard.specs.Plain.{Plain, pass_of}
 use Rattle.fib_plainboard.proofs.Calls as calls
-use Rattle.fib_core.specs.Trails.{place}
-use Rattle.fib_plainboard.specs.Plain.{IsOnItsWay, loads_in}
-use Rattle.fib_plainboard.proofs.Hopping.{none_edge, some_no_edge}
+use Rattle.fib_plainboard.specs.Plain.{IsOnItsWay}
 use Rattle.fib_plainboard.proofs.plain_board.PlainBoard.hop.Goals as goal
 
 pub hopped-pass-requires : goal.hopped-pass-requires
@@ -24,25 +22,15 @@ returns-clause-follows c =
     c.hopped-pass.result c.hop.new.self c.hop.ensures c.hopped-pass.ensures.same c.hopped-pass.ensures.next in
     λ q runs. (kept.0.sits c.args.worker q runs).follows
 
-pub returns-clause-end : goal.returns-clause-end
-returns-clause-end c =
+pub returns-clause-on : goal.returns-clause-on
+returns-clause-on c =
     let on : IsOnItsWay c.self.inside.memory c.args.worker = subst (λ (p : Plain). IsOnItsWay p c.args.worker) (sym c.self.view_is) c.requires in
-    c.end-end.ensures on.0.hash (place (loads_in (pass_of c.hop.new.self c.args.worker)))
-    (calls.hop_stands c.self.inside.words.items c.self.inside.memory c.self.invariant.0 c.self.inside.objects c.self.inside.workers c.self.inside.passes c.self.invariant.1 c.args.worker on.0 on.1 c.running_pass.result c.running_pass.ensures on.2
-    c.hopped-pass.result c.hop.new.self c.hop.ensures c.hopped-pass.ensures.same c.hopped-pass.ensures.next)
+    calls.hop_on c.self.inside.words.items c.self.inside.memory c.self.invariant.0 c.self.inside.objects c.self.inside.workers c.self.inside.passes c.self.invariant.1 c.args.worker on.0 on.1 c.running_pass.result c.running_pass.ensures on.2
+    c.hopped-pass.result c.hop.new.self c.hop.ensures c.hopped-pass.ensures.same c.hopped-pass.ensures.next c.end-end.result c.end-end.ensures
 
-pub returns-clause-edge : goal.returns-clause-edge
-returns-clause-edge c =
+pub returns-clause-ended : goal.returns-clause-ended
+returns-clause-ended c =
     let on : IsOnItsWay c.self.inside.memory c.args.worker = subst (λ (p : Plain). IsOnItsWay p c.args.worker) (sym c.self.view_is) c.requires in
-    none_edge (loads_in (pass_of c.hop.new.self c.args.worker)) c.end-end.result
-    (calls.hop_edge c.self.inside.words.items c.self.inside.memory c.self.invariant.0 c.self.inside.objects c.self.inside.workers c.self.inside.passes c.self.invariant.1 c.args.worker on.0 on.1 c.running_pass.result c.running_pass.ensures on.2
-    c.hopped-pass.result c.hop.new.self c.hop.ensures c.hopped-pass.ensures.same c.hopped-pass.ensures.next).1
-    (returns-clause-end c)
+    calls.hop_ended c.self.inside.words.items c.self.inside.memory c.self.invariant.0 c.self.inside.objects c.self.inside.workers c.self.inside.passes c.self.invariant.1 c.args.worker on.0 on.1 c.running_pass.result c.running_pass.ensures on.2
+    c.hopped-pass.result c.hop.new.self c.hop.ensures c.hopped-pass.ensures.same c.hopped-pass.ensures.next c.end-end.result c.end-end.ensures
 
-pub returns-clause-other : goal.returns-clause-other
-returns-clause-other c =
-    let on : IsOnItsWay c.self.inside.memory c.args.worker = subst (λ (p : Plain). IsOnItsWay p c.args.worker) (sym c.self.view_is) c.requires in
-    some_no_edge (loads_in (pass_of c.hop.new.self c.args.worker)) c.end-end.result
-    (calls.hop_edge c.self.inside.words.items c.self.inside.memory c.self.invariant.0 c.self.inside.objects c.self.inside.workers c.self.inside.passes c.self.invariant.1 c.args.worker on.0 on.1 c.running_pass.result c.running_pass.ensures on.2
-    c.hopped-pass.result c.hop.new.self c.hop.ensures c.hopped-pass.ensures.same c.hopped-pass.ensures.next).0
-    (returns-clause-end c)
