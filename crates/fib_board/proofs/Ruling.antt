@@ -1,5 +1,5 @@
 -- For those who keep the rule: what a board's calls ask is what the rule's events ask, and the rule tells what holds of a board.
-use Rattle.std.proofs.Common.{◌≡◌, ℕ, List, arith, refl}
+use Rattle.std.proofs.Common.{◌≡◌, ℕ, List, Option, arith, refl}
 use Rattle.fib_core.specs.declared.word.Word.{Word}
 use Rattle.fib_core.specs.Words.{encoded}
 use Rattle.fib_core.specs.Trails.{Trail, AreLawful}
@@ -14,12 +14,12 @@ use Rattle.fib_rule.specs.Steady.{AreSteady}
 use Rattle.fib_rule.proofs.Keeping.{here}
 use Rattle.fib_rule.proofs.Changing.{store_gives}
 use Rattle.fib_rule.proofs.Tells.{gathered_all}
-use Rattle.fib_board.specs.Boards.{board_of, board_stored, board_scanned, board_begun, board_settled}
+use Rattle.fib_board.specs.Boards.{Pass, board_of, board_stored, board_scanned, board_begun, board_settled}
 use Rattle.fib_board.specs.May.{MayChange, MayStore, MayBegin}
 use Rattle.fib_board.specs.Told.{IsWithinLimits, IsBoard}
 
-module _ (id : List ℕ) (trails : List Trail) (c : Control) where
-  change_is : (k : ℕ) (w : Word) → MayChange (board_of id trails c) k w → rule.MayChange c k w
+module _ (id : List ℕ) (trails : List Trail) (passes : List (Option Pass)) (c : Control) where
+  change_is : (k : ℕ) (w : Word) → MayChange (board_of id trails passes c) k w → rule.MayChange c k w
   change_is k w m = record {
     roomy = m.roomy;
     root = m.root;
@@ -33,7 +33,7 @@ module _ (id : List ℕ) (trails : List Trail) (c : Control) where
   }
 
   -- a store is the rule's event
-  pub store_allowed : (objects : ℕ) (numbers : List ℕ) (views : List View) → IsLawful objects numbers views → (seat : ℕ) → HasView views seat (control c) → (k : ℕ) (w : Word) → MayStore (board_of id trails c) k w → events.MayStore c k (encoded w)
+  pub store_allowed : (objects : ℕ) (numbers : List ℕ) (views : List View) → IsLawful objects numbers views → (seat : ℕ) → HasView views seat (control c) → (k : ℕ) (w : Word) → MayStore (board_of id trails passes c) k w → events.MayStore c k (encoded w)
   store_allowed objects numbers views s seat mine k w may =
       let place = may.place in
       store_gives objects numbers views s seat c mine k w
@@ -42,25 +42,25 @@ module _ (id : List ℕ) (trails : List Trail) (c : Control) where
       (λ reached. change_is k w (may.seen reached))
 
   -- so is the beginning of a version
-  pub begin_allowed : (next : Tables) → MayBegin (board_of id trails c) next → events.MayBegin c next
+  pub begin_allowed : (next : Tables) → MayBegin (board_of id trails passes c) next → events.MayBegin c next
   begin_allowed next m = record { room = m.room; sound = m.sound; first = m.first }
 
   -- the board after an event is the event's
-  pub stored_is : (k : ℕ) (w : Word) → board_stored (board_of id trails c) k w ≡ board_of id trails (put c k (encoded w))
+  pub stored_is : (k : ℕ) (w : Word) → board_stored (board_of id trails passes c) k w ≡ board_of id trails passes (put c k (encoded w))
   stored_is k w = refl
 
-  pub scanned_is : (n found : ℕ) → board_scanned n found (board_of id trails c) ≡ board_of id trails (looked c n found)
+  pub scanned_is : (n found : ℕ) → board_scanned n found (board_of id trails passes c) ≡ board_of id trails passes (looked c n found)
   scanned_is n found = refl
 
-  pub begun_is : (next : Tables) → board_begun (board_of id trails c) next ≡ board_of id trails (with_log c (begun c.log next))
+  pub begun_is : (next : Tables) → board_begun (board_of id trails passes c) next ≡ board_of id trails passes (with_log c (begun c.log next))
   begun_is next = refl
 
-  pub settled_is : board_settled (board_of id trails c) ≡ board_of id trails (with_log c (settled c.log))
+  pub settled_is : board_settled (board_of id trails passes c) ≡ board_of id trails passes (with_log c (settled c.log))
   settled_is = refl
 
   -- what the rule tells of it
   pub told : (objects : ℕ) (numbers : List ℕ) (views : List View) → IsLawful objects numbers views → (seat : ℕ) → HasView views seat (control c) → IsWithinLimits c.objects c.workers
-      → AreLawful c.log.history trails → AreSteady c.log.history trails → IsBoard (board_of id trails c)
+      → AreLawful c.log.history trails → AreSteady c.log.history trails → IsBoard (board_of id trails passes c)
   told objects numbers views s seat mine limits right still =
       let h = here objects numbers views seat s c mine in
       let f = h.0.0 in
@@ -81,7 +81,7 @@ module _ (id : List ℕ) (trails : List Trail) (c : Control) where
       }
 
 -- where the trails are those that came home
-pub told_home : (id : List ℕ) (c : Control) (objects : ℕ) (numbers : List ℕ) (views : List View) → IsLawful objects numbers views → (seat : ℕ) → HasView views seat (control c) → IsWithinLimits c.objects c.workers → IsBoard (board_of id c.home c)
-told_home id c objects numbers views s seat mine limits =
+pub told_home : (id : List ℕ) (passes : List (Option Pass)) (c : Control) (objects : ℕ) (numbers : List ℕ) (views : List View) → IsLawful objects numbers views → (seat : ℕ) → HasView views seat (control c) → IsWithinLimits c.objects c.workers → IsBoard (board_of id c.home passes c)
+told_home id passes c objects numbers views s seat mine limits =
     let h = here objects numbers views seat s c mine in
-    told id c.home c objects numbers views s seat mine limits h.0.0.home h.0.1.home
+    told id c.home passes c objects numbers views s seat mine limits h.0.0.home h.0.1.home

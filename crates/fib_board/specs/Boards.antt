@@ -2,14 +2,22 @@
 -- history, who is out.
 use Rattle.std.specs.Prelude.{◌≡◌, ◌≢◌, ℕ, ◌+◌, ◌<◌, ◌≤◌, Bool, List, [], ◌∷◌, Option, slice_index}
 use Rattle.fib_resolve.specs.declared.types.Tables.{Tables}
+use Rattle.fib_results.specs.declared.record.Version.{Version}
 use Rattle.fib_union.specs.Unions as edges
 use Rattle.fib_union.specs.Unions.{owner}
 use Rattle.fib_core.specs.declared.word.Word.{Word}
 use Rattle.fib_core.specs.declared.word.Word.TheVariants as words
 use Rattle.fib_core.specs.Words.{encoded, decoded}
 use Rattle.fib_core.specs.Union.{Union, Goes, scanned, edge_in, edges_of}
-use Rattle.fib_core.specs.Trails.{Trail}
+use Rattle.fib_core.specs.Trails.{Load, Trail}
 use Rattle.fib_lawful.specs.State.{Log, Control, stored_union, begun, settled, first_control}
+
+-- a pass that runs as calls on the board itself: its packet, the version as it began, and its loads, the newest first
+pub record Pass : Type 0 where
+  pub addr : ℕ
+  pub hash : ℕ
+  pub lo : Version
+  pub loads : List Load
 
 pub record Board : Type 0 where
   -- which shared words these are: no two boards at work have one id, but those without seats of their own
@@ -27,6 +35,8 @@ pub record Board : Type 0 where
   pub gathered : List ℕ
   -- how many stores there were
   pub stored : ℕ
+  -- each worker's running pass, on a board whose passes are its own calls. None of the calls that every board has touches them
+  pub passes : List (Option Pass)
 
 -- as the rule sees the control plane that holds it
 abbrev pub as_control : Board → Control
@@ -41,9 +51,9 @@ as_control b = record {
   stores = b.stored;
 }
 
--- the board of a control plane with this view, of whose trails at home these are told
-abbrev pub board_of : List ℕ → List Trail → Control → Board
-board_of id trails c = record {
+-- the board of a control plane with this view, of whose trails at home these are told, and on which these passes run
+abbrev pub board_of : List ℕ → List Trail → List (Option Pass) → Control → Board
+board_of id trails passes c = record {
   id = id;
   objects = c.objects;
   workers = c.workers;
@@ -54,6 +64,7 @@ board_of id trails c = record {
   trails = trails;
   gathered = c.gathered;
   stored = c.stores;
+  passes = passes;
 }
 
 -- the word in the cell k
@@ -92,7 +103,7 @@ board_settled b = record b { log = settled b.log }
 pub record IsFresh (b : Board) : Type 0 where
   pub some : 0 < b.objects
   pub few : b.workers ≤ 8
-  pub fresh : b ≡ board_of b.id [] (first_control b.objects b.workers)
+  pub fresh : b ≡ board_of b.id [] b.passes (first_control b.objects b.workers)
 
 -- no edge of the union to a ply, current or retired, leaves or enters the object
 abbrev pub HasNoPly : Board → ℕ → Type 0

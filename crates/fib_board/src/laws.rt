@@ -1,5 +1,5 @@
 // What a plane's proofs rest on. A law each, the contract of a call without a body.
-ghost use Rattle.std.specs.Prelude.{ℕ, Contains, List, Some, None, false, true, ◌≡◌, ◌≢◌};
+ghost use Rattle.std.specs.Prelude.{ℕ, Contains, List, Option, Some, None, false, true, ◌≡◌, ◌≢◌};
 ghost use Rattle.fib_union.specs.Unions as edges;
 ghost use Rattle.fib_union.specs.Unions.{into, owner};
 ghost use Rattle.fib_core.specs.declared.word.Word.{Word};
@@ -10,7 +10,7 @@ ghost use Rattle.fib_lawful.specs.State.{Control, View, control};
 ghost use Rattle.fib_lawful.specs.Frame.{HasView};
 ghost use Rattle.fib_rule.specs.Rule.{IsLawful};
 ghost use Rattle.fib_rule.specs.May as events;
-ghost use Rattle.fib_board.specs.Boards.{Board, HasNoPly, board_of, board_scanned, board_stored, edge_of, union_of};
+ghost use Rattle.fib_board.specs.Boards.{Board, HasNoPly, Pass, board_of, board_scanned, board_stored, edge_of, union_of};
 ghost use Rattle.fib_board.specs.May.{MayClear, MayStore, Serves};
 ghost use Rattle.fib_board.specs.Told.{IsBoard, IsWithinLimits};
 
@@ -47,14 +47,14 @@ pub fn free_objects_have_no_ply_edge()
 
 /// What a board's store asks is what the rule's event asks.
 pub fn stores_are_the_rules()
-    ensures { (id : List ℕ) (trails : List Trail) (c : Control) (objects seat k : ℕ) (numbers : List ℕ) (views : List View) (w : Word)
+    ensures { (id : List ℕ) (trails : List Trail) (passes : List (Option Pass)) (c : Control) (objects seat k : ℕ) (numbers : List ℕ) (views : List View) (w : Word)
         → IsLawful objects numbers views → HasView views seat (control c)
-        → MayStore (board_of id trails c) k w → events.MayStore c k (encoded w) }
+        → MayStore (board_of id trails passes c) k w → events.MayStore c k (encoded w) }
 {}
 
 /// The rule tells what holds of a board.
 pub fn boards_are_as_told()
-    ensures { (id : List ℕ) (c : Control) (objects seat : ℕ) (numbers : List ℕ) (views : List View)
+    ensures { (id : List ℕ) (c : Control) (objects seat : ℕ) (numbers : List ℕ) (views : List View) (passes : List (Option Pass))
         → IsLawful objects numbers views → HasView views seat (control c) → IsWithinLimits c.objects c.workers
-        → IsBoard (board_of id c.home c) }
+        → IsBoard (board_of id c.home passes c) }
 {}

@@ -204,7 +204,7 @@ module _ (b : Board) (u : Kept) (xs : List (Option Object)) (h : IsJoined b u xs
 
 -- what a plane rests on says nothing of versions, workers that are out and trails
 pub moved_rest : (b c : Board) (u : Kept) (xs : List (Option Object)) (rows : List (interned.Kept AdjacencyRecord)) (ds : List ℕ) (room : ℕ)
-    → c ≡ record { id = c.id; objects = b.objects; workers = b.workers; union = b.union; log = c.log; out = c.out; rests = c.rests; trails = c.trails; gathered = c.gathered; stored = c.stored }
+    → c ≡ record { id = c.id; objects = b.objects; workers = b.workers; union = b.union; log = c.log; out = c.out; rests = c.rests; trails = c.trails; gathered = c.gathered; stored = c.stored; passes = c.passes }
     → IsAtRest b u xs rows ds room → IsAtRest c u xs rows ds room
 moved_rest b c u xs rows ds room same p = subst (λ (q : Board). IsAtRest q u xs rows ds room) (sym same) (record {
   joined = record {
