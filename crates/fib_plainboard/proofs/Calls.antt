@@ -1,5 +1,5 @@
 -- What each call of a plain board owes, of its fields.
-use Rattle.std.proofs.Common.{◌≡◌, ℕ, zero, suc, ◌+◌, ◌-◌, ◌*◌, ◌/◌, ◌%◌, ◌^◌, ◌<◌, false, List, [], ◌∷◌, length, get_or, refl, sym, ap, ◌∙◌, subst, arith, get_or-set_same, get_or-set_other, length-set}
+use Rattle.std.proofs.Common.{◌≡◌, ℕ, zero, suc, ◌+◌, ◌-◌, ◌*◌, ◌/◌, ◌%◌, ◌^◌, ◌<◌, true, false, List, [], ◌∷◌, length, get_or, refl, sym, ap, ◌∙◌, subst, arith, get_or-set_same, get_or-set_other, length-set}
 use Rattle.std.specs.Prelude.{slice_index, slice_index_or, slice_set, replicate, Option, Some, None, option_map, is_some, IsTrue, IfNone, IfSome}
 use Rattle.std.proofs.lemmas.Grind.{get_or_default_zero}
 use Rattle.std.proofs.lemmas.List.{set-set}
@@ -22,11 +22,11 @@ use Rattle.fib_rule.proofs.Fresh.{fresh_lawful}
 use Rattle.fib_hops.specs.declared.stage.Stage.{Stage}
 use Rattle.fib_hops.specs.declared.stage.Stage.TheVariants as stages
 use Rattle.fib_hops.specs.Stages.{StandsAt, end_in}
-use Rattle.fib_board.specs.Crews.{board_sent}
 use Rattle.fib_board.specs.May.{MayStore, MayBegin, MaySettle}
 use Rattle.fib_board.specs.Told.{IsWithinLimits}
+use Rattle.fib_board.specs.Boards.{Board, Pass}
 use Rattle.fib_plainboard.specs.declared.running.Running.{Running}
-use Rattle.fib_plainboard.specs.Plain.{Pass, Plain, pass_of, fresh_plain, IsRunning, IsOnItsWay, HasEnd, pass_begun, pass_hopped, pass_ended, answer_of, loads_in, FoundEdge}
+use Rattle.fib_plainboard.specs.Passes.{pass_of, fresh_plain, IsRunning, IsOnItsWay, HasEnd, pass_begun, pass_hopped, pass_ended, answer_of, loads_in, FoundEdge}
 use Rattle.fib_plainboard.specs.inner.Reads.{IsReadable, IsNext}
 use Rattle.fib_plainboard.specs.inner.Sits.{IsPlain, IsKept, Keeps, put_at, looked_at, settled_at, begun_with, sent_at, aimed_at, with_hash, ended_at, hopped_at}
 use Rattle.fib_plainboard.proofs.Keeping as keep
@@ -90,12 +90,12 @@ ended_stage h at (stages.Adjacency o) e is end = absurd (subst IsGoing (sym is �
 ended_stage h at (stages.Ended x) e is end = ap (λ p. stages.Ended (end_at p)) (sym is ∙ end)
 
 -- two steps of the memory begin a pass
-pub begun_is : (p : Plain) (n a h : ℕ) → n < length p.passes → aimed_at (sent_at p n a) n h ≡ pass_begun p n a h
+pub begun_is : (p : Board) (n a h : ℕ) → n < length p.passes → aimed_at (sent_at p n a) n h ≡ pass_begun p n a h
 begun_is p n a h lt =
-    let none : Pass = record { addr = a; hash = 0; lo = p.board.log.version; loads = [] } in
-    let all : Pass = record { addr = a; hash = h; lo = p.board.log.version; loads = [] } in
-    ap (λ o. record { board = board_sent p.board n; passes = slice_set (slice_set p.passes n (Some none)) n (option_map (with_hash h) o) }) (pass_same p.passes n (Some none) lt)
-    ∙ ap (λ ps. record { board = board_sent p.board n; passes = ps }) (set-set p.passes n (Some none) (Some all))
+    let none : Pass = record { addr = a; hash = 0; lo = p.log.version; loads = [] } in
+    let all : Pass = record { addr = a; hash = h; lo = p.log.version; loads = [] } in
+    ap (λ o. record p { out = slice_set p.out n true; passes = slice_set (slice_set p.passes n (Some none)) n (option_map (with_hash h) o) }) (pass_same p.passes n (Some none) lt)
+    ∙ ap (λ ps. record p { out = slice_set p.out n true; passes = ps }) (set-set p.passes n (Some none) (Some all))
 
 -- what is kept of a pass and the pass change together
 module _ (running : List (Option Running)) (passes : List (Option Pass)) (n : ℕ) (r : Option Running) (q : Option Pass) where
@@ -112,70 +112,70 @@ module _ (running : List (Option Running)) (passes : List (Option Pass)) (n : �
       both a b c d x y h = subst (λ (u : Option Running). Keeps u b) (sym x) (subst (Keeps c) (sym y) h)
 
 -- it is then on its way
-pub begun_on : (p : Plain) (n a h : ℕ) → n < length p.passes → IsOnItsWay (pass_begun p n a h) n
+pub begun_on : (p : Board) (n a h : ℕ) → n < length p.passes → IsOnItsWay (pass_begun p n a h) n
 begun_on p n a h lt =
-    let first : Pass = record { addr = a; hash = h; lo = p.board.log.version; loads = [] } in
+    let first : Pass = record { addr = a; hash = h; lo = p.log.version; loads = [] } in
     (first, pass_same p.passes n (Some first) lt, tt)
 
-module _ (words : List ℕ) (p : Plain) (s : IsPlain words p) (objects workers : ℕ) (running : List (Option Running)) (k : IsKept objects workers running p) where
+module _ (words : List ℕ) (p : Board) (s : IsPlain words p) (objects workers : ℕ) (running : List (Option Running)) (k : IsKept objects workers running p) where
   pub in_words : (i : ℕ) → i < 16 → i < length words
   in_words i lt = (let long = keep.words_long words p s in omega arith)
 
-  abbrev pub Holds : List ℕ → Plain → Type 0
+  abbrev pub Holds : List ℕ → Board → Type 0
   Holds words' new = IsPlain words' new × IsKept objects workers running new
 
   -- the control plane's calls
-  pub stored : (cell code : ℕ) (w : Word) (new : Plain) → code ≡ encoded w → new ≡ put_at p cell code → MayStore p.board cell w → Holds (slice_set words (16 + cell) code) new
+  pub stored : (cell code : ℕ) (w : Word) (new : Board) → code ≡ encoded w → new ≡ put_at p cell code → MayStore p cell w → Holds (slice_set words (16 + cell) code) new
   stored cell code w new is then may = subst (Holds (slice_set words (16 + cell) code)) (sym then) (
     subst (λ x. IsPlain (slice_set words (16 + cell) x) (put_at p cell x)) (sym is) (keep.stores words p s cell w may),
     record { all = k.all; crew = k.crew; long = k.long; keeps = k.keeps },
   )
 
-  pub begun : (next : Tables) (v : Version) (code : ℕ) (new : Plain) → v ≡ p.board.log.version → code ≡ packed (record { settled = v.settled; applied = v.applied + 1 })
-      → new ≡ begun_with p (some next) → MayBegin p.board next → Holds (slice_set words 0 code) new
+  pub begun : (next : Tables) (v : Version) (code : ℕ) (new : Board) → v ≡ p.log.version → code ≡ packed (record { settled = v.settled; applied = v.applied + 1 })
+      → new ≡ begun_with p (some next) → MayBegin p next → Holds (slice_set words 0 code) new
   begun next v code new now is then may = subst (Holds (slice_set words 0 code)) (sym then) (
     subst (λ x. IsPlain (slice_set words 0 x) (begun_with p (some next)))
         (sym (is ∙ ap (λ (u : Version). packed (record { settled = u.settled; applied = u.applied + 1 })) now)) (keep.begins words p s next may),
     record { all = k.all; crew = k.crew; long = k.long; keeps = k.keeps },
   )
 
-  pub settled : (v at : Version) (code : ℕ) (new : Plain) → v ≡ p.board.log.version → at ≡ version_at v.applied → code ≡ packed at → new ≡ settled_at p 0 0 → MaySettle p.board → Holds (slice_set words 0 code) new
+  pub settled : (v at : Version) (code : ℕ) (new : Board) → v ≡ p.log.version → at ≡ version_at v.applied → code ≡ packed at → new ≡ settled_at p 0 0 → MaySettle p → Holds (slice_set words 0 code) new
   settled v at code new now last is then may = subst (Holds (slice_set words 0 code)) (sym then) (
     subst (λ x. IsPlain (slice_set words 0 x) (settled_at p 0 0))
         (sym (is ∙ ap packed last ∙ ap (λ (u : Version). packed (version_at u.applied)) now)) (keep.settles words p s may),
     record { all = k.all; crew = k.crew; long = k.long; keeps = k.keeps },
   )
 
-  pub looked : (n word : ℕ) (new : Plain) → slice_index words (n + 1) ≡ word → new ≡ looked_at p n word → Holds words new
+  pub looked : (n word : ℕ) (new : Board) → slice_index words (n + 1) ≡ word → new ≡ looked_at p n word → Holds words new
   looked n word new is then = subst (Holds words) (sym then) (
     subst (λ x. IsPlain words (looked_at p n x)) is (keep.looks words p s n),
     record { all = k.all; crew = k.crew; long = k.long; keeps = k.keeps },
   )
 
   -- how many passes are left
-  pub left_now : (n : ℕ) → n < 8 → left_of (slice_index words (n + 1)) ≡ left_of (slice_index p.board.rests n)
+  pub left_now : (n : ℕ) → n < 8 → left_of (slice_index words (n + 1)) ≡ left_of (slice_index p.rests n)
   left_now n lt = by_pass (pass_of p n) refl
     where
       half : (x : ℕ) → x % 2 ≡ 0 → (x + 1) / 2 ≡ x / 2
       half x even = omega arith
 
-      by_pass : (o : Option Pass) → pass_of p n ≡ o → left_of (slice_index words (n + 1)) ≡ left_of (slice_index p.board.rests n)
+      by_pass : (o : Option Pass) → pass_of p n ≡ o → left_of (slice_index words (n + 1)) ≡ left_of (slice_index p.rests n)
       by_pass None e = ap left_of (keep.rest_now words p s n lt e)
-      by_pass (Some q) e = ap left_of (keep.pass_now words p s n q e) ∙ ap (λ x. 2 ^ 63 - 1 - x) (half (slice_index p.board.rests n) (s.even n))
+      by_pass (Some q) e = ap left_of (keep.pass_now words p s n q e) ∙ ap (λ x. 2 ^ 63 - 1 - x) (half (slice_index p.rests n) (s.even n))
 
   -- a pass begins
-  module _ (n a h : ℕ) (known : n < p.board.workers) (none : pass_of p n ≡ None) (left : 0 < left_of (slice_index p.board.rests n)) where
+  module _ (n a h : ℕ) (known : n < p.workers) (none : pass_of p n ≡ None) (left : 0 < left_of (slice_index p.rests n)) where
     pub eight : n < 8
     eight = (let most = s.limits.eight in omega arith)
 
-    pub first_room : slice_index p.board.rests n + 2 < 2 ^ 64
+    pub first_room : slice_index p.rests n + 2 < 2 ^ 64
     first_room = (let lt = left in omega arith)
 
-    pub word_then : (r : ℕ) → slice_index words (n + 1) ≡ r → r ≡ slice_index p.board.rests n
+    pub word_then : (r : ℕ) → slice_index words (n + 1) ≡ r → r ≡ slice_index p.rests n
     word_then r is = sym is ∙ keep.rest_now words p s n eight none
 
-    pub begins_kept : (r : ℕ) (kept : Running) (new : Plain) → slice_index words (n + 1) ≡ r → new ≡ aimed_at (sent_at p n a) n h → (a < 2 ^ 32) × (h < 2 ^ 32)
-        → kept.addr ≡ a → kept.hash ≡ h → kept.lo ≡ p.board.log.version → StandsAt h root kept.stage
+    pub begins_kept : (r : ℕ) (kept : Running) (new : Board) → slice_index words (n + 1) ≡ r → new ≡ aimed_at (sent_at p n a) n h → (a < 2 ^ 32) × (h < 2 ^ 32)
+        → kept.addr ≡ a → kept.hash ≡ h → kept.lo ≡ p.log.version → StandsAt h root kept.stage
         → IsPlain (slice_set words (n + 1) (r + 1)) new × IsKept objects workers (slice_set running n (Some kept)) new
     begins_kept r kept new is then flow x y z at =
         let in_passes : n < length p.passes = (let long = s.long in let lt = eight in omega arith) in
@@ -185,7 +185,7 @@ module _ (words : List ℕ) (p : Plain) (s : IsPlain words p) (objects workers :
             all = k.all;
             crew = k.crew;
             long = length-set running n (Some kept) ∙ k.long;
-            keeps = keeps_set running p.passes n (Some kept) (Some (record { addr = a; hash = h; lo = p.board.log.version; loads = [] })) k.keeps (let long = k.long in let lt = eight in omega arith) in_passes (x, y, z, at);
+            keeps = keeps_set running p.passes n (Some kept) (Some (record { addr = a; hash = h; lo = p.log.version; loads = [] })) k.keeps (let long = k.long in let lt = eight in omega arith) in_passes (x, y, z, at);
           },
         )
 
@@ -201,16 +201,16 @@ module _ (words : List ℕ) (p : Plain) (s : IsPlain words p) (objects workers :
     readable going = hopping.readable words p s n q runs kept.stage is_kept.3 going
 
     -- and hops
-    module _ (going : IsGoing (place q.loads)) (then_kept : Running) (new : Plain) (then : new ≡ hopped_at p n 0)
+    module _ (going : IsGoing (place q.loads)) (then_kept : Running) (new : Board) (then : new ≡ hopped_at p n 0)
         (same : (then_kept.addr ≡ kept.addr) × (then_kept.hash ≡ kept.hash) × (then_kept.lo ≡ kept.lo)) (next : IsNext words kept.addr kept.hash kept.stage then_kept.stage) where
       next_is : IsNext words q.addr q.hash kept.stage then_kept.stage
       next_is = subst (λ (x : ℕ × ℕ). IsNext words x.0 x.1 kept.stage then_kept.stage) (λ i. (is_kept.0 i, is_kept.1 i)) next
 
-      hop_stands : StandsAt q.hash (place (pass_hopped p.board.union.cells q).loads) then_kept.stage
+      hop_stands : StandsAt q.hash (place (pass_hopped p.union.cells q).loads) then_kept.stage
       hop_stands = hopping.stands_at words p s n q runs kept.stage then_kept.stage is_kept.3 going next_is
 
-      hop_runs : pass_of new n ≡ Some (pass_hopped p.board.union.cells q)
-      hop_runs = ap (λ (r : Plain). pass_of r n) then ∙ hopping.hopped_runs words p s n q runs
+      hop_runs : pass_of new n ≡ Some (pass_hopped p.union.cells q)
+      hop_runs = ap (λ (r : Board). pass_of r n) then ∙ hopping.hopped_runs words p s n q runs
 
       pub hop_kept : IsPlain words new × IsKept objects workers (slice_set running n (Some then_kept)) new
       hop_kept = subst (λ r. IsPlain words r × IsKept objects workers (slice_set running n (Some then_kept)) r) (sym then) (
@@ -219,8 +219,8 @@ module _ (words : List ℕ) (p : Plain) (s : IsPlain words p) (objects workers :
           all = k.all;
           crew = k.crew;
           long = length-set running n (Some then_kept) ∙ k.long;
-          keeps = keeps_set running p.passes n (Some then_kept) (option_map (pass_hopped p.board.union.cells) (pass_of p n)) k.keeps in_running (inside p.passes n q runs)
-              (subst (λ o. Keeps (Some then_kept) (option_map (pass_hopped p.board.union.cells) o)) (sym runs)
+          keeps = keeps_set running p.passes n (Some then_kept) (option_map (pass_hopped p.union.cells) (pass_of p n)) k.keeps in_running (inside p.passes n q runs)
+              (subst (λ o. Keeps (Some then_kept) (option_map (pass_hopped p.union.cells) o)) (sym runs)
               (same.0 ∙ is_kept.0, same.1 ∙ is_kept.1, same.2 ∙ is_kept.2, hopping.stands_at words p s n q runs kept.stage then_kept.stage is_kept.3 going next_is));
         },
       )
@@ -228,16 +228,16 @@ module _ (words : List ℕ) (p : Plain) (s : IsPlain words p) (objects workers :
       -- its answer
       module _ (r : Option End) (gives : (h : ℕ) (at : Place) → StandsAt h at then_kept.stage → r ≡ end_in at) where
         pub hop_on : IfNone r (IsOnItsWay new n × FoundEdge (loads_in (pass_of new n)))
-        hop_on = hopping.none_on new n (pass_hopped p.board.union.cells q) hop_runs r (gives q.hash (place (pass_hopped p.board.union.cells q).loads) hop_stands)
+        hop_on = hopping.none_on new n (pass_hopped p.union.cells q) hop_runs r (gives q.hash (place (pass_hopped p.union.cells q).loads) hop_stands)
             (hopping.on_edge words p s n q runs kept.stage is_kept.3 going)
 
         pub hop_ended : IfSome r (λ e. HasEnd new n e × (FoundEdge (loads_in (pass_of new n)) → ⊥))
-        hop_ended = hopping.some_ended new n (pass_hopped p.board.union.cells q) hop_runs r (gives q.hash (place (pass_hopped p.board.union.cells q).loads) hop_stands)
+        hop_ended = hopping.some_ended new n (pass_hopped p.union.cells q) hop_runs r (gives q.hash (place (pass_hopped p.union.cells q).loads) hop_stands)
             (hopping.edge_on words p s n q runs kept.stage is_kept.3 going)
 
     -- and ends
     module _ (e : End) (at : place q.loads ≡ ended e) where
-      pub last_word : (r : ℕ) → slice_index words (n + 1) ≡ r → r ≡ slice_index p.board.rests n + 1
+      pub last_word : (r : ℕ) → slice_index words (n + 1) ≡ r → r ≡ slice_index p.rests n + 1
       last_word r found = sym found ∙ keep.pass_now words p s n q runs
 
       pub end_room : (r : ℕ) → slice_index words (n + 1) ≡ r → r + 1 < 2 ^ 64
@@ -246,10 +246,10 @@ module _ (words : List ℕ) (p : Plain) (s : IsPlain words p) (objects workers :
       pub stage_is : kept.stage ≡ stages.Ended e
       stage_is = ended_stage q.hash (place q.loads) kept.stage e is_kept.3 at
 
-      pub end_kept : (r : ℕ) (new : Plain) → slice_index words (n + 1) ≡ r → new ≡ ended_at p n 0
+      pub end_kept : (r : ℕ) (new : Board) → slice_index words (n + 1) ≡ r → new ≡ ended_at p n 0
           → IsPlain (slice_set words (n + 1) (r + 1)) new × IsKept objects workers (slice_set running n None) new
       end_kept r new found then = subst (λ x. IsPlain (slice_set words (n + 1) (r + 1)) x × IsKept objects workers (slice_set running n None) x) (sym then) (
-        subst (λ m. IsPlain (slice_set words (n + 1) m) (pass_ended p n)) (sym (ap (λ m. m + 1) (last_word r found) ∙ two (slice_index p.board.rests n))) (ending.ends words p s n q runs),
+        subst (λ m. IsPlain (slice_set words (n + 1) m) (pass_ended p n)) (sym (ap (λ m. m + 1) (last_word r found) ∙ two (slice_index p.rests n))) (ending.ends words p s n q runs),
         record {
           all = k.all;
           crew = k.crew;
@@ -261,8 +261,8 @@ module _ (words : List ℕ) (p : Plain) (s : IsPlain words p) (objects workers :
           two : (x : ℕ) → x + 1 + 1 ≡ x + 2
           two x = omega arith
 
-      pub answer_is : (hi : Version) (end : End) → hi ≡ p.board.log.version → kept.stage ≡ stages.Ended end
-          → record { addr = kept.addr; hash = kept.hash; lo = kept.lo; hi = hi; end = end } ≡ answer_of q p.board.log.version
+      pub answer_is : (hi : Version) (end : End) → hi ≡ p.log.version → kept.stage ≡ stages.Ended end
+          → record { addr = kept.addr; hash = kept.hash; lo = kept.lo; hi = hi; end = end } ≡ answer_of q p.log.version
       answer_is hi end now then =
           let same : end ≡ end_at (place q.loads) = ended_is end e (sym then ∙ stage_is) ∙ sym (ap end_at at) in
           λ i. record { addr = is_kept.0 i; hash = is_kept.1 i; lo = is_kept.2 i; hi = now i; end = same i }
@@ -277,11 +277,11 @@ module _ (words : List ℕ) (p : Plain) (s : IsPlain words p) (objects workers :
   pub runs_iff : (n : ℕ) → (IsTrue (is_some (slice_index_or running n None)) → IsRunning p n) × (IsRunning p n → IsTrue (is_some (slice_index_or running n None)))
   runs_iff n = by_pass n (slice_index_or running n None) (pass_of p n) (k.keeps n) refl
 
-  out_by : (n : ℕ) (r : Option Running) (o : Option Pass) → Keeps r o → pass_of p n ≡ o → slice_index_or p.board.out n false ≡ is_some r
+  out_by : (n : ℕ) (r : Option Running) (o : Option Pass) → Keeps r o → pass_of p n ≡ o → slice_index_or p.out n false ≡ is_some r
   out_by n None None h e = s.rests n e
   out_by n None (Some q) h e = absurd h
   out_by n (Some r) None h e = absurd h
   out_by n (Some r) (Some q) h e = keep.out_now words p s n q e
 
-  pub runs_out : (n : ℕ) → slice_index_or p.board.out n false ≡ is_some (slice_index_or running n None)
+  pub runs_out : (n : ℕ) → slice_index_or p.out n false ≡ is_some (slice_index_or running n None)
   runs_out n = out_by n (slice_index_or running n None) (pass_of p n) (k.keeps n) refl

@@ -17,13 +17,14 @@ use Rattle.fib_rule.specs.Rule.{IsLawful}
 use Rattle.fib_rule.specs.Steady.{AreSteady}
 use Rattle.fib_rule.proofs.Keeping as keep
 use Rattle.fib_rule.proofs.Tells as tells
-use Rattle.fib_plainboard.specs.Plain.{Pass, Plain, pass_of, board_ended, pass_ended, answer_of}
+use Rattle.fib_board.specs.Boards.{Board, Pass}
+use Rattle.fib_plainboard.specs.Passes.{pass_of, pass_ended, answer_of}
 use Rattle.fib_plainboard.specs.inner.Sits.{control_with, view_of, Sits, IsPlain}
 use Rattle.fib_plainboard.proofs.Views.{at_other, worker_apart, workers_apart}
 use Rattle.fib_plainboard.proofs.Keeping.{Own, desk, version_now}
 use Rattle.fib_plainboard.proofs.Passing.{some_none, pass_same, pass_other, inside, Sat}
 
-module _ (words : List ℕ) (p : Plain) (s : IsPlain words p) (n : ℕ) (q : Pass) (runs : pass_of p n ≡ Some q) where
+module _ (words : List ℕ) (p : Board) (s : IsPlain words p) (n : ℕ) (q : Pass) (runs : pass_of p n ≡ Some q) where
   abbrev Mine : Control
   Mine = Own words p s
 
@@ -40,8 +41,8 @@ module _ (words : List ℕ) (p : Plain) (s : IsPlain words p) (n : ℕ) (q : Pas
   abbrev One : List View
   One = slice_set s.views Seat (worker Learned)
 
-  lawful_one : IsLawful p.board.objects words One
-  lawful_one = keep.learns p.board.objects words s.views Seat s.lawful Old (s.sits n q runs).has
+  lawful_one : IsLawful p.objects words One
+  lawful_one = keep.learns p.objects words s.views Seat s.lawful Old (s.sits n q runs).has
 
   there_one : HasView One Seat (worker Learned)
   there_one = set_there s.views Seat (worker Old) (worker Learned) (s.sits n q runs).has
@@ -57,30 +58,30 @@ module _ (words : List ℕ) (p : Plain) (s : IsPlain words p) (n : ℕ) (q : Pas
     abbrev Done : Trail
     Done = record { lo = q.lo; loads = q.loads; hi = unpacked (slice_index words 0) }
 
-    done_right : AreLawful p.board.log.history (trail_at (ended e) Done) × AreSteady p.board.log.history (trail_at (ended e) Done)
-    done_right = subst (λ x. AreLawful p.board.log.history (trail_at x Done) × AreSteady p.board.log.history (trail_at x Done)) at
-        (tells.ended_right p.board.objects words One lawful_one 0 Mine mine_one Seat Learned there_one)
+    done_right : AreLawful p.log.history (trail_at (ended e) Done) × AreSteady p.log.history (trail_at (ended e) Done)
+    done_right = subst (λ x. AreLawful p.log.history (trail_at x Done) × AreSteady p.log.history (trail_at x Done)) at
+        (tells.ended_right p.objects words One lawful_one 0 Mine mine_one Seat Learned there_one)
 
-    pub answer_right : IsRecordOk p.board.log.history (answer_of q p.board.log.version)
-    answer_right = subst (λ hi. IsRecordOk p.board.log.history (answer_of q hi)) (version_now words p s)
+    pub answer_right : IsRecordOk p.log.history (answer_of q p.log.version)
+    answer_right = subst (λ hi. IsRecordOk p.log.history (answer_of q hi)) (version_now words p s)
         (done_right.0.0.right q.addr q.hash (s.sits n q runs).follows)
 
-    pub answer_steady : IsSteady p.board.log.history (answer_of q p.board.log.version)
-    answer_steady = subst (λ hi. IsSteady p.board.log.history (answer_of q hi)) (version_now words p s)
+    pub answer_steady : IsSteady p.log.history (answer_of q p.log.version)
+    answer_steady = subst (λ hi. IsSteady p.log.history (answer_of q hi)) (version_now words p s)
         (done_right.1.0 q.addr q.hash (s.sits n q runs).follows)
 
   -- it stores its pass word, and its seat comes home
   abbrev Stopped : Worker
-  Stopped = stopped Learned (slice_index p.board.rests n + 2)
+  Stopped = stopped Learned (slice_index p.rests n + 2)
 
   abbrev Two : List View
   Two = slice_set One Seat (worker Stopped)
 
   abbrev Ended : List ℕ
-  Ended = slice_set words (n + 1) (slice_index p.board.rests n + 2)
+  Ended = slice_set words (n + 1) (slice_index p.rests n + 2)
 
-  lawful_two : IsLawful p.board.objects Ended Two
-  lawful_two = keep.stops p.board.objects words One Seat lawful_one Learned (slice_index p.board.rests n + 2) there_one
+  lawful_two : IsLawful p.objects Ended Two
+  lawful_two = keep.stops p.objects words One Seat lawful_one Learned (slice_index p.rests n + 2) there_one
 
   there_two : HasView Two Seat (worker Stopped)
   there_two = set_there One Seat (worker Learned) (worker Stopped) there_one
@@ -92,10 +93,10 @@ module _ (words : List ℕ) (p : Plain) (s : IsPlain words p) (n : ℕ) (q : Pas
   Home = s.home ++ Stopped.past
 
   abbrev Then : Control
-  Then = control_with (board_ended p.board n) Home s.picked
+  Then = control_with (pass_ended p n) Home s.picked
 
   taken_is : taken_home Mine Stopped ≡ Then
-  taken_is = ap (λ g. record Then { gathered = g }) (append-nil p.board.gathered)
+  taken_is = ap (λ g. record Then { gathered = g }) (append-nil p.gathered)
 
   abbrev Gone : List View
   Gone = slice_set (slice_set Two 0 (control Then)) Seat spent
@@ -103,26 +104,26 @@ module _ (words : List ℕ) (p : Plain) (s : IsPlain words p) (n : ℕ) (q : Pas
   there_three : HasView (slice_set Two 0 (control (taken_home Mine Stopped))) Seat (worker Stopped)
   there_three = at_other Two 0 Seat (control (taken_home Mine Stopped)) (worker Stopped) apart there_two
 
-  lawful_gone : IsLawful p.board.objects Ended Gone
-  lawful_gone = subst (λ (d : Control). IsLawful p.board.objects Ended (slice_set (slice_set Two 0 (control d)) Seat spent)) taken_is
-      (keep.homes p.board.objects Ended Two 0 lawful_two Seat Mine Stopped mine_two apart there_three)
+  lawful_gone : IsLawful p.objects Ended Gone
+  lawful_gone = subst (λ (d : Control). IsLawful p.objects Ended (slice_set (slice_set Two 0 (control d)) Seat spent)) taken_is
+      (keep.homes p.objects Ended Two 0 lawful_two Seat Mine Stopped mine_two apart there_three)
 
   in_passes : n < length p.passes
   in_passes = inside p.passes n q runs
 
   -- another worker's pass
-  still : (m : ℕ) (r : Pass) → m ≢ n → Sits s.views p.board m r → Sits Gone (board_ended p.board n) m r
+  still : (m : ℕ) (r : Pass) → m ≢ n → Sits s.views p m r → Sits Gone (pass_ended p n) m r
   still m r ne t =
-      let other = workers_apart s.views Old (view_of p.board m r) Seat t.seat (s.sits n q runs).has t.has (λ same. ne (sym same)) in
-      let second = worker_apart s.views Mine (view_of p.board m r) t.seat s.mine t.has in
-      let rest : slice_index p.board.rests m ≡ slice_index (slice_set p.board.rests n (slice_index p.board.rests n + 2)) m = sym (get_or-set_other p.board.rests n m (slice_index p.board.rests n + 2) 0 ne) in
+      let other = workers_apart s.views Old (view_of p m r) Seat t.seat (s.sits n q runs).has t.has (λ same. ne (sym same)) in
+      let second = worker_apart s.views Mine (view_of p m r) t.seat s.mine t.has in
+      let rest : slice_index p.rests m ≡ slice_index (slice_set p.rests n (slice_index p.rests n + 2)) m = sym (get_or-set_other p.rests n m (slice_index p.rests n + 2) 0 ne) in
       record {
         seat = t.seat;
-        has = subst (λ x. HasView Gone t.seat (worker (record (view_of p.board m r) { pass = x + 1 }))) rest
-            (at_other (slice_set Two 0 (control Then)) Seat t.seat spent (worker (view_of p.board m r)) other
-            (at_other Two 0 t.seat (control Then) (worker (view_of p.board m r)) second
-            (at_other One Seat t.seat (worker Stopped) (worker (view_of p.board m r)) other
-            (at_other s.views Seat t.seat (worker Learned) (worker (view_of p.board m r)) other t.has))));
+        has = subst (λ x. HasView Gone t.seat (worker (record (view_of p m r) { pass = x + 1 }))) rest
+            (at_other (slice_set Two 0 (control Then)) Seat t.seat spent (worker (view_of p m r)) other
+            (at_other Two 0 t.seat (control Then) (worker (view_of p m r)) second
+            (at_other One Seat t.seat (worker Stopped) (worker (view_of p m r)) other
+            (at_other s.views Seat t.seat (worker Learned) (worker (view_of p m r)) other t.has))));
         follows = t.follows;
         left = subst (λ x. x + 2 < 2 ^ 64) rest t.left;
       }
@@ -147,19 +148,19 @@ module _ (words : List ℕ) (p : Plain) (s : IsPlain words p) (n : ℕ) (q : Pas
     rests = homes;
   }
     where
-      low : (m : ℕ) → n < length p.board.rests → slice_index (slice_set p.board.rests n (slice_index p.board.rests n + 2)) m % 2 ≡ 0
+      low : (m : ℕ) → n < length p.rests → slice_index (slice_set p.rests n (slice_index p.rests n + 2)) m % 2 ≡ 0
       low m lt = dite (ℕ_discrete m n)
-          (λ same. ap (λ i. slice_index (slice_set p.board.rests n (slice_index p.board.rests n + 2)) i % 2) same
-          ∙ ap (λ x. x % 2) (get_or-set_same p.board.rests n (slice_index p.board.rests n + 2) 0 lt) ∙ two (slice_index p.board.rests n) (s.even n))
-          (λ ne. ap (λ x. x % 2) (get_or-set_other p.board.rests n m (slice_index p.board.rests n + 2) 0 ne) ∙ s.even m)
+          (λ same. ap (λ i. slice_index (slice_set p.rests n (slice_index p.rests n + 2)) i % 2) same
+          ∙ ap (λ x. x % 2) (get_or-set_same p.rests n (slice_index p.rests n + 2) 0 lt) ∙ two (slice_index p.rests n) (s.even n))
+          (λ ne. ap (λ x. x % 2) (get_or-set_other p.rests n m (slice_index p.rests n + 2) 0 ne) ∙ s.even m)
         where
           two : (x : ℕ) → x % 2 ≡ 0 → (x + 2) % 2 ≡ 0
           two x even = omega arith
 
-      evens : (m : ℕ) → slice_index (slice_set p.board.rests n (slice_index p.board.rests n + 2)) m % 2 ≡ 0
+      evens : (m : ℕ) → slice_index (slice_set p.rests n (slice_index p.rests n + 2)) m % 2 ≡ 0
       evens m = low m (let count = (desk words p s).count in let lt = in_passes in let long = s.long in omega arith)
 
-      homes : (m : ℕ) → pass_of (pass_ended p n) m ≡ None → slice_index_or (slice_set p.board.out n false) m false ≡ false
+      homes : (m : ℕ) → pass_of (pass_ended p n) m ≡ None → slice_index_or (slice_set p.out n false) m false ≡ false
       homes m e = dite (ℕ_discrete m n)
-          (λ same. ap (λ i. slice_index_or (slice_set p.board.out n false) i false) same ∙ get_or-set_same p.board.out n false false (let outs = (desk words p s).outs in let lt = in_passes in let long = s.long in omega arith))
-          (λ ne. get_or-set_other p.board.out n m false false ne ∙ s.rests m (sym (pass_other p.passes n None m ne) ∙ e))
+          (λ same. ap (λ i. slice_index_or (slice_set p.out n false) i false) same ∙ get_or-set_same p.out n false false (let outs = (desk words p s).outs in let lt = in_passes in let long = s.long in omega arith))
+          (λ ne. get_or-set_other p.out n m false false ne ∙ s.rests m (sym (pass_other p.passes n None m ne) ∙ e))

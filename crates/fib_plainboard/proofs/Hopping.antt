@@ -13,7 +13,8 @@ use Rattle.fib_core.proofs.Stands.{low16, ply_moves, balance_moves, goes_on}
 use Rattle.fib_hops.specs.declared.stage.Stage.{Stage}
 use Rattle.fib_hops.specs.declared.stage.Stage.TheVariants as stages
 use Rattle.fib_hops.specs.Stages.{StandsAt, end_in}
-use Rattle.fib_plainboard.specs.Plain.{Pass, Plain, pass_of, load_of, further, pass_hopped, hopped_on, loads_in, FoundEdge, IsOnItsWay, HasEnd}
+use Rattle.fib_board.specs.Boards.{Board, Pass}
+use Rattle.fib_plainboard.specs.Passes.{pass_of, load_of, further, pass_hopped, hopped_on, loads_in, FoundEdge, IsOnItsWay, HasEnd}
 use Rattle.fib_plainboard.specs.inner.Reads.{word_in, IsIn, IsReadable, IsNext}
 use Rattle.fib_plainboard.specs.inner.Sits.{IsPlain}
 use Rattle.fib_plainboard.proofs.Keeping.{cell_now, word_now, words_long}
@@ -28,9 +29,9 @@ edge_going a h objects (l ∷ t) f s edge =
 abbrev pub hopped_by : List ℕ → Pass → Place → Pass
 hopped_by cells q at = record { addr = q.addr; hash = q.hash; lo = q.lo; loads = further cells q.addr q.hash at q.loads }
 
-module _ (words : List ℕ) (p : Plain) (s : IsPlain words p) (n : ℕ) (q : Pass) (runs : pass_of p n ≡ Some q) where
+module _ (words : List ℕ) (p : Board) (s : IsPlain words p) (n : ℕ) (q : Pass) (runs : pass_of p n ≡ Some q) where
   abbrev Cells : List ℕ
-  Cells = p.board.union.cells
+  Cells = p.union.cells
 
   follows : Follows q.addr q.hash q.loads
   follows = (s.sits n q runs).follows
@@ -38,10 +39,10 @@ module _ (words : List ℕ) (p : Plain) (s : IsPlain words p) (n : ℕ) (q : Pas
   in_passes : n < length p.passes
   in_passes = inside p.passes n q runs
 
-  word_now_is : (k : ℕ) → k < 16 * p.board.objects → word_in words k ≡ decoded (slice_index Cells k)
+  word_now_is : (k : ℕ) → k < 16 * p.objects → word_in words k ≡ decoded (slice_index Cells k)
   word_now_is k lt = ap decoded (cell_now words p s k lt)
 
-  is_in : (o : ℕ) → o < p.board.objects → IsIn words o
+  is_in : (o : ℕ) → o < p.objects → IsIn words o
   is_in o lt = record {
     room = (let long = words_long words p s in omega arith);
     found = λ t low. word_now words p s (16 * o + t) (omega arith);
@@ -67,10 +68,10 @@ module _ (words : List ℕ) (p : Plain) (s : IsPlain words p) (n : ℕ) (q : Pas
     abbrev Three : Pass
     Three = with_load Two (load_of Cells (16 * o + 2))
 
-    abbrev First : Plain
+    abbrev First : Board
     First = with_pass p n One
 
-    abbrev Second : Plain
+    abbrev Second : Board
     Second = with_pass First n Two
 
     place_one : place One.loads ≡ adjacency o (Interface ∷ [])
@@ -101,7 +102,7 @@ module _ (words : List ℕ) (p : Plain) (s : IsPlain words p) (n : ℕ) (q : Pas
         (ap (asked q.addr q.hash) (sym place_two)) (ap (λ x. 16 * object_of x + 2) (sym place_two)) (omega arith)
 
     pub adjacency_kept : IsPlain words (with_pass p n Three)
-    adjacency_kept = subst (λ ps. IsPlain words (record { board = p.board; passes = ps }))
+    adjacency_kept = subst (λ ps. IsPlain words (record p { passes = ps }))
         (set-set (slice_set p.passes n (Some One)) n (Some Two) (Some Three) ∙ set-set p.passes n (Some One) (Some Three))
         third_kept
 
@@ -126,22 +127,22 @@ module _ (words : List ℕ) (p : Plain) (s : IsPlain words p) (n : ℕ) (q : Pas
   kept_at (stages.Ended e) at going = absurd (subst IsGoing at going)
 
   pub hopped_is : hopped_on p n ≡ with_pass p n (pass_hopped Cells q)
-  hopped_is = ap (λ o. record { board = p.board; passes = slice_set p.passes n (option_map (pass_hopped Cells) o) }) runs
+  hopped_is = ap (λ o. record p { passes = slice_set p.passes n (option_map (pass_hopped Cells) o) }) runs
 
   pub hops : (stage : Stage) → StandsAt q.hash (place q.loads) stage → IsGoing (place q.loads) → IsPlain words (hopped_on p n)
   hops stage at going = subst (IsPlain words) (sym hopped_is) (kept_at stage at going)
 
   pub hopped_runs : pass_of (hopped_on p n) n ≡ Some (pass_hopped Cells q)
-  hopped_runs = ap (λ (r : Plain). pass_of r n) hopped_is ∙ pass_same p.passes n (Some (pass_hopped Cells q)) in_passes
+  hopped_runs = ap (λ (r : Board). pass_of r n) hopped_is ∙ pass_same p.passes n (Some (pass_hopped Cells q)) in_passes
 
   pub readable : (stage : Stage) → StandsAt q.hash (place q.loads) stage → IsGoing (place q.loads) → IsReadable words stage
   readable (stages.Ply o d) at going = (
     subst IsProper at ((sound words p s n q runs).proper q.addr q.hash follows).0,
-    is_in o (subst (λ x. object_of x < p.board.objects) at (place_inside words p s n q runs going)),
+    is_in o (subst (λ x. object_of x < p.objects) at (place_inside words p s n q runs going)),
   )
-  readable (stages.Balance o left) at going = is_in o (subst (λ x. object_of x < p.board.objects) at.1 (place_inside words p s n q runs going))
+  readable (stages.Balance o left) at going = is_in o (subst (λ x. object_of x < p.objects) at.1 (place_inside words p s n q runs going))
   readable (stages.Adjacency o) at going =
-      let lt : o < p.board.objects = subst (λ x. object_of x < p.board.objects) at (place_inside words p s n q runs going) in
+      let lt : o < p.objects = subst (λ x. object_of x < p.objects) at (place_inside words p s n q runs going) in
       let proper = adjacency_proper o at in (
         is_in o lt,
         record {
@@ -156,14 +157,14 @@ module _ (words : List ℕ) (p : Plain) (s : IsPlain words p) (n : ℕ) (q : Pas
   pub stands_at : (stage then_at : Stage) → StandsAt q.hash (place q.loads) stage → IsGoing (place q.loads) → IsNext words q.addr q.hash stage then_at
       → StandsAt q.hash (place (further Cells q.addr q.hash (place q.loads) q.loads)) then_at
   stands_at (stages.Ply o d) r at going is =
-      let lt : o < p.board.objects = subst (λ x. object_of x < p.board.objects) at (place_inside words p s n q runs going) in
+      let lt : o < p.objects = subst (λ x. object_of x < p.objects) at (place_inside words p s n q runs going) in
       let low = low16 (q.addr / 2 ^ (28 - 4 * d)) in
       subst (λ x. StandsAt q.hash x r)
       (ap (from_ply d) (word_now_is (16 * o + nibble q.addr d) (omega arith))
       ∙ sym (ap (λ x. place (further Cells q.addr q.hash x q.loads)) at ∙ ap (λ x. next x (decoded (slice_index Cells (16 * o + nibble q.addr d)))) at))
       is
   stands_at (stages.Balance o left) r at going is =
-      let lt : o < p.board.objects = subst (λ x. object_of x < p.board.objects) at.1 (place_inside words p s n q runs going) in
+      let lt : o < p.objects = subst (λ x. object_of x < p.objects) at.1 (place_inside words p s n q runs going) in
       let low = low16 (halved q.hash at.0) in
       subst (λ x. StandsAt q.hash x r)
       (ap (λ m. from_balance at.0 (word_in words (16 * o + m % 16))) (sym at.2)
@@ -171,7 +172,7 @@ module _ (words : List ℕ) (p : Plain) (s : IsPlain words p) (n : ℕ) (q : Pas
       ∙ sym (ap (λ x. place (further Cells q.addr q.hash x q.loads)) at.1 ∙ ap (λ x. next x (decoded (slice_index Cells (16 * o + halved q.hash at.0 % 16)))) at.1))
       (is at.0 at.2)
   stands_at (stages.Adjacency o) r at going is =
-      let lt : o < p.board.objects = subst (λ x. object_of x < p.board.objects) at (place_inside words p s n q runs going) in
+      let lt : o < p.objects = subst (λ x. object_of x < p.objects) at (place_inside words p s n q runs going) in
       let i : word_in words (16 * o + 0) ≡ decoded (slice_index Cells (16 * o + 0)) = word_now_is (16 * o + 0) (omega arith) in
       let g : word_in words (16 * o + 1) ≡ decoded (slice_index Cells (16 * o + 1)) = word_now_is (16 * o + 1) (omega arith) in
       let m : word_in words (16 * o + 2) ≡ decoded (slice_index Cells (16 * o + 2)) = word_now_is (16 * o + 2) (omega arith) in
@@ -204,11 +205,11 @@ module _ (words : List ℕ) (p : Plain) (s : IsPlain words p) (n : ℕ) (q : Pas
       → FoundEdge (pass_hopped Cells q).loads → IsGoing (place (pass_hopped Cells q).loads)
   edge_on stage at going =
       let k : IsPlain words (hopped_on p n) = hops stage at going in
-      edge_going q.addr q.hash p.board.objects (further Cells q.addr q.hash (place q.loads) q.loads)
+      edge_going q.addr q.hash p.objects (further Cells q.addr q.hash (place q.loads) q.loads)
       (k.sits n (pass_hopped Cells q) hopped_runs).follows (sound words (hopped_on p n) k n (pass_hopped Cells q) hopped_runs)
 
 -- None exactly where the last load was of an edge
-module _ (p : Plain) (n : ℕ) (q : Pass) (runs : pass_of p n ≡ Some q) (r : Option End) (is : r ≡ end_in (place q.loads)) where
+module _ (p : Board) (n : ℕ) (q : Pass) (runs : pass_of p n ≡ Some q) (r : Option End) (is : r ≡ end_in (place q.loads)) where
   pub none_on : (IsGoing (place q.loads) → FoundEdge q.loads) → IfNone r (IsOnItsWay p n × FoundEdge (loads_in (pass_of p n)))
   none_on on = subst (λ x. IfNone x (IsOnItsWay p n × FoundEdge (loads_in (pass_of p n)))) (sym is) (by_place (place q.loads) (λ g. g))
     where

@@ -16,8 +16,8 @@ use Rattle.fib_rule.specs.Rule.{IsLawful}
 use Rattle.fib_rule.specs.May.{MayLoad, MaySend}
 use Rattle.fib_rule.proofs.Keeping as keep
 use Rattle.fib_rule.proofs.Tells as tells
-use Rattle.fib_board.specs.Crews.{board_sent}
-use Rattle.fib_plainboard.specs.Plain.{Pass, Plain, pass_of, pass_begun, load_of}
+use Rattle.fib_board.specs.Boards.{Board, Pass}
+use Rattle.fib_plainboard.specs.Passes.{pass_of, pass_begun, load_of}
 use Rattle.fib_plainboard.specs.inner.Sits.{view_of, Sits, IsPlain}
 use Rattle.fib_plainboard.proofs.Views.{at_other, at_left, at_last, at_below, worker_apart, workers_apart}
 use Rattle.fib_plainboard.proofs.Keeping.{Own, facts, cell_now}
@@ -42,8 +42,8 @@ inside [] n q e = absurd (some_none q (sym e))
 inside (x ∷ xs) zero q e = omega arith
 inside (x ∷ xs) (suc n) q e = let lt = inside xs n q e in omega arith
 
-abbrev pub with_pass : Plain → ℕ → Pass → Plain
-with_pass p n q = record { board = p.board; passes = slice_set p.passes n (Some q) }
+abbrev pub with_pass : Board → ℕ → Pass → Board
+with_pass p n q = record p { passes = slice_set p.passes n (Some q) }
 
 abbrev pub with_load : Pass → Load → Pass
 with_load q l = record { addr = q.addr; hash = q.hash; lo = q.lo; loads = l ∷ q.loads }
@@ -56,11 +56,11 @@ lo_same : (t : List Load) (v : Version) → lo_at t v v ≡ v
 lo_same [] v = refl
 lo_same (l ∷ t) v = refl
 
-module _ (words : List ℕ) (p : Plain) (s : IsPlain words p) where
+module _ (words : List ℕ) (p : Board) (s : IsPlain words p) where
   -- a pass begins: its number is picked, its seat is split off, and it stores its pass word
-  module _ (n a h : ℕ) (known : n < p.board.workers) (none : pass_of p n ≡ None) (flow : (a < 2 ^ 32) × (h < 2 ^ 32)) (left : slice_index p.board.rests n + 2 < 2 ^ 64) where
+  module _ (n a h : ℕ) (known : n < p.workers) (none : pass_of p n ≡ None) (flow : (a < 2 ^ 32) × (h < 2 ^ 32)) (left : slice_index p.rests n + 2 < 2 ^ 64) where
     abbrev First : Pass
-    First = record { addr = a; hash = h; lo = p.board.log.version; loads = [] }
+    First = record { addr = a; hash = h; lo = p.log.version; loads = [] }
 
     abbrev Picked : Control
     Picked = picking (Own words p s) n
@@ -75,7 +75,7 @@ module _ (words : List ℕ) (p : Plain) (s : IsPlain words p) where
     Sent = Two ++ worker (new_worker Picked) ∷ []
 
     abbrev Begun : List View
-    Begun = slice_set Sent (length Two) (worker (started (new_worker Picked) (slice_index p.board.rests n + 1)))
+    Begun = slice_set Sent (length Two) (worker (started (new_worker Picked) (slice_index p.rests n + 1)))
 
     in_passes : n < length p.passes
     in_passes = (let long = s.long in let most = s.limits.eight in omega arith)
@@ -84,16 +84,16 @@ module _ (words : List ℕ) (p : Plain) (s : IsPlain words p) where
     may = record {
       known = known;
       home = s.rests n none;
-      few = (let few : length p.board.gathered ≡ 0 = ap length s.claims in omega arith);
+      few = (let few : length p.gathered ≡ 0 = ap length s.claims in omega arith);
     }
 
     picked_there : HasView One 0 (control Picked)
     picked_there = set_there s.views 0 (control (Own words p s)) (control Picked) s.mine
 
-    lawful_begun : IsLawful p.board.objects (slice_set words (n + 1) (slice_index p.board.rests n + 1)) Begun
-    lawful_begun = keep.starts p.board.objects words Sent (length Two)
-        (keep.sends p.board.objects words One 0 (keep.picks p.board.objects words s.views 0 s.lawful (Own words p s) n s.mine) Picked may picked_there)
-        (new_worker Picked) (slice_index p.board.rests n + 1) (at_last Two (worker (new_worker Picked)))
+    lawful_begun : IsLawful p.objects (slice_set words (n + 1) (slice_index p.rests n + 1)) Begun
+    lawful_begun = keep.starts p.objects words Sent (length Two)
+        (keep.sends p.objects words One 0 (keep.picks p.objects words s.views 0 s.lawful (Own words p s) n s.mine) Picked may picked_there)
+        (new_worker Picked) (slice_index p.rests n + 1) (at_last Two (worker (new_worker Picked)))
 
     same_length : length Two ≡ length s.views
     same_length = length-set One 0 (control (sent Picked)) ∙ length-set s.views 0 (control Picked)
@@ -104,26 +104,26 @@ module _ (words : List ℕ) (p : Plain) (s : IsPlain words p) where
         let apart = worker_apart s.views (Own words p s) v seat s.mine has in
         let below = at_below s.views seat (worker v) has in
         let same = same_length in
-        at_other Sent (length Two) seat (worker (started (new_worker Picked) (slice_index p.board.rests n + 1))) (worker v) (λ e. omega arith)
+        at_other Sent (length Two) seat (worker (started (new_worker Picked) (slice_index p.rests n + 1))) (worker v) (λ e. omega arith)
         (at_left Two (worker (new_worker Picked) ∷ []) seat (worker v)
         (at_other One 0 seat (control (sent Picked)) (worker v) apart
         (at_other s.views 0 seat (control Picked) (worker v) apart has)))
 
-    sits_begun : (m : ℕ) (q : Pass) → pass_of (pass_begun p n a h) m ≡ Some q → Sits Begun (board_sent p.board n) m q
+    sits_begun : (m : ℕ) (q : Pass) → pass_of (pass_begun p n a h) m ≡ Some q → Sits Begun (pass_begun p n a h) m q
     sits_begun m q e = dite (ℕ_discrete m n)
-        (λ same. subst (λ (x : ℕ × Pass). Sits Begun (board_sent p.board n) x.0 x.1)
+        (λ same. subst (λ (x : ℕ × Pass). Sits Begun (pass_begun p n a h) x.0 x.1)
         (λ i. (sym same i, some_is First q (sym (pass_same p.passes n (Some First) in_passes) ∙ ap (pass_of (pass_begun p n a h)) (sym same) ∙ e) i))
-        (record { seat = length Two; has = set_there Sent (length Two) (worker (new_worker Picked)) (worker (started (new_worker Picked) (slice_index p.board.rests n + 1))) (at_last Two (worker (new_worker Picked))); follows = flow; left = left }))
+        (record { seat = length Two; has = set_there Sent (length Two) (worker (new_worker Picked)) (worker (started (new_worker Picked) (slice_index p.rests n + 1))) (at_last Two (worker (new_worker Picked))); follows = flow; left = left }))
         (λ ne. let t = s.sits m q (sym (pass_other p.passes n (Some First) m ne) ∙ e) in
-        record { seat = t.seat; has = still t.seat (view_of p.board m q) t.has; follows = t.follows; left = t.left })
+        record { seat = t.seat; has = still t.seat (view_of p m q) t.has; follows = t.follows; left = t.left })
 
-    pub begins : IsPlain (slice_set words (n + 1) (slice_index p.board.rests n + 1)) (pass_begun p n a h)
+    pub begins : IsPlain (slice_set words (n + 1) (slice_index p.rests n + 1)) (pass_begun p n a h)
     begins = record {
       views = Begun;
       home = s.home;
       picked = n;
       lawful = lawful_begun;
-      mine = at_other Sent (length Two) 0 (worker (started (new_worker Picked) (slice_index p.board.rests n + 1))) (control (sent Picked))
+      mine = at_other Sent (length Two) 0 (worker (started (new_worker Picked) (slice_index p.rests n + 1))) (control (sent Picked))
           (λ e. let some = at_below s.views 0 (control (Own words p s)) s.mine in let same = same_length in omega arith)
           (at_left Two (worker (new_worker Picked) ∷ []) 0 (control (sent Picked)) (set_there One 0 (control Picked) (control (sent Picked)) picked_there));
       limits = s.limits;
@@ -135,31 +135,31 @@ module _ (words : List ℕ) (p : Plain) (s : IsPlain words p) where
       rests = rests_begun;
     }
       where
-        rests_begun : (m : ℕ) → pass_of (pass_begun p n a h) m ≡ None → slice_index_or (slice_set p.board.out n true) m false ≡ false
+        rests_begun : (m : ℕ) → pass_of (pass_begun p n a h) m ≡ None → slice_index_or (slice_set p.out n true) m false ≡ false
         rests_begun m e =
             let ne : m ≢ n = (λ same. some_none First (sym (pass_same p.passes n (Some First) in_passes) ∙ ap (pass_of (pass_begun p n a h)) (sym same) ∙ e)) in
-            get_or-set_other p.board.out n m true false ne ∙ s.rests m (sym (pass_other p.passes n (Some First) m ne) ∙ e)
+            get_or-set_other p.out n m true false ne ∙ s.rests m (sym (pass_other p.passes n (Some First) m ne) ∙ e)
 
   -- a running pass
   module _ (n : ℕ) (q : Pass) (runs : pass_of p n ≡ Some q) where
     abbrev pub Sat : Worker
-    Sat = view_of p.board n q
+    Sat = view_of p n q
 
-    pub sound : IsSoundTrail p.board.objects q.loads
-    sound = tells.trail_sound p.board.objects words s.views s.lawful (s.sits n q runs).seat Sat (s.sits n q runs).has
+    pub sound : IsSoundTrail p.objects q.loads
+    sound = tells.trail_sound p.objects words s.views s.lawful (s.sits n q runs).seat Sat (s.sits n q runs).has
 
-    pub stands_inside : stands q.loads < p.board.objects
-    stands_inside = (let t = sound in head_below p.board.objects (visited q.loads) (facts words p s).any t.below)
+    pub stands_inside : stands q.loads < p.objects
+    stands_inside = (let t = sound in head_below p.objects (visited q.loads) (facts words p s).any t.below)
 
-    pub place_inside : IsGoing (place q.loads) → object_of (place q.loads) < p.board.objects
-    place_inside going = subst (λ o. o < p.board.objects) (sym (sound.stood q.addr q.hash (s.sits n q runs).follows going)) stands_inside
+    pub place_inside : IsGoing (place q.loads) → object_of (place q.loads) < p.objects
+    place_inside going = subst (λ o. o < p.objects) (sym (sound.stood q.addr q.hash (s.sits n q runs).follows going)) stands_inside
 
     -- it loads the next cell of its walk
     module _ (k slot : ℕ) (going : IsGoing (place q.loads)) (asks : k ≡ asked q.addr q.hash (place q.loads)) (is : k ≡ 16 * object_of (place q.loads) + slot) (low : slot < 16) where
       abbrev Next : Pass
-      Next = with_load q (load_of p.board.union.cells k)
+      Next = with_load q (load_of p.union.cells k)
 
-      in_cells : k < 16 * p.board.objects
+      in_cells : k < 16 * p.objects
       in_cells = (let lt = place_inside going in let e = is in omega arith)
 
       may_load : MayLoad Sat k
@@ -169,30 +169,30 @@ module _ (words : List ℕ) (p : Plain) (s : IsPlain words p) where
         here = ap owner is ∙ owner_of (object_of (place q.loads)) slot low ∙ sound.stood q.addr q.hash (s.sits n q runs).follows going;
       }
 
-      hopped_is : hopped Sat k (slice_index words (16 + k)) ≡ view_of p.board n Next
+      hopped_is : hopped Sat k (slice_index words (16 + k)) ≡ view_of p n Next
       hopped_is = ap (λ (x : Version × ℕ). record Sat { lo = x.0; trail = (k, x.1) ∷ q.loads; hi = None }) (λ i. (lo_same q.loads q.lo i, cell_now words p s k in_cells i))
 
       abbrev Gone : List View
-      Gone = slice_set s.views (s.sits n q runs).seat (worker (view_of p.board n Next))
+      Gone = slice_set s.views (s.sits n q runs).seat (worker (view_of p n Next))
 
-      lawful_gone : IsLawful p.board.objects words Gone
-      lawful_gone = subst (λ v. IsLawful p.board.objects words (slice_set s.views (s.sits n q runs).seat (worker v))) hopped_is
-          (keep.hops p.board.objects words s.views (s.sits n q runs).seat s.lawful Sat k may_load (s.sits n q runs).has)
+      lawful_gone : IsLawful p.objects words Gone
+      lawful_gone = subst (λ v. IsLawful p.objects words (slice_set s.views (s.sits n q runs).seat (worker v))) hopped_is
+          (keep.hops p.objects words s.views (s.sits n q runs).seat s.lawful Sat k may_load (s.sits n q runs).has)
 
-      sits_gone : (m : ℕ) (r : Pass) → pass_of (with_pass p n Next) m ≡ Some r → Sits Gone p.board m r
+      sits_gone : (m : ℕ) (r : Pass) → pass_of (with_pass p n Next) m ≡ Some r → Sits Gone (with_pass p n Next) m r
       sits_gone m r e = dite (ℕ_discrete m n)
-          (λ same. subst (λ (x : ℕ × Pass). Sits Gone p.board x.0 x.1)
+          (λ same. subst (λ (x : ℕ × Pass). Sits Gone (with_pass p n Next) x.0 x.1)
           (λ i. (sym same i, some_is Next r (sym (pass_same p.passes n (Some Next) (inside p.passes n q runs)) ∙ ap (pass_of (with_pass p n Next)) (sym same) ∙ e) i))
           (record {
             seat = (s.sits n q runs).seat;
-            has = set_there s.views (s.sits n q runs).seat (worker Sat) (worker (view_of p.board n Next)) (s.sits n q runs).has;
+            has = set_there s.views (s.sits n q runs).seat (worker Sat) (worker (view_of p n Next)) (s.sits n q runs).has;
             follows = (asks, going, (s.sits n q runs).follows);
             left = (s.sits n q runs).left;
           }))
           (λ ne. let t = s.sits m r (sym (pass_other p.passes n (Some Next) m ne) ∙ e) in record {
             seat = t.seat;
-            has = at_other s.views (s.sits n q runs).seat t.seat (worker (view_of p.board n Next)) (worker (view_of p.board m r))
-                (workers_apart s.views Sat (view_of p.board m r) (s.sits n q runs).seat t.seat (s.sits n q runs).has t.has (λ same. ne (sym same))) t.has;
+            has = at_other s.views (s.sits n q runs).seat t.seat (worker (view_of p n Next)) (worker (view_of p m r))
+                (workers_apart s.views Sat (view_of p m r) (s.sits n q runs).seat t.seat (s.sits n q runs).has t.has (λ same. ne (sym same))) t.has;
             follows = t.follows;
             left = t.left;
           })
@@ -203,7 +203,7 @@ module _ (words : List ℕ) (p : Plain) (s : IsPlain words p) where
         home = s.home;
         picked = s.picked;
         lawful = lawful_gone;
-        mine = at_other s.views (s.sits n q runs).seat 0 (worker (view_of p.board n Next)) (control (Own words p s))
+        mine = at_other s.views (s.sits n q runs).seat 0 (worker (view_of p n Next)) (control (Own words p s))
             (λ e. worker_apart s.views (Own words p s) Sat (s.sits n q runs).seat s.mine (s.sits n q runs).has (sym e)) s.mine;
         limits = s.limits;
         claims = s.claims;
@@ -214,7 +214,7 @@ module _ (words : List ℕ) (p : Plain) (s : IsPlain words p) where
         rests = rests_gone;
       }
         where
-          rests_gone : (m : ℕ) → pass_of (with_pass p n Next) m ≡ None → slice_index_or p.board.out m false ≡ false
+          rests_gone : (m : ℕ) → pass_of (with_pass p n Next) m ≡ None → slice_index_or p.out m false ≡ false
           rests_gone m e =
               let ne : m ≢ n = (λ same. some_none Next (sym (pass_same p.passes n (Some Next) (inside p.passes n q runs)) ∙ ap (pass_of (with_pass p n Next)) (sym same) ∙ e)) in
               s.rests m (sym (pass_other p.passes n (Some Next) m ne) ∙ e)

@@ -2,7 +2,8 @@
 //!
 //! A `PlainBoard` has its words in the layout of the shared table and makes on them, one after another, the events that the control plane and
 //! the workers of a live table make. It is under the same rule, `IsLawful` of fib_rule, by the same laws. So it shows that what the rule and
-//! the trait `Board` ask can be met together. What contracts see of it is `Plain` of `specs/Plain.antt`; `specs/inner` only carries proofs.
+//! the trait `Board` ask can be met together. What contracts see of it is the value `Board` of
+//! fib_board; `specs/Passes.antt` says what begin, hop and end make of it, and `specs/inner` only carries proofs.
 #![tactic(auto)]
 
 mod memory;

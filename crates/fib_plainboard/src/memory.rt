@@ -1,7 +1,7 @@
 // What contracts see of a plain board and no run does: history, retired edges, trails. It lies in the view of the one seat of a one-word table.
 ghost use Rattle.std.specs.Prelude.{IfOk, ◌≡◌};
 ghost use mathlib.Core.Option.{some};
-ghost use Rattle.fib_plainboard.specs.Plain.{fresh_plain};
+ghost use Rattle.fib_plainboard.specs.Passes.{fresh_plain};
 ghost use Rattle.fib_plainboard.specs.inner.Sits.{aimed_at, begun_with, ended_at, hopped_at, looked_at, put_at, sent_at, settled_at};
 
 use atomic_table::{Play, Seat, Table, TableRule};
@@ -13,9 +13,10 @@ use std::marker::Model;
 pub struct Known {}
 
 impl Model for Known {
-    ghost use Rattle.fib_plainboard.specs.Plain.{Plain, fresh_plain};
+    ghost use Rattle.fib_board.specs.Boards.{Board};
+    ghost use Rattle.fib_plainboard.specs.Passes.{fresh_plain};
 
-    ghost Value = { Plain };
+    ghost Value = { Board };
 
     ghost view = { λ _. fresh_plain 0 0 };
 }
@@ -31,7 +32,7 @@ pub struct Room {
 pub struct Anything;
 
 impl TableRule<Tables, Known, Room> for Anything {
-    ghost use Rattle.fib_plainboard.specs.Plain.{fresh_plain};
+    ghost use Rattle.fib_plainboard.specs.Passes.{fresh_plain};
 
     ghost holds = { λ _ _. Unit {0} };
 
@@ -118,9 +119,9 @@ pub struct Memory {
 
 impl Model for Memory {
     ghost use Rattle.std.specs.Prelude.{[], ◌≡◌};
-    ghost use Rattle.fib_plainboard.specs.Plain.{Plain};
+    ghost use Rattle.fib_board.specs.Boards.{Board};
 
-    ghost Value = { Plain };
+    ghost Value = { Board };
 
     ghost view = { λ m. m.seat.me.0 };
 

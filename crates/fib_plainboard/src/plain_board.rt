@@ -7,9 +7,10 @@ ghost use Rattle.fib_core.specs.Trails.{Follows};
 ghost use Rattle.fib_core.specs.Words.{IsWord, decoded};
 ghost use Rattle.fib_hops.specs.declared.stage.Stage.TheVariants.{Ended};
 ghost use Rattle.fib_lawful.specs.State.{left_of};
+ghost use Rattle.fib_board.specs.Boards.{Pass};
 ghost use Rattle.fib_board.specs.Told.{IsWithinLimits};
 ghost use Rattle.fib_plainboard.specs.declared.running.Running.{Running as Kept};
-ghost use Rattle.fib_plainboard.specs.Plain.{FoundEdge, HasEnd, IsOnItsWay, IsRunning, Pass, answer_of, fresh_plain, hopped_on, loads_in, pass_begun, pass_ended, pass_of};
+ghost use Rattle.fib_plainboard.specs.Passes.{FoundEdge, HasEnd, IsOnItsWay, IsRunning, answer_of, fresh_plain, hopped_on, loads_in, pass_begun, pass_ended, pass_of};
 ghost use Rattle.fib_plainboard.specs.inner.Reads.{IsNext, IsReadable};
 
 use crate::memory::{Memory, Room};
@@ -35,10 +36,10 @@ pub struct PlainBoard {
 }
 
 impl Model for PlainBoard {
-    ghost use Rattle.fib_plainboard.specs.Plain.{Plain};
+    ghost use Rattle.fib_board.specs.Boards.{Board as Seen};
     ghost use Rattle.fib_plainboard.specs.inner.Sits.{IsKept, IsPlain};
 
-    ghost Value = { Plain };
+    ghost Value = { Seen };
 
     ghost view = { λ b. b.memory };
 
@@ -153,9 +154,9 @@ impl PlainBoard {
     ///
     /// No pass of that worker may run, and it must have passes left.
     pub fn begin(&mut self, worker: u32, addr: Addr, hash: u32)
-        requires worker { worker < self.old.board.workers }
+        requires worker { worker < self.old.workers }
         requires rests { pass_of self.old worker ≡ None }
-        requires left { 0 < left_of (slice_index self.old.board.rests worker) }
+        requires left { 0 < left_of (slice_index self.old.rests worker) }
         ensures pass { self.new ≡ pass_begun self.old worker addr hash }
         ensures on { IsOnItsWay self.new worker }
     {
@@ -194,9 +195,9 @@ impl PlainBoard {
     pub fn end(&mut self, worker: u32) -> Record
         requires { (e : Ending) × HasEnd self.old worker e }
         ensures pass { self.new ≡ pass_ended self.old worker }
-        ensures answer { (q : Pass) → pass_of self.old worker ≡ Some q → result ≡ answer_of q self.old.board.log.version }
-        ensures right { IsRecordOk self.old.board.log.history result }
-        ensures steady { IsSteady self.old.board.log.history result }
+        ensures answer { (q : Pass) → pass_of self.old worker ≡ Some q → result ≡ answer_of q self.old.log.version }
+        ensures right { IsRecordOk self.old.log.history result }
+        ensures steady { IsSteady self.old.log.history result }
     {
         let place = worker as usize;
         let pass = running_pass(&self.passes, place);
@@ -215,16 +216,16 @@ impl PlainBoard {
 
     /// Whether a pass of that worker runs. Its number is out exactly then.
     pub fn running(&self, worker: u32) -> bool
-        requires { worker < self.now.board.workers }
+        requires { worker < self.now.workers }
         ensures running { IsTrue result ↔ IsRunning self.now worker }
-        ensures out { slice_index_or self.now.board.out worker false ≡ result }
+        ensures out { slice_index_or self.now.out worker false ≡ result }
     {
         self.passes[worker as usize].is_some()
     }
 }
 
 impl Board for PlainBoard {
-    ghost view = { λ p. p.board };
+    ghost view = { λ b. b };
 
     fn tells(&self) {
         // The type's invariant tells it, once a field is used.

@@ -1,5 +1,5 @@
 -- How the words, the running passes and the rule of the shared words belong together.
-use Rattle.std.specs.Prelude.{◌≡◌, ℕ, ◌+◌, ◌%◌, ◌^◌, ◌<◌, false, List, [], Option, Some, None, option_map, length, slice_index, slice_index_or, slice_set}
+use Rattle.std.specs.Prelude.{◌≡◌, ℕ, ◌+◌, ◌%◌, ◌^◌, ◌<◌, false, true, List, [], Option, Some, None, option_map, length, slice_index, slice_index_or, slice_set}
 use mathlib.Core.Option.{some, none}
 use Rattle.atomic_table.specs.Table.{Step, Me}
 use Rattle.fib_resolve.specs.declared.types.Tables.{Tables}
@@ -8,11 +8,10 @@ use Rattle.fib_lawful.specs.State.{Control, Worker, View, control, worker, store
 use Rattle.fib_lawful.specs.Frame.{HasView}
 use Rattle.fib_rule.specs.Rule.{IsLawful}
 use Rattle.fib_hops.specs.Stages.{StandsAt}
-use Rattle.fib_board.specs.Boards.{Board, as_control, board_begun, board_settled, board_scanned}
-use Rattle.fib_board.specs.Crews.{board_sent}
+use Rattle.fib_board.specs.Boards.{Board, Pass, as_control, board_begun, board_settled, board_scanned}
 use Rattle.fib_board.specs.Told.{IsWithinLimits}
 use Rattle.fib_plainboard.specs.declared.running.Running.{Running}
-use Rattle.fib_plainboard.specs.Plain.{Pass, Plain, pass_of, with_board, hopped_on, pass_ended}
+use Rattle.fib_plainboard.specs.Passes.{pass_of, hopped_on, pass_ended}
 
 -- the control plane's view, with the trails that came home and the number that was picked last
 abbrev pub control_with : Board → List Trail → ℕ → Control
@@ -48,19 +47,19 @@ pub record Sits (views : List View) (b : Board) (n : ℕ) (q : Pass) : Type 0 wh
   pub left : slice_index b.rests n + 2 < 2 ^ 64
 
 -- the words and some views meet the rule; the control plane's view is the board's, and each running pass has its seat
-pub record IsPlain (words : List ℕ) (p : Plain) : Type 0 where
+pub record IsPlain (words : List ℕ) (p : Board) : Type 0 where
   pub views : List View
   pub home : List Trail
   pub picked : ℕ
-  pub lawful : IsLawful p.board.objects words views
-  pub mine : HasView views 0 (control (control_with p.board home picked))
-  pub limits : IsWithinLimits p.board.objects p.board.workers
-  pub claims : p.board.gathered ≡ []
-  pub trails : p.board.trails ≡ []
-  pub even : (n : ℕ) → slice_index p.board.rests n % 2 ≡ 0
+  pub lawful : IsLawful p.objects words views
+  pub mine : HasView views 0 (control (control_with p home picked))
+  pub limits : IsWithinLimits p.objects p.workers
+  pub claims : p.gathered ≡ []
+  pub trails : p.trails ≡ []
+  pub even : (n : ℕ) → slice_index p.rests n % 2 ≡ 0
   pub long : length p.passes ≡ 8
-  pub sits : (n : ℕ) (q : Pass) → pass_of p n ≡ Some q → Sits views p.board n q
-  pub rests : (n : ℕ) → pass_of p n ≡ None → slice_index_or p.board.out n false ≡ false
+  pub sits : (n : ℕ) (q : Pass) → pass_of p n ≡ Some q → Sits views p n q
+  pub rests : (n : ℕ) → pass_of p n ≡ None → slice_index_or p.out n false ≡ false
 
 -- what the code keeps of a running pass
 abbrev pub Keeps : Option Running → Option Pass → Type 0
@@ -69,50 +68,50 @@ Keeps None (Some q) = ⊥
 Keeps (Some r) None = ⊥
 Keeps (Some r) (Some q) = (r.addr ≡ q.addr) × (r.hash ≡ q.hash) × (r.lo ≡ q.lo) × StandsAt q.hash (place q.loads) r.stage
 
-pub record IsKept (objects workers : ℕ) (running : List (Option Running)) (p : Plain) : Type 0 where
-  pub all : p.board.objects ≡ objects
-  pub crew : p.board.workers ≡ workers
+pub record IsKept (objects workers : ℕ) (running : List (Option Running)) (p : Board) : Type 0 where
+  pub all : p.objects ≡ objects
+  pub crew : p.workers ≡ workers
   pub long : length running ≡ 8
   pub keeps : (n : ℕ) → Keeps (slice_index_or running n None) (pass_of p n)
 
 -- what each step of the memory tells
 abbrev pub Telling : Type 1
-Telling = Step Tables → Me Tables Plain → ℕ → Me Tables Plain → Type 0
+Telling = Step Tables → Me Tables Board → ℕ → Me Tables Board → Type 0
 
-abbrev pub Gives : (Plain → ℕ → ℕ → Plain) → Telling
+abbrev pub Gives : (Board → ℕ → ℕ → Board) → Telling
 Gives f s v n u = u ≡ (f v.0 s.first s.second, [])
 
-abbrev pub put_at : Plain → ℕ → ℕ → Plain
-put_at p k w = with_board p (record p.board { union = stored_union (as_control p.board) k w; stored = p.board.stored + 1 })
+abbrev pub put_at : Board → ℕ → ℕ → Board
+put_at b k w = record b { union = stored_union (as_control b) k w; stored = b.stored + 1 }
 
-abbrev pub looked_at : Plain → ℕ → ℕ → Plain
-looked_at p n found = with_board p (board_scanned n found p.board)
+abbrev pub looked_at : Board → ℕ → ℕ → Board
+looked_at b n found = board_scanned n found b
 
-abbrev pub settled_at : Plain → ℕ → ℕ → Plain
-settled_at p m n = with_board p (board_settled p.board)
+abbrev pub settled_at : Board → ℕ → ℕ → Board
+settled_at b m n = board_settled b
 
-abbrev pub begun_with : Plain → mathlib.Core.Option.Option Tables → Plain
-begun_with p (some next) = with_board p (board_begun p.board next)
-begun_with p none = p
+abbrev pub begun_with : Board → mathlib.Core.Option.Option Tables → Board
+begun_with b (some next) = board_begun b next
+begun_with b none = b
 
 abbrev pub Begins : Telling
 Begins s v n u = u ≡ (begun_with v.0 s.said, [])
 
 -- a step tells two numbers, so a pass begins in two: first its address is known, then its hash
-abbrev pub sent_at : Plain → ℕ → ℕ → Plain
-sent_at p n a = record {
-  board = board_sent p.board n;
-  passes = slice_set p.passes n (Some (record { addr = a; hash = 0; lo = p.board.log.version; loads = [] }));
+abbrev pub sent_at : Board → ℕ → ℕ → Board
+sent_at b n a = record b {
+  out = slice_set b.out n true;
+  passes = slice_set b.passes n (Some (record { addr = a; hash = 0; lo = b.log.version; loads = [] }));
 }
 
 abbrev pub with_hash : ℕ → Pass → Pass
 with_hash h q = record { addr = q.addr; hash = h; lo = q.lo; loads = q.loads }
 
-abbrev pub aimed_at : Plain → ℕ → ℕ → Plain
-aimed_at p n h = record { board = p.board; passes = slice_set p.passes n (option_map (with_hash h) (pass_of p n)) }
+abbrev pub aimed_at : Board → ℕ → ℕ → Board
+aimed_at b n h = record b { passes = slice_set b.passes n (option_map (with_hash h) (pass_of b n)) }
 
-abbrev pub hopped_at : Plain → ℕ → ℕ → Plain
-hopped_at p n m = hopped_on p n
+abbrev pub hopped_at : Board → ℕ → ℕ → Board
+hopped_at b n m = hopped_on b n
 
-abbrev pub ended_at : Plain → ℕ → ℕ → Plain
-ended_at p n m = pass_ended p n
+abbrev pub ended_at : Board → ℕ → ℕ → Board
+ended_at b n m = pass_ended b n

@@ -1,5 +1,5 @@
 use Rattle.std.proofs.Common.{ap, sym, ◌∙◌, subst, arith}
-use Rattle.fib_plainboard.specs.Plain.{Plain}
+use Rattle.fib_board.specs.Boards.{Board}
 use Rattle.fib_plainboard.proofs.Keeping as keep
 use Rattle.fib_plainboard.proofs.Calls as calls
 use Rattle.fib_results.specs.Versions.{unpacked}
@@ -13,4 +13,4 @@ invariant_of-self c =
     c.decode-version.result c.settled_at.result c.encode.result c.settle_version.new.self
     (c.decode-version.ensures ∙ ap unpacked (sym (calls.found c.self.inside.words.items 0 c.index.result.now c.index.ensures room)) ∙ keep.version_now c.self.inside.words.items c.self.inside.memory c.self.invariant.0)
     c.settled_at.ensures c.encode.ensures.code c.settle_version.ensures
-    (subst (λ (p : Plain). MaySettle p.board) (sym c.self.view_is) c.requires)
+    (subst (λ (p : Board). MaySettle p) (sym c.self.view_is) c.requires)

@@ -1,4 +1,4 @@
--- What contracts see of a plain board: a board, and the passes that run on it. One function a call.
+-- What the calls of a plain board make of it: a board on which passes run.
 use Rattle.std.specs.Prelude.{◌≡◌, ℕ, ◌+◌, ◌*◌, false, true, List, [], ◌∷◌, Option, Some, None, option_map, replicate, slice_index, slice_index_or, slice_set}
 use Rattle.fib_resolve.specs.declared.types.End.{End}
 use Rattle.fib_results.specs.declared.record.Record.{Record}
@@ -7,47 +7,31 @@ use Rattle.fib_core.specs.Words.{goes}
 use Rattle.fib_core.specs.Walk.{Place, ply, balance, adjacency, ended, asked, end_at}
 use Rattle.fib_core.specs.Trails.{Load, place, IsGoing}
 use Rattle.fib_lawful.specs.State.{first_control}
-use Rattle.fib_board.specs.Boards.{Board, board_of}
-use Rattle.fib_board.specs.Crews.{board_sent}
+use Rattle.fib_board.specs.Boards.{Board, Pass, board_of}
 
--- a running pass: its packet, the version as it began, and its loads, the newest first
-pub record Pass : Type 0 where
-  pub addr : ℕ
-  pub hash : ℕ
-  pub lo : Version
-  pub loads : List Load
+abbrev pub pass_of : Board → ℕ → Option Pass
+pass_of b n = slice_index_or b.passes n None
 
--- the board, and each worker's pass
-pub record Plain : Type 0 where
-  pub board : Board
-  pub passes : List (Option Pass)
-
-abbrev pub pass_of : Plain → ℕ → Option Pass
-pass_of p n = slice_index_or p.passes n None
-
-abbrev pub IsRunning : Plain → ℕ → Type 0
-IsRunning p n = (q : Pass) × (pass_of p n ≡ Some q)
+abbrev pub IsRunning : Board → ℕ → Type 0
+IsRunning b n = (q : Pass) × (pass_of b n ≡ Some q)
 
 -- and has no end yet, or has this one
-abbrev pub IsOnItsWay : Plain → ℕ → Type 0
-IsOnItsWay p n = (q : Pass) × (pass_of p n ≡ Some q) × IsGoing (place q.loads)
+abbrev pub IsOnItsWay : Board → ℕ → Type 0
+IsOnItsWay b n = (q : Pass) × (pass_of b n ≡ Some q) × IsGoing (place q.loads)
 
-abbrev pub HasEnd : Plain → ℕ → End → Type 0
-HasEnd p n e = (q : Pass) × (pass_of p n ≡ Some q) × (place q.loads ≡ ended e)
-
-abbrev pub with_board : Plain → Board → Plain
-with_board p b = record { board = b; passes = p.passes }
+abbrev pub HasEnd : Board → ℕ → End → Type 0
+HasEnd b n e = (q : Pass) × (pass_of b n ≡ Some q) × (place q.loads ≡ ended e)
 
 -- all cells say Drop, the version is (0, 0), nothing is retired, and no pass runs. A plain board shares its words with no other, and no trails
 -- are brought home to it
-abbrev pub fresh_plain : ℕ → ℕ → Plain
-fresh_plain objects workers = record { board = board_of [] [] (first_control objects workers); passes = replicate 8 None }
+abbrev pub fresh_plain : ℕ → ℕ → Board
+fresh_plain objects workers = board_of [] [] (replicate 8 None) (first_control objects workers)
 
 -- a pass of worker n begins: its number is out
-abbrev pub pass_begun : Plain → ℕ → ℕ → ℕ → Plain
-pass_begun p n a h = record {
-  board = board_sent p.board n;
-  passes = slice_set p.passes n (Some (record { addr = a; hash = h; lo = p.board.log.version; loads = [] }));
+abbrev pub pass_begun : Board → ℕ → ℕ → ℕ → Board
+pass_begun b n a h = record b {
+  out = slice_set b.out n true;
+  passes = slice_set b.passes n (Some (record { addr = a; hash = h; lo = b.log.version; loads = [] }));
 }
 
 -- it goes on by one load, the walk's next, or by the three words of the adjacency on which it stands
@@ -63,8 +47,8 @@ further cells a h (ended e) t = t
 abbrev pub pass_hopped : List ℕ → Pass → Pass
 pass_hopped cells q = record { addr = q.addr; hash = q.hash; lo = q.lo; loads = further cells q.addr q.hash (place q.loads) q.loads }
 
-abbrev pub hopped_on : Plain → ℕ → Plain
-hopped_on p n = record { board = p.board; passes = slice_set p.passes n (option_map (pass_hopped p.board.union.cells) (pass_of p n)) }
+abbrev pub hopped_on : Board → ℕ → Board
+hopped_on b n = record b { passes = slice_set b.passes n (option_map (pass_hopped b.union.cells) (pass_of b n)) }
 
 abbrev pub loads_in : Option Pass → List Load
 loads_in None = []
@@ -76,11 +60,12 @@ FoundEdge [] = ⊥
 FoundEdge (l ∷ t) = goes l.1 ≡ true
 
 -- it ends: its number is home, with its pass word
-abbrev pub board_ended : Board → ℕ → Board
-board_ended b n = record b { out = slice_set b.out n false; rests = slice_set b.rests n (slice_index b.rests n + 2) }
-
-abbrev pub pass_ended : Plain → ℕ → Plain
-pass_ended p n = record { board = board_ended p.board n; passes = slice_set p.passes n None }
+abbrev pub pass_ended : Board → ℕ → Board
+pass_ended b n = record b {
+  out = slice_set b.out n false;
+  rests = slice_set b.rests n (slice_index b.rests n + 2);
+  passes = slice_set b.passes n None;
+}
 
 -- and answers so, with the version as it is now
 abbrev pub answer_of : Pass → Version → Record
