@@ -88,6 +88,7 @@ module _ (b : Board) (f : IsFresh b) (few : b.objects < 4294967296) where
     roomy = roomy;
     records = record {
       adjacencies = λ o k e. absurd (none_kept o k e);
+      other = λ o k e. absurd (none_kept o k e);
       held = λ o k e. absurd (none_kept o k e);
       words = λ o s k e lt. absurd (none_kept o k e);
     };

@@ -7,3 +7,4 @@ mod Beginning
 mod Scanning
 mod Holding
 mod Recording
+mod Filling

@@ -1,6 +1,9 @@
 -- The objects of adjacency records through stores, sweeps and scans.
 use Rattle.std.proofs.Common.{arith, ◌≡◌, ℕ, ◌+◌, ◌*◌, ◌-◌, ◌<◌, List, [], ◌∷◌, Option, Some, None, refl, sym, ◌∙◌, ap, subst}
-use Rattle.fib_interned.specs.Interned.{Kept, kept_of}
+use Rattle.std.proofs.Common.{Bool, true, false, inl, inr}
+use Rattle.std.specs.Prelude.{◌==◌, if◌then◌else◌}
+use Rattle.std.proofs.lemmas.Bool.{cases_eq}
+use Rattle.fib_interned.specs.Interned.{Kept, kept_of, users_in, users_of, lowered, Takes, Gives}
 use Rattle.fib_union.specs.Unions as edges
 use Rattle.fib_union.specs.Unions.{owner, into, left_at_once}
 use Rattle.fib_core.specs.declared.word.Word.{Word}
@@ -9,11 +12,11 @@ use Rattle.fib_pool.specs.declared.object.Kind.TheVariants as kinds
 use Rattle.fib_pool.specs.declared.object.Object.{Object}
 use Rattle.fib_pool.specs.declared.object.AdjacencyRecord.{AdjacencyRecord}
 use Rattle.fib_pool.specs.Objects.{at, count_in, count_of, with_count, IsLive}
-use Rattle.fib_pool.specs.Records.{IsAdjacency}
+use Rattle.fib_pool.specs.Records.{IsAdjacency, IsKeptAs}
 use Rattle.fib_pool.proofs.Pools.{live_at}
 use Rattle.fib_board.specs.Boards.{Board, word_in, union_of, board_stored, board_scanned, board_scans, edge_of}
 use Rattle.fib_plane.specs.Planes.{IsHeld, IsSwept, IsUncounted, counted_more, uncounted}
-use Rattle.fib_plane.specs.Sound.{AreRecords}
+use Rattle.fib_plane.specs.Sound.{AreRecords, record_word}
 use Rattle.fib_plane.specs.inner.Joined.{IsJoined}
 use Rattle.fib_plane.proofs.Boarding.{at_other, kind_same, word_other}
 use Rattle.fib_plane.proofs.Holding.{held_stays}
@@ -28,6 +31,7 @@ module _ (b c : Board) (xs ys : List (Option Object)) (rows : List (Kept Adjacen
   pub records_kept : KeepsKinds xs ys → ((o : ℕ) → IsHeld b xs o → IsHeld c ys o) → ((o s : ℕ) (k : Kept AdjacencyRecord) → kept_of rows o ≡ Some k → s < 16 → word_in c (16 * o + s) ≡ word_in b (16 * o + s)) → AreRecords c ys rows
   records_kept kinds_stay held words = record {
     adjacencies = adjacency;
+    other = r.other;
     held = λ o k e. held o (r.held o k e);
     words = λ o s k e lt. words o s k e lt ∙ r.words o s k e lt;
   }
@@ -90,6 +94,7 @@ records_stored b u xs h rows r k w inside source target apart =
 pub records_released : (b : Board) (xs : List (Option Object)) (rows : List (Kept AdjacencyRecord)) → AreRecords b xs rows → (o : ℕ) → IsLive xs o → kept_of rows o ≡ None → AreRecords b (with_count xs o (count_of xs o - 1)) rows
 records_released b xs rows r o live apart = record {
   adjacencies = λ z k e. (let a = r.adjacencies z k e in record { count = a.count; taken = at_else z k e ∙ a.taken; live = a.live });
+  other = r.other;
   held = λ z k e. (let h = r.held z k e in let c : count_of (with_count xs o (count_of xs o - 1)) z ≡ count_of xs z = ap count_in (at_else z k e) in omega arith);
   words = r.words;
 }
@@ -106,3 +111,52 @@ pub records_scanned : (b m : Board) (ws : List ℕ) (xs ys : List (Option Object
 records_scanned b m ws xs ys rows is u r = records_kept b m xs ys rows r u.kinds
     (λ o h. (let c = u.counts o in omega arith))
     (λ o s k e lt. ap (λ (q : Board). word_in q (16 * o + s)) is ∙ scans_words 0 ws b (16 * o + s))
+
+-- a user of a record is lost
+
+lowered_from : (e : Option (Kept AdjacencyRecord)) (k : Kept AdjacencyRecord) → lowered e ≡ Some k → (j : Kept AdjacencyRecord) × (e ≡ Some j) × (j.content ≡ k.content)
+lowered_from None k is = absurd (let bad : ⊥ = cc in bad)
+lowered_from (Some j) k is = by_test (j.users == 1) is
+  where
+    by_test : (b : Bool) → (if b then None else Some (record { id = j.id; content = j.content; users = j.users - 1 })) ≡ Some k → (i : Kept AdjacencyRecord) × (Some j ≡ Some i) × (i.content ≡ k.content)
+    by_test true same = absurd (let bad : ⊥ = cc in bad)
+    by_test false same = (let one : record { id = j.id; content = j.content; users = j.users - 1 } ≡ k = cc in (j, refl, ap (λ (i : Kept AdjacencyRecord). i.content) one))
+
+-- what is kept afterwards was kept before
+given_from : (rows new : List (Kept AdjacencyRecord)) (o : ℕ) → Gives rows new o → (z : ℕ) (k : Kept AdjacencyRecord) → kept_of new z ≡ Some k → (j : Kept AdjacencyRecord) × (kept_of rows z ≡ Some j) × (j.content ≡ k.content)
+given_from rows new o g z k e = elim (cases_eq z o) [
+  | inl same ↦ (let was = lowered_from (kept_of rows o) k (sym g.given ∙ (ap (λ (q : ℕ). kept_of new q) (sym same) ∙ e)) in (was.0, ap (λ (q : ℕ). kept_of rows q) same ∙ was.1, was.2))
+  | inr ne ↦ (k, sym (g.others z ne) ∙ e, refl)
+]
+
+pub records_given : (b : Board) (xs : List (Option Object)) (rows new : List (Kept AdjacencyRecord)) (o : ℕ) → Gives rows new o → AreRecords b xs rows → AreRecords b xs new
+records_given b xs rows new o g r = record {
+  adjacencies = λ z k e. (let was = given_from rows new o g z k e in r.adjacencies z was.0 was.1);
+  other = λ z k e. (let was = given_from rows new o g z k e in r.other z was.0 was.1);
+  held = λ z k e. (let was = given_from rows new o g z k e in r.held z was.0 was.1);
+  words = λ z s k e lt. (let was = given_from rows new o g z k e in r.words z s was.0 was.1 lt ∙ ap (λ (c : AdjacencyRecord). record_word c s) was.2);
+}
+
+lowered_last : (e : Option (Kept AdjacencyRecord)) → users_in e ≡ 1 → lowered e ≡ None
+lowered_last None one = refl
+lowered_last (Some j) one = ap (λ (b : Bool). if b then None else Some (record { id = j.id; content = j.content; users = j.users - 1 })) (let t : (j.users == 1) ≡ true = ap (λ (n : ℕ). n == 1) one in t)
+
+pub given_last : (rows new : List (Kept AdjacencyRecord)) (o : ℕ) → Gives rows new o → users_of rows o ≡ 1 → kept_of new o ≡ None
+given_last rows new o g one = g.given ∙ lowered_last (kept_of rows o) one
+
+-- one more user of a record that is kept
+pub records_shared : (b : Board) (xs : List (Option Object)) (rows new : List (Kept AdjacencyRecord)) (r : AdjacencyRecord) (o : ℕ) → Takes rows new r o → IsKeptAs rows r o → AreRecords b xs rows → AreRecords b xs new
+records_shared b xs rows new r o t was ok = record {
+  adjacencies = λ z k e. (let j = before z k e in ok.adjacencies z j.0 j.1);
+  other = λ z k e. (let j = before z k e in ok.other z j.0 j.1);
+  held = λ z k e. (let j = before z k e in ok.held z j.0 j.1);
+  words = λ z s k e lt. (let j = before z k e in ok.words z s j.0 j.1 lt ∙ ap (λ (c : AdjacencyRecord). record_word c s) j.2);
+}
+  where
+    before : (z : ℕ) (k : Kept AdjacencyRecord) → kept_of new z ≡ Some k → (j : Kept AdjacencyRecord) × (kept_of rows z ≡ Some j) × (j.content ≡ k.content)
+    before z k e = elim (cases_eq z o) [
+      | inl same ↦ (let taken : Some k ≡ Some (record { id = o; content = r; users = users_of rows o + 1 }) = sym e ∙ (ap (λ (q : ℕ). kept_of new q) same ∙ t.taken) in
+          let one : k ≡ record { id = o; content = r; users = users_of rows o + 1 } = cc in
+          (was.0, ap (λ (q : ℕ). kept_of rows q) same ∙ was.1, was.2 ∙ ap (λ (q : Kept AdjacencyRecord). q.content) (sym one)))
+      | inr ne ↦ (k, sym (t.others z ne) ∙ e, refl)
+    ]

@@ -60,6 +60,7 @@ module _ (b : Board) (u : Kept) (xs : List (Option Object)) (rows : List (intern
     taken_records : AreRecords b (set xs o (as_new kind)) rows
     taken_records = record {
       adjacencies = λ z k e. (let a = p.records.adjacencies z k e in record { count = a.count; taken = taken_else z (not_free z k e) ∙ a.taken; live = a.live });
+      other = p.records.other;
       held = λ z k e. (let h = p.records.held z k e in let c : count_of (set xs o (as_new kind)) z ≡ count_of xs z = ap count_in (taken_else z (not_free z k e)) in omega arith);
       words = p.records.words;
     }
@@ -223,7 +224,7 @@ moved_rest b c u xs rows ds room same p = subst (λ (q : Board). IsAtRest q u xs
   none = p.none;
   calm = p.calm;
   roomy = p.roomy;
-  records = record { adjacencies = p.records.adjacencies; held = p.records.held; words = p.records.words };
+  records = record { adjacencies = p.records.adjacencies; other = p.records.other; held = p.records.held; words = p.records.words };
 })
 
 pub begun_rest : (b c : Board) (next : Tables) (u : Kept) (xs : List (Option Object)) (rows : List (interned.Kept AdjacencyRecord)) (ds : List ℕ) (room : ℕ) → c ≡ board_begun b next → IsAtRest b u xs rows ds room → IsAtRest c u xs rows ds room

@@ -29,6 +29,7 @@ record_word r (suc (suc (suc s))) = words.Drop
 -- each record that is kept has an object of its own, which is held and holds the record's words
 pub record AreRecords (b : Board) (objects : List (Option Object)) (rows : List (Kept AdjacencyRecord)) : Type 0 where
   pub adjacencies : AreAdjacencies rows objects
+  pub other : (o : ℕ) (k : Kept AdjacencyRecord) → kept_of rows o ≡ Some k → o ≢ 0
   pub held : (o : ℕ) (k : Kept AdjacencyRecord) → kept_of rows o ≡ Some k → IsHeld b objects o
   pub words : (o s : ℕ) (k : Kept AdjacencyRecord) → kept_of rows o ≡ Some k → s < 16
       → word_in b (16 * o + s) ≡ record_word k.content s

@@ -1,11 +1,12 @@
 // A board that counts its stores.
-ghost use Rattle.std.specs.Prelude.{ℕ, slice_index, ◌%◌, ◌*◌, ◌+◌, ◌<◌, ◌^◌, ◌≡◌};
+ghost use Rattle.std.specs.Prelude.{IsTrue, ℕ, slice_index, ◌%◌, ◌*◌, ◌+◌, ◌<◌, ◌^◌, ◌↔◌, ◌≡◌};
 ghost use Rattle.fib_lawful.specs.State.{left_of};
 ghost use Rattle.fib_board.specs.Boards.{board_begun, board_scanned, board_settled, board_stored, word_in};
+ghost use Rattle.fib_board.specs.Crews.{IsOut, MaySend, board_joined, board_sent, new_seat};
 ghost use Rattle.fib_board.specs.May.{MayBegin, MaySettle, MayStore};
 ghost use Rattle.fib_board.specs.Told.{IsBoard};
 
-use fib_board::Board;
+use fib_board::{Board, Crew};
 use fib_core::{Version, Word};
 use fib_resolve::Tables;
 use std::marker::Model;
@@ -116,5 +117,36 @@ impl<B: Board> Counted<B> {
         ensures { self.new ≡ board_scanned worker result self.old }
     {
         self.board.scan(worker)
+    }
+}
+
+impl<B: Crew> Counted<B> {
+    pub(crate) fn worker(&mut self, number: u32) -> B::Seat
+        requires { MaySend self.old number }
+        ensures board { self.new ≡ board_sent self.old number }
+        ensures seat { B.seated result ≡ new_seat self.old number }
+    {
+        self.board.worker(number)
+    }
+
+    pub(crate) fn home(&mut self, seat: B::Seat)
+        requires { (B.seated seat).id ≡ self.old.id }
+        ensures { self.new ≡ board_joined self.old (B.seated seat).worker }
+    {
+        self.board.home(seat)
+    }
+
+    pub(crate) fn note(&mut self) -> B::Note
+        ensures board { self.new ≡ self.old }
+        ensures note { B.noted result ≡ record { id = self.old.id; version = self.old.log.version } }
+    {
+        self.board.note()
+    }
+
+    pub(crate) fn is_out(&self, number: u32) -> bool
+        requires { number < self.now.workers }
+        ensures { IsTrue result ↔ IsOut self.now number }
+    {
+        self.board.is_out(number)
     }
 }

@@ -6,8 +6,10 @@
 #![tactic(auto)]
 
 mod counted;
+mod crew;
 mod plane;
 mod put;
+mod records;
 mod replace;
 mod scan;
 mod sweep;

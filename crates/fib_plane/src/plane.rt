@@ -1,22 +1,25 @@
 // A board with the pool of its objects, the adjacency records and the union of its edges.
-ghost use Rattle.std.specs.Prelude.{IfNone, IfOk, IfSome, None, OnOk, Some, length, slice_index, ℕ, [], ◌%◌, ◌*◌, ◌+◌, ◌-◌, ◌<◌, ◌^◌, ◌≡◌, ◌≢◌, ◌≤◌};
+ghost use Rattle.std.specs.Prelude.{IfNone, IfOk, IfSome, IsSome, None, OnErr, OnOk, Some, option_map, length, slice_index, ℕ, [], ◌%◌, ◌*◌, ◌+◌, ◌-◌, ◌<◌, ◌^◌, ◌≡◌, ◌≢◌, ◌≤◌};
 ghost use Rattle.fib_interned.specs.Interned.{kept_of};
 ghost use Rattle.fib_reach.specs.Walks.{IsAcyclic};
 ghost use Rattle.fib_union.specs.Unions.{Edge};
 ghost use Rattle.fib_pool.specs.Objects.{IsLive, IsTaken, free_in, fresh_objects};
+ghost use Rattle.fib_pool.specs.Records.{IsNew, IsUsedLess, adjacency};
 ghost use Rattle.fib_lawful.specs.State.{left_of};
 ghost use Rattle.fib_board.specs.Boards.{HasNoPly, IsFresh, board_begun, board_settled, edge_of, union_of, word_in};
 ghost use Rattle.fib_board.specs.May.{Allows, MayBegin, MaySettle, Serves};
 ghost use Rattle.fib_plane.specs.Planes.{Holds, IsHeld, IsScanned, IsSwept, leads_from, released};
 ghost use Rattle.fib_plane.specs.Puts.{IsPut, MayPut, left_by};
+ghost use Rattle.fib_plane.specs.Records.{GaveRecord, TookRecord, given_objects};
 ghost use Rattle.fib_plane.specs.Sound.{IsPlane};
 
 use crate::counted::{Cell, Counted};
 use crate::put::Put;
-use crate::{replace, scan, sweep};
+use crate::{records, replace, scan, sweep};
+use fib_addr::{Addr, Mac};
 use fib_board::Board;
 use fib_core::{Version, Word};
-use fib_pool::{AdjTable, Kind, Pool};
+use fib_pool::{AdjTable, AdjacencyRecord, Kind, Pool};
 use fib_resolve::Tables;
 use fib_union::Union;
 use std::alloc::{AllocError, Global};
@@ -201,6 +204,73 @@ impl<B: Board> Plane<B> {
             &mut self.pool,
             &mut self.dying,
         );
+    }
+
+    /// One user more of the adjacency record with these contents. Where an equal one is kept, that is its object; else a free object is taken
+    /// for it, whose cells get its words. None exactly where no equal record is kept and no object is free. After want of memory, and after
+    /// None, all is as before.
+    pub fn take_adj(
+        &mut self,
+        interface: u32,
+        next_hop: Addr,
+        mac: Option<Mac>,
+    ) -> Result<Option<u32>, AllocError>
+        requires few { IsUsedLess self.old.records (adjacency interface next_hop mac) (2 ^ 32 - 1) }
+        requires allowed { Allows self.old.board }
+        requires serves { Serves self.old.board (Holds self.old) }
+        ensures took { IfOk result (λ o. IfSome o (λ x. TookRecord self.old self.new (adjacency interface next_hop mac) x)) }
+        ensures none { IfOk result (λ o. IfNone o (IsNew self.old.records (adjacency interface next_hop mac) × (free_in self.old.objects ≡ 0))) }
+        ensures same { IfOk result (λ o. IfNone o (self.new ≡ self.old)) }
+        ensures err { OnErr result (self.new ≡ self.old) }
+        ensures serves { Serves self.new.board (Holds self.new) }
+    {
+        let found = self
+            .table
+            .take_adj(&mut self.pool, interface, next_hop, mac)?;
+        let taken = match found {
+            Some(taken) => taken,
+            None => return Ok(None),
+        };
+        if taken.fresh {
+            let record = self.table.record(taken.object);
+            records::fill(
+                &mut self.board,
+                &mut self.union,
+                &self.pool,
+                taken.object,
+                &record,
+            );
+            return Ok(Some(taken.object));
+        }
+        Ok(Some(taken.object))
+    }
+
+    /// One user less of the adjacency record of an object. With its last user it is forgotten, and its object is let go.
+    pub fn give_adj(&mut self, object: u32)
+        requires kept { IsSome (kept_of self.old.records object) }
+        requires allowed { Allows self.old.board }
+        requires serves { Serves self.old.board (IsHeld self.old.board (given_objects self.old object)) }
+        ensures gave { GaveRecord self.old self.new object }
+        ensures serves { Serves self.new.board (Holds self.new) }
+    {
+        if !self.table.give_adj(object) {
+            return;
+        }
+        sweep::drop_edge(&mut self.pool, &mut self.dying, Some(object));
+        sweep::sweep(
+            &mut self.board,
+            &mut self.union,
+            &mut self.pool,
+            &mut self.dying,
+        );
+    }
+
+    /// The record of an object of which one is kept.
+    pub fn record(&self, object: u32) -> AdjacencyRecord
+        requires { IsSome (kept_of self.now.records object) }
+        ensures { option_map (λ k. k.content) (kept_of self.now.records object) ≡ Some result }
+    {
+        self.table.record(object)
     }
 
     /// Looks at each worker's pass word: copies that are passed for all leave, and what that frees is cleared and given back. Answers how

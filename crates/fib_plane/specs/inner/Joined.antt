@@ -7,8 +7,9 @@ use Rattle.fib_union.specs.Unions.{owner, Edge, into, times}
 use Rattle.fib_core.specs.declared.word.Word.TheVariants as words
 use Rattle.fib_pool.specs.declared.object.Object.{Object}
 use Rattle.fib_pool.specs.declared.object.AdjacencyRecord.{AdjacencyRecord}
-use Rattle.fib_pool.specs.Objects.{at, count_of, IsDying}
+use Rattle.fib_pool.specs.Objects.{at, count_of, IsLive, IsDying}
 use Rattle.fib_board.specs.Boards.{Board, union_of, word_in}
+use Rattle.fib_board.specs.May.{Allows, Serves}
 use Rattle.fib_plane.specs.Planes.{IsHeld}
 use Rattle.fib_plane.specs.Sound.{IsCounted, AreRecords}
 
@@ -57,3 +58,17 @@ pub record IsDropped (left : List ℕ) (xs ys : List (Option Object)) : Type 0 w
   pub counts : (o : ℕ) → count_of ys o + times o left ≡ count_of xs o
   pub none : (o : ℕ) → at ys o ≡ None → at xs o ≡ None
   pub kinds : (o : ℕ) (y : Object) → at ys o ≡ Some y → (x : Object) × (at xs o ≡ Some x) × (x.kind ≡ y.kind)
+
+-- what is held, but for this object
+abbrev pub HoldsBut : Board → List (Option Object) → ℕ → ℕ → Type 0
+HoldsBut b objects x o = IsHeld b objects o × (o ≢ x)
+
+-- the object was just taken: no edge leads there, and steady traffic doesn't rest on it
+pub record IsIdle (b : Board) (u : edges.Kept) (objects : List (Option Object)) (x : ℕ) : Type 0 where
+  pub joined : IsJoined b u objects
+  pub acyclic : IsAcyclic (Edge (union_of b))
+  pub live : IsLive objects x
+  pub other : x ≢ 0
+  pub alone : into (union_of b) x ≡ 0
+  pub allowed : Allows b
+  pub serves : Serves b (HoldsBut b objects x)
