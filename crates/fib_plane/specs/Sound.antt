@@ -1,5 +1,5 @@
 -- What holds of every plane between two calls.
-use Rattle.std.specs.Prelude.{◌≡◌, ℕ, zero, suc, ◌+◌, ◌*◌, ◌<◌, ◌≤◌, List, Option, Some, None, length}
+use Rattle.std.specs.Prelude.{◌≡◌, ◌≢◌, ℕ, zero, suc, ◌+◌, ◌*◌, ◌<◌, ◌≤◌, List, Option, Some, None, length}
 use Rattle.fib_interned.specs.Interned.{Kept, kept_of, AreInterned}
 use Rattle.fib_reach.specs.Walks.{IsAcyclic}
 use Rattle.fib_union.specs.Unions.{owner, Edge, into}

@@ -31,7 +31,7 @@ use std::marker::Model;
 /// object of an adjacency record. One that is counted no more is cleared and given back in the call that took its last count.
 #[derive(Drop)]
 pub struct Plane<B: Board> {
-    board: Counted<B>,
+    pub(crate) board: Counted<B>,
     union: Union,
     pool: Pool,
     table: AdjTable,

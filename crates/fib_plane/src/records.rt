@@ -4,6 +4,7 @@ ghost use Rattle.fib_reach.specs.Walks.{IsAcyclic};
 ghost use Rattle.fib_union.specs.Unions.{Edge, into};
 ghost use Rattle.fib_core.specs.declared.word.Word.TheVariants as words;
 ghost use Rattle.fib_core.specs.StandsFor.{mac_word};
+ghost use Rattle.fib_core.specs.Words.{IsRoomy};
 ghost use Rattle.fib_pool.specs.Objects.{IsLive};
 ghost use Rattle.fib_board.specs.Boards.{board_stored, union_of, word_in};
 ghost use Rattle.fib_board.specs.May.{Allows, Serves};
@@ -57,20 +58,23 @@ pub(crate) fn fill<B: Board>(
     union: &mut Union,
     pool: &Pool,
     object: u32,
-    record: &AdjacencyRecord,
+    kept: &AdjacencyRecord,
 )
-    requires mac { IfSome record.now.mac (λ m. m < 2 ^ 48) }
+    requires mac { IfSome kept.now.mac (λ m. m < 2 ^ 48) }
     requires idle { IsIdle board.old union.old pool.now object }
     requires empty { (s : ℕ) → s < 16 → word_in board.old (16 * object + s) ≡ words.Drop }
-    ensures board { board.new ≡ board_filled board.old object record.now }
+    ensures board { board.new ≡ board_filled board.old object kept.now }
     ensures idle { IsIdle board.new union.new pool.now object }
     ensures counts { (z : ℕ) → into (union_of board.new) z ≡ into (union_of board.old) z }
+    ensures interface { kept.now.interface < 2 ^ 32 }
+    ensures next_hop { kept.now.next_hop < 2 ^ 32 }
+    ensures words { IsRoomy (mac_word kept.now.mac) }
     ensures spare { union.old.spare ≤ union.new.spare }
 {
-    let interface = record.interface as u64;
+    let interface = kept.interface as u64;
     store_number(board, union, pool, Cell { object, slot: 0 }, interface);
-    let next_hop = record.next_hop.bits() as u64;
+    let next_hop = kept.next_hop.0 as u64;
     store_number(board, union, pool, Cell { object, slot: 1 }, next_hop);
-    let mac = mac_number(record.mac);
+    let mac = mac_number(kept.mac);
     store_number(board, union, pool, Cell { object, slot: 2 }, mac);
 }
