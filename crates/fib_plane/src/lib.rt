@@ -7,6 +7,7 @@
 
 mod counted;
 mod crew;
+mod passes;
 mod plane;
 mod put;
 mod records;
