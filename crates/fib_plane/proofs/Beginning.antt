@@ -31,14 +31,14 @@ free_at n k = elim (cases_lt k n) [
   | inr ge ↦ get_or_past (replicate n None) k None (let l : length (replicate {A = Option Object} n None) ≡ n = length-replicate n None in omega arith)
 ]
 
-map_zero : (n : ℕ) → map edge_in (replicate n 0) ≡ replicate n None
+pub map_zero : (n : ℕ) → map edge_in (replicate n 0) ≡ replicate n None
 map_zero zero = refl
 map_zero (suc n) = ap (λ (e : Option ℕ). e ∷ map edge_in (replicate n 0)) (edge_at_drop 0 decoded-zero) ∙ ap (λ (l : List (Option ℕ)). None ∷ l) (map_zero n)
 
 pub fresh_edges : (b : Board) → IsFresh b → union_of b ≡ no_edges b.objects
 fresh_edges b f = ap union_of f.fresh ∙ ap (λ (es : List (Option ℕ)). record { edges = es; retired = [] }) (map_zero (16 * b.objects))
 
-no_goes : (n k y : ℕ) → Goes (no_edges n) k y → ⊥
+pub no_goes : (n k y : ℕ) → Goes (no_edges n) k y → ⊥
 no_goes n k y (inl e) = some_none y (sym (none_at (16 * n) k) ∙ e)
 no_goes n k y (inr q) = absurd (let lt = q.1.1 in let bad : ⊥ = omega arith in bad)
 
@@ -55,7 +55,7 @@ module _ (b : Board) (f : IsFresh b) (few : b.objects < 4294967296) where
   else_at : (z : ℕ) → z ≢ 0 → at (fresh_objects b.objects) z ≡ None
   else_at z ne = get_or-set_other (replicate b.objects None) 0 z (as_new kinds.Ply) None ne ∙ free_at b.objects z
 
-  no_edge : (o : ℕ) → into (union_of b) o ≡ 0
+  pub no_edge : (o : ℕ) → into (union_of b) o ≡ 0
   no_edge o = ap (λ (u : Union). into u o) (fresh_edges b f) ∙ no_into b.objects o
 
   pub fresh_plane : (u : Kept) (room : ℕ) → u.union ≡ no_edges b.objects → u.workers ≡ b.workers → u.left ≡ [] → b.objects ≤ room → IsAtRest b u (fresh_objects b.objects) [] [] room

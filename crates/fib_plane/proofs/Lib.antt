@@ -8,3 +8,5 @@ mod Scanning
 mod Holding
 mod Recording
 mod Filling
+mod Firsts
+mod Trying

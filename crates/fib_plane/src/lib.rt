@@ -7,6 +7,7 @@
 
 mod counted;
 mod crew;
+pub mod laws;
 mod passes;
 mod plane;
 mod put;
@@ -17,3 +18,6 @@ mod sweep;
 
 pub use plane::Plane;
 pub use put::Put;
+
+#[cfg(test)]
+mod tests;
