@@ -1,0 +1,4 @@
+pub mod Boards
+pub mod May
+pub mod Told
+pub mod Crews

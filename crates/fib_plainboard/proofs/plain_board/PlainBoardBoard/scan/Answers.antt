@@ -1,0 +1,12 @@
+use Rattle.std.proofs.Common.{◌+◌, ◌<◌, sym, subst, arith}
+use Rattle.fib_board.specs.Boards.{Board}
+use Rattle.fib_plainboard.proofs.Calls as calls
+use Rattle.fib_plainboard.proofs.plain_board.PlainBoardBoard.scan.Goals as goal
+
+pub invariant_of-self : goal.invariant_of-self
+invariant_of-self c =
+    let lt : c.args.worker < c.self.inside.memory.workers = subst (λ (p : Board). c.args.worker < p.workers) (sym c.self.view_is) c.requires in
+    let eight = c.self.invariant.0.limits.eight in
+    let room = calls.in_words c.self.inside.words.items c.self.inside.memory c.self.invariant.0 c.self.inside.objects c.self.inside.workers c.self.inside.passes c.self.invariant.1 (c.args.worker + 1) (omega arith) in
+    calls.looked c.self.inside.words.items c.self.inside.memory c.self.invariant.0 c.self.inside.objects c.self.inside.workers c.self.inside.passes c.self.invariant.1
+    c.args.worker c.index-word.result.now c.look.new.self (calls.found c.self.inside.words.items (c.args.worker + 1) c.index-word.result.now c.index-word.ensures room) c.look.ensures

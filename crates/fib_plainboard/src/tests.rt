@@ -1,0 +1,39 @@
+// Each public call.
+use super::*;
+use fib_addr::Addr;
+use fib_board::Board;
+use fib_core::{Record, Version, Word};
+use fib_resolve::End;
+use std::test::Fail;
+
+#[test]
+fn a_pass_on_a_fresh_board(rt: HostRuntime) -> Result<(), Fail> {
+    let mut board = PlainBoard::new(rt.alloc(), 64, 2)?;
+    board.tells();
+    assert_eq!(rt; board.objects(), 64);
+    assert_eq!(rt; board.workers(), 2);
+    assert_eq!(rt; board.version(), Version::settled_at(0));
+    assert_eq!(rt; board.load(63, 15), Word::Drop);
+    assert_eq!(rt; board.passes_left(1), 9_223_372_036_854_775_807);
+    assert!(rt; !board.running(1));
+    board.begin(1, Addr(7), 9);
+    assert!(rt; board.running(1));
+    assert_eq!(rt; board.scan(1), 1);
+    let end = board.hop(1).ok_or("an edge")?;
+    assert_eq!(rt; end, End::Drop);
+    let record = board.end(1);
+    assert_eq!(rt;
+        record,
+        Record {
+            addr: Addr(7),
+            hash: 9,
+            lo: Version::settled_at(0),
+            hi: Version::settled_at(0),
+            end: End::Drop
+        }
+    );
+    assert!(rt; !board.running(1));
+    assert_eq!(rt; board.scan(1), 2);
+    assert_eq!(rt; board.passes_left(1), 9_223_372_036_854_775_806);
+    Ok(())
+}

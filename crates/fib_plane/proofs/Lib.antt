@@ -1,0 +1,12 @@
+mod Boarding
+mod Clearing
+mod Sweeping
+mod Storing
+mod Resting
+mod Beginning
+mod Scanning
+mod Holding
+mod Recording
+mod Filling
+mod Firsts
+mod Trying

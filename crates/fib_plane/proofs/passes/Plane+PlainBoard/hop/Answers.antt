@@ -1,0 +1,14 @@
+use Rattle.std.proofs.Common.{refl, sym, subst, vec_capacity}
+use Rattle.fib_board.specs.Boards.{Board}
+use Rattle.fib_plane.specs.inner.Joined.{IsAtRest}
+use Rattle.fib_plane.proofs.Resting.{moved_rest}
+use Rattle.fib_plane.proofs.passes.Plane+PlainBoard.hop.Goals as goal
+
+pub invariant_of-self : goal.invariant_of-self
+invariant_of-self c =
+    let u = c.self.inside.union in
+    let xs = c.self.inside.pool in
+    let rows = c.self.inside.table in
+    let ds = c.self.inside.dying.items in
+    let size = vec_capacity c.self.inside.dying in
+    subst (λ (q : Board). IsAtRest q u xs rows ds size) (sym c.hop.ensures.pass) (moved_rest c.self.inside.board _ u xs rows ds size refl c.self.invariant)

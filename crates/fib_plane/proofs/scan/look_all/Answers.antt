@@ -1,0 +1,35 @@
+use Rattle.std.proofs.Common.{arith, ◌++◌, ◌∷◌, [], ◌∙◌, ap}
+use Rattle.std.proofs.lemmas.List.{length_push}
+use Rattle.fib_board.specs.Boards.{Board}
+use Rattle.fib_plane.proofs.Scanning.{look_loose, look_counts, scans_workers, scans_more}
+use Rattle.fib_plane.proofs.scan.look_all.Goals as goal
+
+pub scan-word-requires : goal.scan-word-requires
+scan-word-requires g c =
+    let i = c.loop-worker.invariant in
+    let e = ap (λ (q : Board). q.workers) i.scans ∙ scans_workers 0 i.words c.args.board.now in
+    omega (arith, e, c.workers-worker-end.ensures, c.loop-worker-test.true)
+
+pub look-requires : goal.look-requires
+look-requires g c =
+    let i = c.loop-worker.invariant in
+    let e = ap (λ (q : Board). q.workers) i.scans ∙ scans_workers 0 i.words c.args.board.now in
+    omega (arith, e, i.loose.workers, c.workers-worker-end.ensures, c.loop-worker-test.true)
+
+pub loop-worker-preserved : goal.loop-worker-preserved
+loop-worker-preserved g c =
+    let i = c.loop-worker.invariant in
+    let b = c.args.board.now in
+    let m = c.loop-worker.board in
+    let n = c.scan-word.new.self in
+    let u = c.loop-worker.union in
+    let v = c.look.new.self in
+    let e = c.look.ensures in
+    record {
+      loose = look_loose m n u v c.args.pool.now c.loop-worker.worker c.scan-word.result i.loose c.scan-word.ensures e.union e.left e.workers;
+      words = i.words ++ c.scan-word.result ∷ [];
+      each = (let l = length_push i.words c.scan-word.result in omega (arith, l, i.each));
+      scans = scans_more i.words c.scan-word.result c.loop-worker.worker b m n i.each i.scans c.scan-word.ensures;
+      counts = λ o. look_counts m n u v c.loop-worker.worker c.scan-word.result o i.loose.same c.scan-word.ensures e.left ∙ i.counts o;
+      spare = omega (arith, i.spare, e.spare);
+    }

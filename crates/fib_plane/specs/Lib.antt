@@ -1,0 +1,5 @@
+pub mod Planes
+pub mod Puts
+pub mod Sound
+pub mod Records
+pub mod inner

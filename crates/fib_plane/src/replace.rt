@@ -1,0 +1,103 @@
+// A store of the plane.
+ghost use Rattle.std.specs.Prelude.{IsTrue, None, Some, length, vec_capacity, ℕ, [], ◌*◌, ◌+◌, ◌-◌, ◌<◌, ◌^◌, ◌↔◌, ◌≡◌, ◌≤◌};
+ghost use Rattle.fib_reach.specs.Walks.{IsAcyclic, Leads};
+ghost use Rattle.fib_union.specs.Unions.{Edge, left_at_once};
+ghost use Rattle.fib_core.specs.Words.{IsRoomy};
+ghost use Rattle.fib_pool.specs.Objects.{IsLive, count_of};
+ghost use Rattle.fib_board.specs.Boards.{board_stored, edge_of, union_of};
+ghost use Rattle.fib_board.specs.May.{MayStore, Serves};
+ghost use Rattle.fib_plane.specs.Planes.{IsHeld, IsSwept, counted_more, leads_from, uncounted};
+ghost use Rattle.fib_plane.specs.inner.Joined.{AreDying, IsJoined};
+
+use crate::counted::{Cell, Counted};
+use crate::sweep;
+use fib_board::Board;
+use fib_core::Word;
+use fib_pool::Pool;
+use fib_union::Union;
+
+/// Where the word leads, if it is an edge.
+fn target(word: Word) -> Option<u32>
+    requires { IsRoomy word }
+    ensures { result ≡ edge_of word }
+{
+    match word {
+        Word::ToPly(object) => Some(object),
+        Word::ToBalance(object) => Some(object),
+        Word::ToAdjacency(object) => Some(object),
+        Word::Drop => None,
+        Word::Receive => None,
+        Word::Glean(_) => None,
+        Word::Plain(_) => None,
+    }
+}
+
+/// Stores a word, counts its edge, and clears what that frees.
+pub(crate) fn replace<B: Board>(
+    board: &mut Counted<B>,
+    union: &mut Union,
+    pool: &mut Pool,
+    dying: &mut Vec<u32>,
+    cell: Cell,
+    word: Word,
+)
+    requires slot { cell.slot < 16 }
+    requires joined { IsJoined board.old union.old pool.old }
+    requires none { AreDying pool.old [] }
+    requires empty { dying.old.items ≡ [] }
+    requires roomy { board.old.objects ≤ vec_capacity dying.old }
+    requires acyclic { IsAcyclic (Edge (union_of board.old)) }
+    requires word { IsRoomy word }
+    requires may { MayStore board.old (16 * cell.object + cell.slot) word }
+    requires serves { Serves (board_stored board.old (16 * cell.object + cell.slot) word) (IsHeld board.old pool.old) }
+    requires source { IsLive pool.old cell.object }
+    requires target { (y : ℕ) → edge_of word ≡ Some y → IsLive pool.old y }
+    requires spare { (y : ℕ) → leads_from board.old (16 * cell.object + cell.slot) ≡ Some y → 0 < union.old.spare }
+    ensures joined { IsJoined board.new union.new pool.new }
+    ensures none { AreDying pool.new [] }
+    ensures empty { dying.new.items ≡ [] }
+    ensures roomy { board.new.objects ≤ vec_capacity dying.new }
+    ensures acyclic { IsAcyclic (Edge (union_of board.new)) }
+    ensures serves { Serves board.new (IsHeld board.new pool.new) }
+    ensures swept { IsSwept (board_stored board.old (16 * cell.object + cell.slot) word) board.new (uncounted (left_at_once (union_of board.old) (16 * cell.object + cell.slot)) (counted_more (edge_of word) pool.old)) pool.new }
+    ensures spare { union.old.spare ≤ union.new.spare + 1 }
+{
+    board.store(cell, word);
+    let to = target(word);
+    count(pool, to);
+    let left = union.set(cell.object, cell.slot, to);
+    sweep::drop_edge(pool, dying, left);
+    sweep::sweep(board, union, pool, dying);
+}
+
+/// An edge came: its target is counted once more.
+fn count(pool: &mut Pool, to: Option<u32>)
+    requires live { (y : ℕ) → to ≡ Some y → IsLive pool.old y }
+    requires few { (y : ℕ) → to ≡ Some y → count_of pool.old y < 2 ^ 64 - 1 }
+    ensures { pool.new ≡ counted_more to pool.old }
+{
+    if let Some(target) = to {
+        pool.hold(target);
+    }
+}
+
+/// Whether the words are equal.
+pub(crate) fn same(one: Word, other: Word) -> bool
+    ensures { IsTrue result ↔ (one ≡ other) }
+{
+    one == other
+}
+
+/// Whether the word is an edge that would close a cycle.
+pub(crate) fn closes(union: &mut Union, object: u32, word: Word) -> bool
+    requires word { IsRoomy word }
+    requires source { 16 * object < length union.old.union.edges }
+    requires target { (y : ℕ) → edge_of word ≡ Some y → 16 * y < length union.old.union.edges }
+    ensures unchanged { union.new ≡ union.old }
+    ensures closes { IsTrue result ↔ (y : ℕ) × (edge_of word ≡ Some y) × Leads (Edge union.old.union) y object }
+{
+    let Some(to) = target(word) else {
+        return false;
+    };
+    union.would_cycle(object, to)
+}

@@ -1,0 +1,74 @@
+// Each public call, with ample memory, over a plain board.
+ghost use Rattle.std.specs.Prelude.{IfOk, [], ◌≡◌};
+ghost use Rattle.fib_pool.specs.Objects.{fresh_objects};
+ghost use Rattle.fib_plainboard.specs.Passes.{fresh_plain};
+
+use super::*;
+use fib_addr::Addr;
+use fib_core::{Version, Word};
+use fib_plainboard::PlainBoard;
+use fib_pool::Kind;
+use fib_resolve::End;
+use std::alloc::{AllocError, Global};
+use std::test::Fail;
+
+/// A plane over 64 objects and two workers.
+fn fresh(alloc: Global) -> Result<Plane<PlainBoard>, AllocError>
+    ensures board { IfOk result (λ p. p.board ≡ fresh_plain 64 2) }
+    ensures objects { IfOk result (λ p. p.objects ≡ fresh_objects 64) }
+    ensures records { IfOk result (λ p. p.records ≡ []) }
+{
+    let board = PlainBoard::new(alloc, 64, 2)?;
+    Plane::new(alloc, board)
+}
+
+#[test]
+fn each_law() {
+    laws::the_first_put_may_be_made();
+    laws::the_root_may_be_emptied();
+    laws::what_is_held_stays();
+}
+
+#[test]
+fn what_a_fresh_plane_has(rt: HostRuntime) -> Result<(), Fail> {
+    let mut plane = fresh(rt.alloc())?;
+    plane.tells();
+    plane.room(5)?;
+    assert!(rt; plane.spare() >= 5);
+    assert_eq!(rt; plane.word(63, 15), Word::Drop);
+    assert_eq!(rt; plane.used(), 1);
+    assert_eq!(rt; plane.free(), 63);
+    assert_eq!(rt; plane.stored(), 0);
+    assert_eq!(rt; plane.retired(), 0);
+    assert_eq!(rt; plane.version(), Version::settled_at(0));
+    assert_eq!(rt; plane.passes_left(1), 9_223_372_036_854_775_807);
+    assert_eq!(rt; plane.scan(), 0);
+    Ok(())
+}
+
+#[test]
+fn an_object_is_taken_and_let_go(rt: HostRuntime) -> Result<(), Fail> {
+    let mut plane = fresh(rt.alloc())?;
+    let object = plane.take(Kind::Balance).ok_or("no object")?;
+    assert_eq!(rt; object, 1);
+    assert_eq!(rt; plane.used(), 2);
+    plane.tells();
+    plane.let_go(object);
+    assert_eq!(rt; plane.used(), 1);
+    assert_eq!(rt; plane.stored(), 0);
+    Ok(())
+}
+
+#[test]
+fn a_pass_over_a_fresh_plane(rt: HostRuntime) -> Result<(), Fail> {
+    let mut plane = fresh(rt.alloc())?;
+    assert!(rt; !plane.running(1));
+    plane.begin(1, Addr(7), 9);
+    assert!(rt; plane.running(1));
+    let end = plane.hop(1).ok_or("an edge")?;
+    assert_eq!(rt; end, End::Drop);
+    let record = plane.end(1);
+    assert_eq!(rt; record.end, End::Drop);
+    assert_eq!(rt; record.addr, Addr(7));
+    Ok(())
+}
