@@ -5,3 +5,7 @@ pub mod Passing
 pub mod Hopping
 pub mod Ending
 pub mod Calls
+pub mod Filling
+pub mod Freshly
+pub mod Fills
+pub mod Changing
