@@ -1,0 +1,12 @@
+pub mod Blocks
+pub mod Walks
+pub mod Stores
+pub mod Cycles
+pub mod Promises
+pub mod Counts
+pub mod Fitting
+pub mod Paths
+pub mod Pushes
+pub mod Sprouts
+pub mod Grown
+pub mod Longest

@@ -1,0 +1,14 @@
+//! The prefix table: plies of sixteen cells by which a worker finds the balance of an address in at most eight loads.
+#![tactic(auto)]
+
+mod calls;
+mod growing;
+mod places;
+mod pushing;
+mod set;
+
+pub use calls::{let_go, put, take};
+pub use growing::{fill, grow, sprout};
+pub use places::{Leaf, Place, find, find_leaf};
+pub use pushing::{push, refresh};
+pub use set::Prefixes;
