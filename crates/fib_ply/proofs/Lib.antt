@@ -9,4 +9,5 @@ pub mod Paths
 pub mod Pushes
 pub mod Sprouts
 pub mod Grown
+pub mod Prunes
 pub mod Longest

@@ -4,11 +4,13 @@
 mod calls;
 mod growing;
 mod places;
+mod pruning;
 mod pushing;
 mod set;
 
 pub use calls::{let_go, put, take};
 pub use growing::{fill, grow, sprout};
 pub use places::{Leaf, Place, find, find_leaf};
+pub use pruning::{prune, unlink};
 pub use pushing::{push, refresh};
 pub use set::Prefixes;

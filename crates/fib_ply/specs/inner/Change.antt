@@ -233,6 +233,12 @@ pub record IsFreed (n m : Paths) (u v : View) (count : ℕ) : Type 0 where
   pub stored : v.stored + 16 * u.free ≤ count + u.stored + 16 * v.free
   pub more : u.stored ≤ v.stored
 
+-- what unlinking a ply does
+abbrev pub UnlinksTo : Look → ℕ → View → View → (ℕ × ℕ × ℕ × ℕ) → (ℕ × ℕ × ℕ × ℕ) → Type 0
+UnlinksTo look a u v l r =
+    (wants : Watch) (there : ℕ → ℕ → Bool) (n : Paths) → IsPruned wants look a there n u → IsEnd n u a l.0 l.1 l.2 l.3
+    → (after : ℕ → ℕ → Bool) × (m : Paths) × IsPruned wants look a after m v × IsEnd m v a r.0 r.1 r.2 r.3 × IsFreed n m u v 1
+
 -- what pruning does
 abbrev pub PrunesTo : Look → ℕ → View → View → ℕ → ℕ → ℕ → ℕ → ℕ → Type 0
 PrunesTo look a u v x c d s count =
