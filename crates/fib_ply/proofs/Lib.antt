@@ -10,4 +10,7 @@ pub mod Pushes
 pub mod Sprouts
 pub mod Grown
 pub mod Prunes
+pub mod Sets
+pub mod Adds
+pub mod Removes
 pub mod Longest

@@ -6,11 +6,15 @@ mod growing;
 mod places;
 mod pruning;
 mod pushing;
+mod rows;
 mod set;
+mod table;
 
 pub use calls::{let_go, put, take};
 pub use growing::{fill, grow, sprout};
 pub use places::{Leaf, Place, find, find_leaf};
 pub use pruning::{prune, unlink};
 pub use pushing::{push, refresh};
+pub use rows::{Row, Rows};
 pub use set::Prefixes;
+pub use table::{add, remove};

@@ -1,5 +1,5 @@
 // What the prefix table asks of its set of prefixes.
-ghost use Rattle.std.specs.Prelude.{◌≡◌, ℕ, ◌^◌, ◌<◌, ◌≤◌, ◌↔◌, IsTrue};
+ghost use Rattle.std.specs.Prelude.{◌≡◌, ℕ, ◌+◌, ◌*◌, ◌^◌, ◌<◌, ◌≤◌, ◌↔◌, None, IsTrue};
 ghost use Rattle.fib_serving.specs.Matches.{best_block};
 ghost use Rattle.fib_ply.specs.inner.Change.{added, removed};
 ghost use Rattle.fib_ply.specs.Prefixes.{Look, Needs};
@@ -21,6 +21,22 @@ pub trait Prefixes {
     /// Whether a prefix longer than four times the depth lies in that block of the depth.
     fn needs(&self, depth: u32, value: u32) -> bool
         requires depth { depth ≤ 7 }
-        requires value { value < 2 ^ 32 }
+        requires value { value < 2 ^ (4 * depth) }
         ensures { IsTrue result ↔ Needs (look self.now) depth value };
+
+    /// Takes a prefix in.
+    fn insert(&mut self, len: u32, top: u32, object: u32)
+        requires len { len ≤ 32 }
+        requires top { top < 2 ^ len }
+        requires absent { look self.old len top ≡ None }
+        requires room { 0 < room self.old }
+        ensures look { look self.new ≡ added (look self.old) len top object }
+        ensures room { room self.old ≤ room self.new + 1 };
+
+    /// Takes a prefix out.
+    fn remove(&mut self, len: u32, top: u32)
+        requires len { len ≤ 32 }
+        requires top { top < 2 ^ len }
+        ensures look { look self.new ≡ removed (look self.old) len top }
+        ensures room { room self.old ≤ room self.new };
 }

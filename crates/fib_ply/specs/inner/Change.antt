@@ -249,3 +249,32 @@ abbrev pub Prunes : Look → ℕ → View → View → ℕ → Type 0
 Prunes look a u v count =
     (wants : Watch) (there : ℕ → ℕ → Bool) (n : Paths) → IsPruned wants look a there n u
     → (after : ℕ → ℕ → Bool) × (m : Paths) × IsTable wants look after m v × IsFreed n m u v count
+
+-- a prefix may be added: the table stands for its set, both sets answer what is promised, and there is room for the stores
+abbrev pub CanAdd : Promise → Look → View → ℕ → ℕ → ℕ → Type 0
+CanAdd p look u len top o =
+    (wants : Watch) × (there : ℕ → ℕ → Bool) × (n : Paths) × IsTable wants look there n u × (wants.promise ≡ p)
+    × (16 * (length n.all + 7) ≤ u.spare) × IsPromised wants look (added look len top o)
+
+-- and removed
+abbrev pub CanRemove : Promise → Look → View → ℕ → ℕ → Type 0
+CanRemove p look u len top =
+    (wants : Watch) × (there : ℕ → ℕ → Bool) × (n : Paths) × IsTable wants look there n u × (wants.promise ≡ p)
+    × (16 * length n.all ≤ u.spare) × IsPromised wants look (removed look len top)
+
+-- the cells that were stored
+pub record IsStoredFew (n : Paths) (u v : View) : Type 0 where
+  pub more : u.stored ≤ v.stored
+  pub few : v.stored + 16 * u.free ≤ 16 * length n.all + 400 + u.stored + 16 * v.free
+
+-- the table stands for the other set afterwards, with so many plies more
+abbrev pub IsAdded : Promise → Look → Look → View → View → ℕ → Type 0
+IsAdded p old new u v count =
+    (wants : Watch) (there : ℕ → ℕ → Bool) (n : Paths) → IsTable wants old there n u → wants.promise ≡ p → IsPromised wants old new
+    → (after : ℕ → ℕ → Bool) × (m : Paths) × IsTable wants new after m v × (length m.all ≡ length n.all + count) × IsStoredFew n u v
+
+-- and with so many less
+abbrev pub IsRemoved : Promise → Look → Look → View → View → ℕ → Type 0
+IsRemoved p old new u v count =
+    (wants : Watch) (there : ℕ → ℕ → Bool) (n : Paths) → IsTable wants old there n u → wants.promise ≡ p → IsPromised wants old new
+    → (after : ℕ → ℕ → Bool) × (m : Paths) × IsTable wants new after m v × (length m.all + count ≡ length n.all) × IsStoredFew n u v
