@@ -1,16 +1,14 @@
 -- A prefix is added.
-use Rattle.std.proofs.Common.{◌≡◌, ℕ, zero, suc, ◌+◌, ◌*◌, ◌-◌, ◌/◌, ◌%◌, ◌^◌, ◌<◌, ◌≤◌, ◌⊎◌, inl, inr, ⊎_elim, Bool, true, false, true≢false, cond, eqb, eq-eqb, ne_eqb, ◌&&◌, not, Option, Some, None, refl, sym, ap, ◌∙◌, subst, arith}
-use Rattle.std.proofs.lemmas.Nat.{shr-shr, shl-shr, shl_whole, mul-le, pow-add, pow_pos}
+use Rattle.std.proofs.Common.{◌≡◌, ℕ, ◌+◌, ◌*◌, ◌-◌, ◌/◌, ◌%◌, ◌^◌, ◌<◌, ◌≤◌, ◌⊎◌, inl, inr, ⊎_elim, Bool, true, false, true≢false, eq-eqb, ne_eqb, ◌&&◌, not, Some, refl, sym, ap, ◌∙◌, subst, arith}
+use Rattle.std.proofs.lemmas.Nat.{shr-shr, shl-shr, shl_whole, mul-le, pow-add}
 use Rattle.std.proofs.Math.Nat.{mod-eq_of_lt}
 use native.Mathlib.Decide.{ℕ_discrete}
 use mathlib.Core.Logic.{dite}
 use Rattle.fib_joined.specs.Promise.{Promise}
 use Rattle.fib_joined.specs.View.{View, IsBalance}
-use Rattle.fib_ply.specs.Prefixes.{Look, IsAnswer, Needs}
-use Rattle.fib_ply.specs.inner.Change.{IsPaid, IsSpent, IsStoredFew, ahead, links, is_to_ply, end_of, Mixed, Has, IsAt, IsGrown, Grows, Agree, IsSound, added, IsPromised, IsTable, StandsFor, IsUnderWay}
+use Rattle.fib_ply.specs.Prefixes.{Look, Needs}
+use Rattle.fib_ply.specs.inner.Change.{IsPaid, IsSpent, IsStoredFew, ahead, links, is_to_ply, end_of, IsAt, IsGrown, Grows, Agree, IsSound, added, IsPromised, IsTable}
 use Rattle.fib_ply.specs.inner.Served.{Watch, Paths}
-use Rattle.fib_ply.specs.inner.View.{Frame}
-use Rattle.fib_serving.specs.Matches.{best_block}
 use Rattle.fib_steady.specs.Names.{IsBelow}
 use Rattle.fib_core.specs.declared.word.Word.TheVariants.{Drop}
 use Rattle.std.specs.Prelude.{nat_lt, length}
@@ -48,9 +46,9 @@ module _ (look : Look) (len top o : ℕ) where
   needs_is d w le h = ⊎_elim
       (λ (q : look (4 * d + h.0 + 1) h.1 ≡ Some h.2). inl (h.0, h.1, h.2, h.3, h.4, q))
       (λ (q : (4 * d + h.0 + 1 ≡ len) × (h.1 ≡ top) × (o ≡ h.2)).
-          let f : len - 4 * d ≡ h.0 + 1 = omega (arith, q.0) in
-          let g : 4 * d ≤ len = omega (arith, q.0) in
-          inr (omega (arith, q.0), block_of d g le ∙ ap (λ i. top / 2 ^ i) f ∙ ap (λ b. b / 2 ^ (h.0 + 1)) (sym q.1) ∙ h.4))
+      let f : len - 4 * d ≡ h.0 + 1 = omega (arith, q.0) in
+      let g : 4 * d ≤ len = omega (arith, q.0) in
+      inr (omega (arith, q.0), block_of d g le ∙ ap (λ i. top / 2 ^ i) f ∙ ap (λ b. b / 2 ^ (h.0 + 1)) (sym q.1) ∙ h.4))
       (added_is (4 * d + h.0 + 1) h.1 h.2 h.5)
 
   pub needs_new : (d w : ℕ) → len ≤ 32 → 4 * d + 1 ≤ len → IsBelow (top * 2 ^ (32 - len)) d w → Needs (added look len top o) d w
@@ -77,17 +75,20 @@ module _ (look : Look) (len top o : ℕ) where
 
     -- the stage at which the cells are pushed
     pub opened : (after : ℕ → ℕ → Bool) × (m : Paths) × IsAt wants after look (added look len top o) (top * 2 ^ (32 - len)) m v × ((e w : ℕ) → after (e + 1) w ≡ true → Needs (added look len top o) (e + 1) w) × IsPaid n m u v count
-    opened = let g = grown in (g.0, g.1,
-        begins wants g.0 look (added look len top o) len top added_else le g.1 v g.2
-            (λ d w h. ⊎_elim (λ (q : Needs look (d + 1) w). g.3.more (d + 1) w (table.at.wider d w q))
-                (λ (q : (4 * (d + 1) + 1 ≤ len) × (top * 2 ^ (32 - len) / 2 ^ (32 - 4 * (d + 1)) ≡ w)). subst (λ (i : ℕ). g.0 (d + 1) i ≡ true) q.1 (g.3.down d (omega (arith, q.0))))
-                (needs_is (d + 1) w le h))
-            promise
-            (sound_added wants v g.2.sound kind still some),
-        (λ e w h. ⊎_elim (λ (q : there (e + 1) w ≡ true). needs_still (e + 1) w (table.exact e w q))
-            (λ (q : (1 ≤ e + 1) × (e + 1 ≤ (len - 1) / 4) × IsBelow (top * 2 ^ (32 - len)) (e + 1) w). needs_new (e + 1) w le (omega (arith, q.1)) q.2)
-            (g.3.only (e + 1) w h)),
-        g.4)
+    opened = let g = grown in (
+      g.0,
+      g.1,
+      begins wants g.0 look (added look len top o) len top added_else le g.1 v g.2
+          (λ d w h. ⊎_elim (λ (q : Needs look (d + 1) w). g.3.more (d + 1) w (table.at.wider d w q))
+          (λ (q : (4 * (d + 1) + 1 ≤ len) × (top * 2 ^ (32 - len) / 2 ^ (32 - 4 * (d + 1)) ≡ w)). subst (λ (i : ℕ). g.0 (d + 1) i ≡ true) q.1 (g.3.down d (omega (arith, q.0))))
+          (needs_is (d + 1) w le h))
+          promise
+          (sound_added wants v g.2.sound kind still some),
+      (λ e w h. ⊎_elim (λ (q : there (e + 1) w ≡ true). needs_still (e + 1) w (table.exact e w q))
+          (λ (q : (1 ≤ e + 1) × (e + 1 ≤ (len - 1) / 4) × IsBelow (top * 2 ^ (32 - len)) (e + 1) w). needs_new (e + 1) w le (omega (arith, q.1)) q.2)
+          (g.3.only (e + 1) w h)),
+      g.4,
+    )
 
 -- the numbers do not wrap
 pub first_fits : (top len : ℕ) → len ≤ 32 → top < 2 ^ len → (top * 2 ^ (32 - len)) % 4294967296 ≡ top * 2 ^ (32 - len)
@@ -142,6 +143,13 @@ module _ (look other : Look) (len top o x to count : ℕ) (u v : View) (some : 1
           (closed wants stage.0 look (added look len top o) len top after.0 (added_else look len top o) le stage.1 w stage.3 (subst (λ (i : ℕ). i ≤ after.0) to_is after.1) (at_same wants stage.0 look other (added look len top o) after.0 after.0 stage.1 w (sym is) refl after.2))
 
       pub add_ends : (after : ℕ → ℕ → Bool) × (m : Paths) × IsTable wants other after m w × (length m.all ≡ length n.all + count) × IsStoredFew n u w
-      add_ends = (stage.0, stage.1, ended, stage.4.plies, record {
+      add_ends = (
+        stage.0,
+        stage.1,
+        ended,
+        stage.4.plies,
+        record {
           more = omega (arith, stage.4.more, after.3.more);
-          few = (let f = ahead_few stage.1 v x in omega (arith, f, few, stage.4.plies, stage.4.stored, after.3.stored)) })
+          few = (let f = ahead_few stage.1 v x in omega (arith, f, few, stage.4.plies, stage.4.stored, after.3.stored));
+        },
+      )

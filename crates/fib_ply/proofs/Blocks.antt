@@ -1,8 +1,8 @@
 -- Blocks of addresses, and the leaf pushing.
-use Rattle.std.proofs.Common.{◌≡◌, ℕ, zero, suc, ◌+◌, ◌*◌, ◌-◌, ◌/◌, ◌%◌, ◌^◌, ◌<◌, ◌≤◌, Option, Some, None, refl, sym, ap, ◌∙◌, subst, arith, add-zero, add-suc, add-one}
-use Rattle.std.proofs.lemmas.Nat.{shr-shr, field_of}
+use Rattle.std.proofs.Common.{◌≡◌, ℕ, zero, suc, ◌+◌, ◌*◌, ◌-◌, ◌/◌, ◌%◌, ◌^◌, ◌<◌, ◌≤◌, Option, Some, None, refl, sym, ap, ◌∙◌, subst, arith}
+use Rattle.std.proofs.lemmas.Nat.{shr-shr}
 use Rattle.std.proofs.Math.Nat.{div-one}
-use Rattle.fib_ply.specs.Prefixes.{Look, Needs, IsAnswer}
+use Rattle.fib_ply.specs.Prefixes.{Look, Needs}
 use Rattle.fib_serving.specs.Matches.{or_else, best_block}
 use Rattle.fib_steady.specs.Names.{IsBelow}
 

@@ -1,5 +1,5 @@
 -- Cells of plies are counted.
-use Rattle.std.proofs.Common.{arith, ◌≡◌, ◌≢◌, ℕ, zero, suc, ◌+◌, ◌*◌, ◌<◌, ◌≤◌, ◌⊎◌, inl, inr, Bool, true, false, true≢false, not, cond, eqb, eq-eqb, ne_eqb, List, [], ◌∷◌, length, refl, sym, ap, ◌∙◌, subst}
+use Rattle.std.proofs.Common.{arith, ◌≡◌, ◌≢◌, ℕ, zero, suc, ◌+◌, ◌*◌, ◌<◌, ◌≤◌, ◌⊎◌, inl, inr, Bool, true, false, true≢false, not, cond, eq-eqb, ne_eqb, List, [], ◌∷◌, length, refl, sym, ap, ◌∙◌, subst}
 use Rattle.std.specs.Prelude.{filter, ◌==◌}
 use Rattle.std.specs.List.{AllByRecursion}
 use native.Mathlib.Decide.{ℕ_discrete}
@@ -122,8 +122,8 @@ pub one_less : (c : ℕ) (xs : List ℕ) → IsOne xs c → AllDiffer xs → len
 one_less c [] one h = absurd one
 one_less c (x ∷ xs) one h = dite (ℕ_discrete x c)
     (λ e. let p : not (x == c) ≡ false = fails c x e in
-        let gone : filter (λ x. not (x == c)) xs ≡ xs = none_less c xs (λ other. each_one x xs h.0 (subst (IsOne xs) (sym e) other)) in
-        rw (p, gone) (omega arith))
+    let gone : filter (λ x. not (x == c)) xs ≡ xs = none_less c xs (λ other. each_one x xs h.0 (subst (IsOne xs) (sym e) other)) in
+    rw (p, gone) (omega arith))
     (λ ne. let p : not (x == c) ≡ true = passes c x ne in rw p (let r = one_less c xs (later ne one) h.1 in omega (arith, r)))
   where
     later : (x ≢ c) → (x ≡ c) ⊎ IsOne xs c → IsOne xs c

@@ -1,5 +1,5 @@
 -- An edge to a ply one nibble deeper, or to a balance, closes no cycle.
-use Rattle.std.proofs.Common.{◌≡◌, ℕ, zero, suc, ◌+◌, ◌*◌, ◌<◌, ◌≤◌, ◌⊎◌, inl, inr, ⊎_elim, Bool, true, false, true≢false, refl, sym, ap, ◌∙◌, subst, arith}
+use Rattle.std.proofs.Common.{◌≡◌, ℕ, zero, suc, ◌+◌, true, false, true≢false, sym, ap, ◌∙◌, subst, arith}
 use Rattle.fib_core.specs.declared.word.Word.TheVariants.{Drop, ToPly, ToBalance, Plain, Receive, Glean, ToAdjacency}
 use Rattle.fib_joined.specs.View.{View, Goes, Edge, Kinds, leads}
 use Rattle.fib_ply.specs.inner.Served.{Paths, IsChild, IsServed}

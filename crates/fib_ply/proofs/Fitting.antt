@@ -1,14 +1,14 @@
 -- What each store of a change keeps.
-use Rattle.std.proofs.Common.{◌≡◌, ℕ, zero, suc, ◌+◌, ◌*◌, ◌-◌, ◌/◌, ◌%◌, ◌^◌, ◌<◌, ◌≤◌, ◌⊎◌, inl, inr, ⊎_elim, Bool, true, false, true≢false, cond, eqb, eq-eqb, ne_eqb, Option, Some, None, refl, sym, ap, ◌∙◌, subst, arith}
+use Rattle.std.proofs.Common.{◌≡◌, ℕ, zero, suc, ◌+◌, ◌*◌, ◌-◌, ◌/◌, ◌%◌, ◌^◌, ◌<◌, ◌≤◌, ◌⊎◌, inl, inr, ⊎_elim, true, false, true≢false, cond, eqb, eq-eqb, ne_eqb, refl, sym, ap, ◌∙◌, subst, arith}
 use Rattle.std.proofs.lemmas.Nat.{shr-shr}
 use Rattle.std.proofs.lemmas.Bool.{cases_order}
 use native.Mathlib.Decide.{ℕ_discrete}
 use mathlib.Core.Logic.{dite}
 use Rattle.fib_core.specs.declared.word.Word.{Word}
 use Rattle.fib_core.specs.declared.word.Word.TheVariants.{Drop, ToPly, ToBalance, Plain, Receive, Glean, ToAdjacency}
-use Rattle.fib_joined.specs.View.{View, Goes, HasIn, IsLive, Kinds, IsTaken}
-use Rattle.fib_ply.specs.inner.Served.{Paths, IsChild, IsIn, IsRight, IsWalked, IsServed}
-use Rattle.fib_ply.specs.inner.Trie.{IsFilled, Fits, placed, listed}
+use Rattle.fib_joined.specs.View.{View}
+use Rattle.fib_ply.specs.inner.Served.{Paths, IsChild, IsIn, IsRight, IsServed}
+use Rattle.fib_ply.specs.inner.Trie.{IsFilled, Fits, listed}
 use Rattle.fib_ply.specs.inner.View.{IsSent}
 use Rattle.fib_steady.specs.Names.{IsBelow}
 use Rattle.fib_ply.proofs.Blocks.{below_up}
@@ -45,8 +45,10 @@ module _ (K N : ℕ → ℕ → Type 0) (n : Paths) (u : View) (fits : Fits K N 
     where
       at_x : IsBelow a (n.depth x) (n.value x)
       at_x = below_up a (n.depth x) (n.value x) s (fits.needed x is).0 lt inside.1
+
       at_y : IsBelow a (n.depth y) (n.value y)
       at_y = below_up a (n.depth y) (n.value y) t (fits.needed y is').0 lt' inside'.1
+
       at_one : n.depth x ≡ n.depth y → (y ≡ x) × (t ≡ s)
       at_one same =
           let v : n.value x ≡ n.value y = sym at_x ∙ ap (λ i. a / 2 ^ (32 - 4 * i)) same ∙ at_y in
@@ -77,8 +79,8 @@ module _ (W K L N : ℕ → ℕ → Type 0) (n : Paths) (u v : View) (x s o : �
     upward = fits.upward;
     cells = λ y t is' lt'. dite (ℕ_discrete y x)
         (λ same. dite (ℕ_discrete t s)
-            (λ same'. subst (λ (i : ℕ). IsFilled L N n i t (v.cell i t)) (sym same) (subst (λ (i : ℕ). IsFilled L N n x i (v.cell x i)) (sym same') (subst (λ (z : Word). IsFilled L N n x s z) (sym put.cell) (none, inside))))
-            (λ ne. kept y t is' lt' (λ _ e. ne e)))
+        (λ same'. subst (λ (i : ℕ). IsFilled L N n i t (v.cell i t)) (sym same) (subst (λ (i : ℕ). IsFilled L N n x i (v.cell x i)) (sym same') (subst (λ (z : Word). IsFilled L N n x s z) (sym put.cell) (none, inside))))
+        (λ ne. kept y t is' lt' (λ _ e. ne e)))
         (λ ne. kept y t is' lt' (λ e _. ne e));
   }
     where
@@ -125,10 +127,13 @@ module _ (W K N M : ℕ → ℕ → Type 0) (n : Paths) (u v : View) (x s o c : 
 
   linked_cell : (y t : ℕ) → n.is_in y ≡ true → t < 16 → (y ≡ x → t ≡ s → ⊥) → (w : Word) → IsFilled K N n y t w → IsFilled K M (listed n c true) y t w
   linked_cell y t is' lt' apart (ToPly z) h = (in_more z h.0, h.1)
-  linked_cell y t is' lt' apart (ToBalance p) h = (λ m. ⊎_elim h.0 (λ (e : (n.depth y + 1 ≡ n.depth c) × (16 * n.value y + t ≡ n.value c)).
-      let d : n.depth y ≡ n.depth x = omega (arith, e.0, child.0) in
-      let f = split (n.value y) t (n.value x) s lt' lt (e.1 ∙ child.1) in
-      apart (fits.apart y x is' is d f.0) f.1) (only (n.depth y + 1) (16 * n.value y + t) m), h.1)
+  linked_cell y t is' lt' apart (ToBalance p) h = (
+    λ m. ⊎_elim h.0 (λ (e : (n.depth y + 1 ≡ n.depth c) × (16 * n.value y + t ≡ n.value c)).
+        let d : n.depth y ≡ n.depth x = omega (arith, e.0, child.0) in
+        let f = split (n.value y) t (n.value x) s lt' lt (e.1 ∙ child.1) in
+        apart (fits.apart y x is' is d f.0) f.1) (only (n.depth y + 1) (16 * n.value y + t) m),
+    h.1,
+  )
   linked_cell y t is' lt' apart Drop h = h
   linked_cell y t is' lt' apart (Plain d) h = h
   linked_cell y t is' lt' apart Receive h = h
@@ -155,17 +160,19 @@ module _ (W K N M : ℕ → ℕ → Type 0) (n : Paths) (u v : View) (x s o c : 
     upward = upward;
     cells = λ y t h lt'. ⊎_elim (λ (e : y ≡ c). subst (λ (i : ℕ). IsFilled K M (listed n c true) i t (v.cell i t)) (sym e) (subst (λ (z : Word). IsFilled K M (listed n c true) c t z) (sym (kept_c t ∙ filled t lt')) (new_cell t lt')))
         (λ (is' : n.is_in y ≡ true). dite (ℕ_discrete y x)
-            (λ same. dite (ℕ_discrete t s)
-                (λ same'. subst (λ (i : ℕ). IsFilled K M (listed n c true) i t (v.cell i t)) (sym same) (subst (λ (i : ℕ). IsFilled K M (listed n c true) x i (v.cell x i)) (sym same') (subst (λ (z : Word). IsFilled K M (listed n c true) x s z) (sym put.cell) (at_it c true n.is_in, child))))
-                (λ ne. kept y t is' lt' (λ _ e. ne e)))
-            (λ ne. kept y t is' lt' (λ e _. ne e)))
+        (λ same. dite (ℕ_discrete t s)
+        (λ same'. subst (λ (i : ℕ). IsFilled K M (listed n c true) i t (v.cell i t)) (sym same) (subst (λ (i : ℕ). IsFilled K M (listed n c true) x i (v.cell x i)) (sym same') (subst (λ (z : Word). IsFilled K M (listed n c true) x s z) (sym put.cell) (at_it c true n.is_in, child))))
+        (λ ne. kept y t is' lt' (λ _ e. ne e)))
+        (λ ne. kept y t is' lt' (λ e _. ne e)))
         (in_or y h);
   }
     where
       taken : (z : ℕ) → n.is_in z ≡ true → n.depth z ≡ n.depth c → n.value z ≡ n.value c → ⊥
       taken z is' d e = absent (⊎_elim (λ (q : z ≡ 0). absurd (let r : n.depth c ≡ 0 = sym d ∙ ap n.depth q ∙ fits.root.1 in omega (arith, child.0))) (λ (q : N (n.depth z) (n.value z)). subst (λ (i : ℕ). N i (n.value c)) d (subst (λ (i : ℕ). N (n.depth z) i) e q)) (fits.needed z is').1)
+
       kept_c : (t : ℕ) → v.cell c t ≡ u.cell c t
       kept_c t = put.others c t (λ e _. not_c x is (sym e)) (inr (inl (put.held c ∙ held)))
+
       kept : (y t : ℕ) → n.is_in y ≡ true → t < 16 → (y ≡ x → t ≡ s → ⊥) → IsFilled K M (listed n c true) y t (v.cell y t)
       kept y t is' lt' apart = subst (λ (z : Word). IsFilled K M (listed n c true) y t z) (sym (still K N n u v x s (ToPly c) fits put y t is' apart)) (linked_cell y t is' lt' apart (u.cell y t) (fits.cells y t is' lt'))
 
@@ -192,11 +199,14 @@ module _ (W K N M : ℕ → ℕ → Type 0) (n : Paths) (u v : View) (x s o c : 
   places w t w' t' p q e = (omega arith, omega arith)
 
   unlinked_cell : (y t : ℕ) → n.is_in y ≡ true → t < 16 → (y ≡ x → t ≡ s → ⊥) → (w : Word) → IsFilled K N n y t w → IsFilled K M (listed n c false) y t w
-  unlinked_cell y t is' lt' apart (ToPly z) h = (in_still z h.0 (λ e.
-      let r : IsChild n y t c = subst (λ (i : ℕ). IsChild n y t i) e h.1 in
-      let d : n.depth y ≡ n.depth x = omega (arith, r.0, was_child.1.0) in
-      let f = places (n.value y) t (n.value x) s lt' lt (sym r.1 ∙ was_child.1.1) in
-      apart (fits.apart y x is' is d f.0) f.1), h.1)
+  unlinked_cell y t is' lt' apart (ToPly z) h = (
+    in_still z h.0 (λ e.
+        let r : IsChild n y t c = subst (λ (i : ℕ). IsChild n y t i) e h.1 in
+        let d : n.depth y ≡ n.depth x = omega (arith, r.0, was_child.1.0) in
+        let f = places (n.value y) t (n.value x) s lt' lt (sym r.1 ∙ was_child.1.1) in
+        apart (fits.apart y x is' is d f.0) f.1),
+    h.1,
+  )
   unlinked_cell y t is' lt' apart (ToBalance p) h = (λ m. h.0 (less (n.depth y + 1) (16 * n.value y + t) m), h.1)
   unlinked_cell y t is' lt' apart Drop h = h
   unlinked_cell y t is' lt' apart (Plain d) h = h
@@ -221,13 +231,14 @@ module _ (W K N M : ℕ → ℕ → Type 0) (n : Paths) (u v : View) (x s o c : 
     upward = λ d w m. ⊎_elim (λ (q : M (d + 1) (w / 16)). q) (λ (e : (d + 1 ≡ n.depth c) × (w / 16 ≡ n.value c)). let f : d + 2 ≡ n.depth c + 1 = omega (arith, e.0) in absurd (childless w (subst (λ (i : ℕ). N i w) f (less (d + 2) w m)) e.1)) (only (d + 1) (w / 16) (fits.upward d w (less (d + 2) w m)));
     cells = λ y t h lt'. let i = in_less y h in dite (ℕ_discrete y x)
         (λ same. dite (ℕ_discrete t s)
-            (λ same'. subst (λ (j : ℕ). IsFilled K M (listed n c false) j t (v.cell j t)) (sym same) (subst (λ (j : ℕ). IsFilled K M (listed n c false) x j (v.cell x j)) (sym same') (subst (λ (z : Word). IsFilled K M (listed n c false) x s z) (sym put.cell) (here, inside))))
-            (λ ne. kept y t i.0 lt' (λ _ e. ne e)))
+        (λ same'. subst (λ (j : ℕ). IsFilled K M (listed n c false) j t (v.cell j t)) (sym same) (subst (λ (j : ℕ). IsFilled K M (listed n c false) x j (v.cell x j)) (sym same') (subst (λ (z : Word). IsFilled K M (listed n c false) x s z) (sym put.cell) (here, inside))))
+        (λ ne. kept y t i.0 lt' (λ _ e. ne e)))
         (λ ne. kept y t i.0 lt' (λ e _. ne e));
   }
     where
       here : M (n.depth x + 1) (16 * n.value x + s) → ⊥
       here m = gone (subst (λ (i : ℕ). M i (n.value c)) (sym was_child.1.0) (subst (λ (i : ℕ). M (n.depth x + 1) i) (sym was_child.1.1) m))
+
       kept : (y t : ℕ) → n.is_in y ≡ true → t < 16 → (y ≡ x → t ≡ s → ⊥) → IsFilled K M (listed n c false) y t (v.cell y t)
       kept y t is' lt' apart = subst (λ (z : Word). IsFilled K M (listed n c false) y t z) (sym (still K N n u v x s (ToBalance o) fits put y t is' apart)) (unlinked_cell y t is' lt' apart (u.cell y t) (fits.cells y t is' lt'))
 

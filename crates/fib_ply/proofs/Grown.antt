@@ -1,6 +1,5 @@
 -- Growing step by step.
-use Rattle.std.proofs.Common.{◌≡◌, ℕ, zero, suc, ◌+◌, ◌*◌, ◌-◌, ◌/◌, ◌%◌, ◌^◌, ◌<◌, ◌≤◌, ◌⊎◌, inl, inr, ⊎_elim, Bool, true, false, Option, refl, sym, ap, ◌∙◌, subst, arith}
-use Rattle.std.proofs.lemmas.Bool.{cases_lt}
+use Rattle.std.proofs.Common.{◌≡◌, ℕ, ◌+◌, ◌*◌, ◌-◌, ◌/◌, ◌^◌, ◌<◌, ◌≤◌, inl, inr, ⊎_elim, Bool, true, sym, ap, ◌∙◌, subst, arith}
 use native.Mathlib.Decide.{ℕ_discrete}
 use mathlib.Core.Logic.{dite}
 use Rattle.fib_joined.specs.Promise.{Promise}
@@ -8,22 +7,25 @@ use Rattle.fib_joined.specs.View.{View}
 use Rattle.fib_ply.specs.Prefixes.{Look}
 use Rattle.fib_ply.specs.inner.Change.{IsPaid, Mixed, Has, plus, IsAt, IsCellOf, IsGrown, GrowsTo, Grows, IsUnderWay, IsUnderWayAt}
 use Rattle.fib_ply.specs.inner.Served.{Watch, Paths}
-use Rattle.fib_ply.specs.inner.Trie.{Fits, IsTrie}
+use Rattle.fib_ply.specs.inner.Trie.{IsTrie}
 use Rattle.fib_steady.specs.Names.{IsBelow}
 use Rattle.fib_ply.proofs.Fitting.{place_above}
 use Rattle.fib_ply.proofs.Paths.{fits_trie}
-use Rattle.fib_ply.proofs.Pushes.{cell_at}
 use Rattle.fib_ply.proofs.Sprouts.{plus_more, plus_new, plus_only}
 
 -- at the start
 pub grown_none : (wants : Watch) (there : ℕ → ℕ → Bool) (old new : Look) (pos : ℕ) (n : Paths) (u : View) (a goal x d s : ℕ) → IsAt wants there old new pos n u → IsCellOf n u a x d s → IsGrown there there a goal d
-grown_none wants there old new pos n u a goal x d s at cell = record { more = λ e w h. h; only = λ e w h. inl h; down = λ e le.
-    let k : ℕ = d - (e + 1) in
-    let f : e + 1 + k ≡ n.depth x = omega (arith, cell.path.1) in
-    let le' : e + 1 + k ≤ 7 = omega (arith, cell.few.1) in
-    let here : there (n.depth x) (n.value x) ≡ true = ⊎_elim (λ (z : x ≡ 0). absurd (let q : n.depth x ≡ 0 = ap n.depth z ∙ at.fits.root.1 in omega arith)) (λ (h : there (n.depth x) (n.value x) ≡ true). h) (at.fits.needed x cell.path.0).1 in
-    let below : IsBelow a (n.depth x) (n.value x) = subst (λ (i : ℕ). IsBelow a i (n.value x)) (sym cell.path.1) cell.path.2 in
-    place_above (Has there) at.fits.upward a k e (n.value x) le' (subst (λ (i : ℕ). there i (n.value x) ≡ true) (sym f) here) (subst (λ (i : ℕ). IsBelow a i (n.value x)) (sym f) below) }
+grown_none wants there old new pos n u a goal x d s at cell = record {
+  more = λ e w h. h;
+  only = λ e w h. inl h;
+  down = λ e le.
+      let k : ℕ = d - (e + 1) in
+      let f : e + 1 + k ≡ n.depth x = omega (arith, cell.path.1) in
+      let le' : e + 1 + k ≤ 7 = omega (arith, cell.few.1) in
+      let here : there (n.depth x) (n.value x) ≡ true = ⊎_elim (λ (z : x ≡ 0). absurd (let q : n.depth x ≡ 0 = ap n.depth z ∙ at.fits.root.1 in omega arith)) (λ (h : there (n.depth x) (n.value x) ≡ true). h) (at.fits.needed x cell.path.0).1 in
+      let below : IsBelow a (n.depth x) (n.value x) = subst (λ (i : ℕ). IsBelow a i (n.value x)) (sym cell.path.1) cell.path.2 in
+      place_above (Has there) at.fits.upward a k e (n.value x) le' (subst (λ (i : ℕ). there i (n.value x) ≡ true) (sym f) here) (subst (λ (i : ℕ). IsBelow a i (n.value x)) (sym f) below);
+}
 
 -- one ply more
 pub grown_more : (there after : ℕ → ℕ → Bool) (a goal d : ℕ) → d < goal → IsGrown there after a goal d → IsGrown there (plus after (d + 1) (a / 2 ^ (28 - 4 * d))) a goal (d + 1)
@@ -63,10 +65,14 @@ SproutsTo u v a x d s y e t =
 pub grows_more : (u0 u1 u2 : View) (a goal x d s y e t i : ℕ) → d < goal → e ≡ d + 1 → GrowsTo u0 u1 a goal x d s i → SproutsTo u1 u2 a x d s y e t → GrowsTo u0 u2 a goal y e t (i + 1)
 grows_more u0 u1 u2 a goal x d s y e t i lt is before step = λ wants there old new pos n at.
     (let h = before wants there old new pos n at in
-     let k = step wants h.0 old new pos h.1 h.2 h.3 in
-     (plus h.0 (d + 1) (a / 2 ^ (28 - 4 * d)), k.0, k.1, k.2,
+    let k = step wants h.0 old new pos h.1 h.2 h.3 in (
+      plus h.0 (d + 1) (a / 2 ^ (28 - 4 * d)),
+      k.0,
+      k.1,
+      k.2,
       subst (λ (j : ℕ). IsGrown there (plus h.0 (d + 1) (a / 2 ^ (28 - 4 * d))) a goal j) (sym is) (grown_more there h.0 a goal d lt h.4),
-      paid_then n h.1 k.0 u0 u1 u2 i h.5 k.3))
+      paid_then n h.1 k.0 u0 u1 u2 i h.5 k.3,
+    ))
 
 pub ready_more : (p r : Promise) (u1 u2 : View) (a x d s y e t : ℕ) → r ≡ p → IsUnderWayAt p u1 a x d s → SproutsTo u1 u2 a x d s y e t → IsUnderWayAt r u2 a y e t
 ready_more p r u1 u2 a x d s y e t same q step = let k = step q.0 q.1 q.2 q.3 q.4 q.5 q.6 q.7 in (q.0, plus q.1 (d + 1) (a / 2 ^ (28 - 4 * d)), q.2, q.3, q.4, k.0, k.1, k.2, q.8 ∙ sym same)

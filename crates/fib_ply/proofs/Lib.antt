@@ -13,4 +13,6 @@ pub mod Prunes
 pub mod Sets
 pub mod Adds
 pub mod Removes
+pub mod Rowing
 pub mod Longest
+pub mod Needing

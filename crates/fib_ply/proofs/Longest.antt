@@ -1,5 +1,5 @@
 -- `best` answers with the longest prefix.
-use Rattle.std.proofs.Common.{◌≡◌, ℕ, zero, suc, ◌+◌, ◌-◌, ◌/◌, ◌^◌, ◌<◌, ◌≤◌, Option, Some, None, refl, sym, ap, ◌∙◌, subst, arith}
+use Rattle.std.proofs.Common.{◌≡◌, ℕ, zero, suc, ◌+◌, ◌-◌, ◌/◌, ◌^◌, ◌≤◌, Option, Some, None, refl, sym, ap, ◌∙◌, arith}
 use Rattle.std.proofs.lemmas.Nat.{shr-shr}
 use Rattle.std.proofs.Math.Nat.{div-one}
 use native.Mathlib.Decide.{ℕ_discrete}
@@ -22,7 +22,11 @@ best_longest look (suc n) b o e = by_first (look (suc n) b) refl e (best_longest
     by_first (Some p) is e' further = record { len = suc n; within = omega arith; there = ap (look (suc n)) (whole b (suc n) (suc n) refl) ∙ is ∙ e'; longest = λ m lt le. absurd (omega arith) }
     by_first None is e' further =
         let h = further e' in
-        record { len = h.len; within = omega (arith, h.within); there = ap (look h.len) (sym (halved b n h.len h.within)) ∙ h.there;
+        record {
+          len = h.len;
+          within = omega (arith, h.within);
+          there = ap (look h.len) (sym (halved b n h.len h.within)) ∙ h.there;
           longest = λ m lt le. dite (ℕ_discrete m (suc n))
               (λ same. ap (look m) (whole b (suc n) m same) ∙ ap (λ i. look i b) same ∙ is)
-              (λ ne. let le' : m ≤ n = omega arith in ap (look m) (sym (halved b n m le')) ∙ h.longest m lt le') }
+              (λ ne. let le' : m ≤ n = omega arith in ap (look m) (sym (halved b n m le')) ∙ h.longest m lt le');
+        }

@@ -1,12 +1,12 @@
 -- The way down to the cell of an address.
-use Rattle.std.proofs.Common.{◌≡◌, ℕ, zero, suc, ◌+◌, ◌*◌, ◌-◌, ◌/◌, ◌%◌, ◌^◌, ◌<◌, ◌≤◌, ◌⊎◌, inl, inr, ⊎_elim, Bool, true, false, refl, sym, ap, ◌∙◌, subst, arith}
+use Rattle.std.proofs.Common.{◌≡◌, ℕ, suc, ◌+◌, ◌*◌, ◌-◌, ◌/◌, ◌%◌, ◌^◌, ◌<◌, ◌≤◌, inl, inr, ⊎_elim, true, refl, sym, ap, ◌∙◌, subst, arith}
 use Rattle.std.proofs.lemmas.Nat.{mod_below}
 use Rattle.std.proofs.Math.Nat.{div-eq_of_lt}
 use Rattle.fib_core.specs.declared.word.Word.{Word}
 use Rattle.fib_core.specs.declared.word.Word.TheVariants.{Drop, ToPly, ToBalance, Plain, Receive, Glean, ToAdjacency}
 use Rattle.fib_joined.specs.View.{View, IsLive}
 use Rattle.fib_ply.specs.inner.Change.{IsOnPath, IsCellOf, IsLed}
-use Rattle.fib_ply.specs.inner.Served.{Paths, IsChild}
+use Rattle.fib_ply.specs.inner.Served.{Paths}
 use Rattle.fib_ply.specs.inner.Trie.{IsFilled, IsLinked, Fits, IsTrie}
 use Rattle.fib_steady.specs.Names.{IsBelow}
 use Rattle.fib_ply.proofs.Blocks.{below_next}

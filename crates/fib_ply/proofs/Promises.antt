@@ -1,5 +1,5 @@
 -- What the table keeps is what the plane's calls ask.
-use Rattle.std.proofs.Common.{arith, ◌≡◌, ◌≢◌, ℕ, ◌+◌, ◌*◌, ◌<◌, ◌≤◌, ◌^◌, ◌⊎◌, inl, inr, ⊎_elim, Bool, true, false, true≢false, List, ◌∷◌, Option, Some, None, refl, sym, ap, ◌∙◌, subst}
+use Rattle.std.proofs.Common.{arith, ◌≡◌, ℕ, ◌<◌, inl, inr, ⊎_elim, Bool, true, false, true≢false, List, Some, None, refl, sym, ap, ◌∙◌, subst}
 use Rattle.std.specs.Prelude.{Contains, nat_lt, if◌then◌else◌}
 use Rattle.std.proofs.lemmas.Bool.Decides.{nat_tests}
 use Rattle.fib_addr.specs.Prefixes.{Prefix}
@@ -15,13 +15,12 @@ use Rattle.fib_serving.proofs.Answers.{promised_to}
 use Rattle.fib_joined.specs.declared.put.Put.{Put}
 use Rattle.fib_joined.specs.declared.put.Put.TheVariants as puts
 use Rattle.fib_joined.specs.Frames.{Beside}
-use Rattle.fib_joined.specs.Promise as joined
 use Rattle.fib_joined.specs.Promise.{IsBegun, IsStill, Serves, MayPut, MayLetGo, KeepsRooted, EndsIn}
-use Rattle.fib_joined.specs.View.{View, Retired, Goes, Edge, Kinds, IsLive, IsBalance, IsPut, IsTaken, IsLetGo, Closes, Answered, leads}
+use Rattle.fib_joined.specs.View.{View, Retired, Goes, Edge, Kinds, IsPut, IsTaken, IsLetGo, Closes, Answered, leads}
 use Rattle.fib_joined.proofs.Frames.{beside_put, buckets_beside}
 use Rattle.fib_reach.specs.Walks.{Leads}
 use Rattle.fib_ply.specs.Prefixes.{Look}
-use Rattle.fib_ply.specs.inner.Served.{Paths, IsRight, IsServed, Watch, Wanted, wants_of, IsKept, names_of}
+use Rattle.fib_ply.specs.inner.Served.{Paths, IsRight, IsServed, Watch, Wanted, IsKept, names_of}
 use Rattle.fib_ply.specs.inner.View.{IsSent}
 use Rattle.fib_ply.specs.inner.Change.{IsCalm, IsSound}
 
@@ -42,8 +41,15 @@ cell_of u x s w after puts.Dropped none h = absurd (none h.2)
 pub sent : (u v : View) (x s : ℕ) (w : Word) (a : Put) → IsCalm u x w → IsPut u v x s w a → IsSent u v x s w
 sent u v x s w a calm put = record {
   cell = cell_of u x s w (v.cell x s) a (calm_none u x w calm) put.answered;
-  others = put.others; edges = put.edges; kinds = put.kinds; held = put.held; records = put.records; free = put.free;
-  stores = put.stores; spare = put.spare; spared = put.spared;
+  others = put.others;
+  edges = put.edges;
+  kinds = put.kinds;
+  held = put.held;
+  records = put.records;
+  free = put.free;
+  stores = put.stores;
+  spare = put.spare;
+  spared = put.spared;
 }
 
 -- what is beside the plies stays sound
@@ -62,7 +68,10 @@ pub record IsNew (wants : Watch) (u : View) (w : Word) : Type 0 where
 module _ (wants : Watch) (u v : View) (kept : IsKept wants u) where
   pub kept_by : Beside u v → (wants.promise.applied ≡ 0 → IsStill v) → IsKept wants v
   kept_by beside still = record {
-    allowed = kept.allowed; newest = kept.newest; older = kept.older; versions = kept.versions;
+    allowed = kept.allowed;
+    newest = kept.newest;
+    older = kept.older;
+    versions = kept.versions;
     buckets = λ b. buckets_beside u v beside wants.promise.versions wants.balance (kept.buckets b);
     still = still;
   }

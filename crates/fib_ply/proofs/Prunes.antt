@@ -1,17 +1,17 @@
 -- A ply that no prefix needs is unlinked and let go.
 use Rattle.fib_joined.specs.Frames.{Beside}
 use Rattle.fib_joined.specs.Promise.{MayLetGo, MayPut, Promise}
-use Rattle.fib_joined.specs.View.{View, Goes, HasIn, IsLive, IsStanding, Kinds, IsLetGo, HasKind}
+use Rattle.fib_joined.specs.View.{View, IsLive, IsStanding, Kinds, IsLetGo, HasKind}
 use Rattle.fib_ply.specs.Prefixes.{Look, IsAnswer, Needs}
-use Rattle.fib_ply.specs.inner.Change.{IsOne, IsListed, IsFreed, Prunes, PrunesTo, UnlinksTo, count_cells, is_to_ply, links, Mixed, Has, minus, IsCalm, IsSound, IsAt, IsOnPath, IsCellOf, IsPruned, IsLastOf, IsEnd, CanPrune, CanPruneAt, StandsFor, Agree, removed, IsPromised, IsTable}
+use Rattle.fib_ply.specs.inner.Change.{IsOne, IsListed, IsFreed, Prunes, PrunesTo, UnlinksTo, count_cells, is_to_ply, links, Mixed, Has, minus, IsCalm, IsAt, IsOnPath, IsCellOf, IsPruned, IsLastOf, IsEnd, CanPrune, CanPruneAt, IsTable}
 use Rattle.fib_ply.specs.inner.Served.{Watch, Paths, IsChild, IsIn, IsRight, IsWalked, IsServed, Wanted}
-use Rattle.fib_ply.specs.inner.Trie.{IsFilled, Fits, listed, IsTrie}
+use Rattle.fib_ply.specs.inner.Trie.{IsFilled, listed, IsTrie}
 use Rattle.fib_ply.specs.inner.View.{IsSent}
 use Rattle.fib_serving.specs.Matches.{best_block}
 use Rattle.fib_steady.specs.Names.{IsBelow}
 use Rattle.fib_ply.proofs.Counts.{cells_le, cells_lt, cells_filter, one_filter, filter_one, apart_filter, one_less}
 use Rattle.fib_ply.proofs.Promises.{may_let_go, IsNew, sound_beside, kept_sent, kept_let_go, may_put}
-use Rattle.std.proofs.Common.{ap₂, ◌≡◌, ℕ, zero, suc, ◌+◌, ◌*◌, ◌-◌, ◌/◌, ◌%◌, ◌^◌, ◌<◌, ◌≤◌, ◌⊎◌, inl, inr, ⊎_elim, Bool, true, false, true≢false, not, cond, eqb, eq-eqb, ne_eqb, ◌&&◌, Option, Some, None, refl, sym, ap, ◌∙◌, subst, arith}
+use Rattle.std.proofs.Common.{ap₂, ◌≡◌, ℕ, suc, ◌+◌, ◌*◌, ◌-◌, ◌/◌, ◌%◌, ◌^◌, ◌<◌, ◌≤◌, ◌⊎◌, inl, inr, ⊎_elim, Bool, true, false, true≢false, not, eqb, eq-eqb, ne_eqb, ◌&&◌, Option, Some, refl, sym, ap, ◌∙◌, subst, arith}
 use Rattle.std.proofs.lemmas.Nat.{shr-shr, shr_below}
 use Rattle.std.proofs.lemmas.Bool.{cases_lt}
 use native.Mathlib.Decide.{ℕ_discrete}
@@ -82,9 +82,10 @@ module _ (wants : Watch) (look : Look) (a : ℕ) (there : ℕ → ℕ → Bool) 
           ⊎_elim
           (λ (q : Needs look (d + 1 + 1) (16 * n.value c + t)). free (subst (λ (i : ℕ). Needs look (d + 1) i) (low_part (n.value c) t lt ∙ place) (needs_up look (d + 1) (16 * n.value c + t) q)))
           (λ (q : (d + 1 + 1 ≤ 7) × IsBelow a (d + 1 + 1) (16 * n.value c + t)).
-              let same : t ≡ s = same_low (a / 2 ^ (32 - 4 * (d + 1 + 1))) (n.value c) t s q.1 last.cell.below in
-              let r : ToPly z ≡ ToBalance last.cell.leaf.0 = sym is ∙ ap (u.cell c) same ∙ last.cell.leaf.1 in cc)
+          let same : t ≡ s = same_low (a / 2 ^ (32 - 4 * (d + 1 + 1))) (n.value c) t s q.1 last.cell.below in
+          let r : ToPly z ≡ ToBalance last.cell.leaf.0 = sym is ∙ ap (u.cell c) same ∙ last.cell.leaf.1 in cc)
           (pruned.extra (d + 1) (16 * n.value c + t) at')
+
       by_word : (z : Word) → u.cell c t ≡ z → IsFilled (Mixed look look 0) (Has there) n c t z → (p : ℕ) × (u.cell c t ≡ ToBalance p)
       by_word (ToPly z) is h = absurd (deep z is h)
       by_word (ToBalance p) is h = (p, is)
@@ -158,10 +159,10 @@ module _ (wants : Watch) (look : Look) (a : ℕ) (there : ℕ → ℕ → Bool) 
     pub fewer_links : count_cells (λ y t. is_to_ply (v.cell y t)) n.all + 1 ≤ links n u
     fewer_links = cells_lt (λ y t. is_to_ply (v.cell y t)) (λ y t. is_to_ply (u.cell y t)) n.all x (a / 2 ^ (28 - 4 * d) % 16)
         (λ y t one lt h. dite (ℕ_discrete y x)
-            (λ e. dite (ℕ_discrete t (a / 2 ^ (28 - 4 * d) % 16))
-                (λ f. absurd (true≢false (sym h ∙ ap₂ (λ i j. is_to_ply (v.cell i j)) e f ∙ ap is_to_ply put.cell)))
-                (λ ne. ap is_to_ply (sym (same_cell y t one (λ _ f. ne f))) ∙ h))
-            (λ ne. ap is_to_ply (sym (same_cell y t one (λ e _. ne e))) ∙ h))
+        (λ e. dite (ℕ_discrete t (a / 2 ^ (28 - 4 * d) % 16))
+        (λ f. absurd (true≢false (sym h ∙ ap₂ (λ i j. is_to_ply (v.cell i j)) e f ∙ ap is_to_ply put.cell)))
+        (λ ne. ap is_to_ply (sym (same_cell y t one (λ _ f. ne f))) ∙ h))
+        (λ ne. ap is_to_ply (sym (same_cell y t one (λ e _. ne e))) ∙ h))
         (pruned.at.list.each x last.above.0) slot_few (ap is_to_ply put.cell) (ap is_to_ply last.edge)
 
   pub prune_may : MayPut wants.promise u x (a / 2 ^ (28 - 4 * d) % 16) (ToBalance o)
@@ -193,7 +194,9 @@ module _ (wants : Watch) (there : ℕ → ℕ → Bool) (old new : Look) (pos : 
     fits = record {
       root = at.fits.root;
       held = λ y is. (go.swept.kinds y (live y (still_held y is)) ∙ (at.fits.held y is).0, still_held y is);
-      apart = at.fits.apart; needed = at.fits.needed; upward = at.fits.upward;
+      apart = at.fits.apart;
+      needed = at.fits.needed;
+      upward = at.fits.upward;
       cells = λ y t is lt. rw (go.swept.cells y t (live y (still_held y is))) (at.fits.cells y t is lt);
     };
     wider = at.wider;
@@ -228,6 +231,7 @@ one_depth wants there old new pos n u a x d s y e t lt at p q =
   where
     leaf : (z f r : ℕ) → IsSpot n u a z f r → there (n.depth z + 1) (16 * n.value z + r) ≡ true → ⊥
     leaf z f r cell = (subst (λ (i : Word). IsFilled (Mixed old new pos) (Has there) n z r i) cell.leaf.1 (at.fits.cells z r cell.path.0 cell.few.0)).0
+
     at_depth : (z f r : ℕ) → IsSpot n u a z f r → IsBelow a (n.depth z + 1) (16 * n.value z + r)
     at_depth z f r cell = subst (λ (i : ℕ). IsBelow a (i + 1) (16 * n.value z + r)) (sym cell.path.1) cell.below
 
@@ -320,6 +324,7 @@ module _ (wants : Watch) (look : Look) (a : ℕ) (u : View) (x c d s : ℕ) (the
           live : (x ≡ 0) ⊎ (w.is_held x ≡ true) → IsLive w x
           live (inl e) = inl e
           live (inr h) = inr (inl h)
+
           last_below : IsBelow a (d - 1 + 1) (16 * n.value x + a / 2 ^ (28 - 4 * (d - 1)) % 16)
           last_below =
               let k : ℕ = 8 - d in
@@ -334,8 +339,8 @@ module _ (wants : Watch) (look : Look) (a : ℕ) (u : View) (x c d s : ℕ) (the
       unlink_freed =
           let less = fewer_links wants look a there n u x c (d - 1) s o pruned last free_there answer_there v put_there in
           let after : count_cells (λ y t. is_to_ply (w.cell y t)) (listed n c false).all ≤ count_cells (λ y t. is_to_ply (v.cell y t)) (listed n c false).all =
-              cells_le (λ y t. is_to_ply (w.cell y t)) (λ y t. is_to_ply (v.cell y t)) (listed n c false).all
-              (λ y t one lt h. ap is_to_ply (sym (go.swept.cells y t (stays y (unlinked.at.fits.held y (unlinked.at.list.only y one)).1))) ∙ h) in
+          cells_le (λ y t. is_to_ply (w.cell y t)) (λ y t. is_to_ply (v.cell y t)) (listed n c false).all
+          (λ y t one lt h. ap is_to_ply (sym (go.swept.cells y t (stays y (unlinked.at.fits.held y (unlinked.at.list.only y one)).1))) ∙ h) in
           let short = cells_filter (λ y t. is_to_ply (v.cell y t)) c n.all in
           record {
             plies = one_less c n.all (pruned.at.list.each c ended.cell.path.0) pruned.at.list.apart;
@@ -365,6 +370,7 @@ prune_done wants look a u x c d s there n pruned ended end = record { at = prune
   where
     leaf : there (n.depth c + 1) (16 * n.value c + s) ≡ true → ⊥
     leaf = (subst (λ (i : Word). IsFilled (Mixed look look 0) (Has there) n c s i) ended.cell.leaf.1 (pruned.at.fits.cells c s ended.cell.path.0 ended.cell.few.0)).0
+
     past : (e w : ℕ) → there (e + 1) w ≡ true → e + 1 ≤ 7 → IsBelow a (e + 1) w → d < e + 1 → ⊥
     past e w h le below lt =
         let k : ℕ = e - d in
@@ -372,6 +378,7 @@ prune_done wants look a u x c d s there n pruned ended end = record { at = prune
         let le' : d + 1 + k ≤ 7 = omega arith in
         let r = place_above (Has there) pruned.at.fits.upward a k d w le' (subst (λ (i : ℕ). there i w ≡ true) (sym f) h) (subst (λ (i : ℕ). IsBelow a i w) (sym f) below) in
         leaf (subst (λ (i : ℕ). there (i + 1) (16 * n.value c + s) ≡ true) (sym ended.cell.path.1) (subst (λ (i : ℕ). there (d + 1) i ≡ true) ended.cell.below r))
+
     within : (e w : ℕ) → e + 1 ≤ d → IsBelow a (e + 1) w → Needs look d (a / 2 ^ (32 - 4 * d)) → Needs look (e + 1) w
     within e w le below needs =
         let k : ℕ = d - (e + 1) in
@@ -381,6 +388,7 @@ prune_done wants look a u x c d s there n pruned ended end = record { at = prune
       where
         up : (g v : ℕ) → Needs look (g + 2) v → Needs look (g + 1) (v / 16)
         up g v y = let r : g + 2 ≡ g + 1 + 1 = omega arith in needs_up look (g + 1) v (subst (λ (i : ℕ). Needs look i v) r y)
+
     on_path : (e w : ℕ) → there (e + 1) w ≡ true → e + 1 ≤ 7 → IsBelow a (e + 1) w → Needs look (e + 1) w
     on_path e w h le below = elim (cases_lt d (e + 1)) [ inl less ↦ absurd (past e w h le below less) | inr more ↦ ⊎_elim (λ (z : d ≡ 0). absurd (omega arith)) (within e w more below) end ]
 
@@ -402,8 +410,8 @@ prunes_none look a u x c d s found = λ wants there n pruned. (there, n, pruned,
 pub prunes_more : (look : Look) (a : ℕ) (u v w : View) (l r : ℕ × ℕ × ℕ × ℕ) (i : ℕ) → PrunesTo look a u v l.0 l.1 l.2 l.3 i → UnlinksTo look a v w l r → PrunesTo look a u w r.0 r.1 r.2 r.3 (i + 1)
 prunes_more look a u v w l r i f g = λ wants there n pruned.
     (let h = f wants there n pruned in
-     let k = g wants h.0 h.1 h.2 h.3 in
-     (k.0, k.1, k.2, k.3, freed_then n h.1 k.1 u v w i h.4 k.4))
+    let k = g wants h.0 h.1 h.2 h.3 in
+    (k.0, k.1, k.2, k.3, freed_then n h.1 k.1 u v w i h.4 k.4))
 
 pub can_more : (p q : Promise) (look : Look) (a : ℕ) (v w : View) (l r : ℕ × ℕ × ℕ × ℕ) → q ≡ p → CanPruneAt p look a v l.0 l.1 l.2 l.3 → UnlinksTo look a v w l r → CanPruneAt q look a w r.0 r.1 r.2 r.3
 can_more p q look a v w l r same c g = let k = g c.0 c.1 c.2 c.3 c.4 in (c.0, k.0, k.1, k.2, k.3, c.5 ∙ sym same, omega (arith, c.6, k.4.fewer, k.4.spare))

@@ -6,24 +6,24 @@ use mathlib.Core.Logic.{dite}
 use Rattle.fib_list.proofs.Booleans.{and_both}
 use Rattle.fib_joined.specs.Frames.{Beside}
 use Rattle.fib_joined.specs.Promise.{MayPut}
-use Rattle.fib_joined.specs.View.{View, Goes, Kinds, HasKind}
+use Rattle.fib_joined.specs.View.{View, Kinds, HasKind}
 use Rattle.fib_ply.specs.Prefixes.{Look, IsAnswer, Needs}
-use Rattle.fib_ply.specs.inner.Change.{IsOne, is_to_ply, end_of, ahead, links, IsSpent, Mixed, Has, IsCalm, IsSound, IsAt, IsOnPath, IsCellOf}
-use Rattle.fib_ply.specs.inner.Served.{Watch, IsKept, Paths, IsIn, IsServed, Wanted}
-use Rattle.fib_ply.specs.inner.Trie.{IsFilled, Fits, IsTrie}
+use Rattle.fib_ply.specs.inner.Change.{IsOne, is_to_ply, end_of, ahead, IsSpent, Mixed, Has, IsCalm, IsAt, IsCellOf}
+use Rattle.fib_ply.specs.inner.Served.{Watch, Paths, IsIn, IsServed, Wanted}
+use Rattle.fib_ply.specs.inner.Trie.{IsFilled, IsTrie}
 use Rattle.fib_ply.specs.inner.View.{IsSent}
 use Rattle.fib_serving.specs.Matches.{best_block, or_else}
 use Rattle.fib_steady.specs.Names.{IsBelow}
 use Rattle.fib_ply.proofs.Counts.{cells_le, cells_lt}
 use Rattle.fib_ply.proofs.Promises.{IsNew, sound_beside, kept_sent, may_put}
 use Rattle.fib_ply.proofs.Stores.{stands_on}
-use Rattle.std.proofs.Common.{ap₂, true≢false, not, ◌&&◌, ◌≡◌, ℕ, zero, suc, ◌+◌, ◌*◌, ◌-◌, ◌/◌, ◌%◌, ◌^◌, ◌<◌, ◌≤◌, ◌⊎◌, inl, inr, ⊎_elim, Bool, true, false, Option, Some, None, refl, sym, ap, ◌∙◌, subst, arith, rules}
+use Rattle.std.proofs.Common.{ap₂, true≢false, not, ◌&&◌, ◌≡◌, ℕ, zero, suc, ◌+◌, ◌*◌, ◌-◌, ◌/◌, ◌%◌, ◌^◌, ◌<◌, ◌≤◌, inl, inr, Bool, true, false, Option, Some, None, refl, sym, ap, ◌∙◌, subst, arith, rules}
 use Rattle.std.proofs.lemmas.Nat.{pow_pos, shr_below}
 use Rattle.std.proofs.lemmas.Bool.{cases_lt}
 use Rattle.std.specs.Option.{IsSome}
 use Rattle.std.proofs.Math.Nat.{pow-le-pow_right, mod-eq_of_lt, pow-suc, div-eq_of_lt-le, lt-div-mul-add, div-mul-le_self}
 use Rattle.fib_core.specs.declared.word.Word.{Word}
-use Rattle.fib_core.specs.declared.word.Word.TheVariants.{Drop, ToPly, ToBalance, Plain, Receive, Glean, ToAdjacency}
+use Rattle.fib_core.specs.declared.word.Word.TheVariants.{Drop, ToPly, ToBalance}
 use Rattle.fib_ply.proofs.Blocks.{pushed_at}
 use Rattle.fib_ply.proofs.Paths.{fits_trie}
 use Rattle.fib_ply.proofs.Cycles.{no_cycle_balance}
@@ -169,22 +169,22 @@ module _ (wants : Watch) (there : ℕ → ℕ → Bool) (old new : Look) (pos : 
     ahead_less : (y t : ℕ) → IsOne n.all y → t < 16 → is_ahead n v ((pos / 2 ^ (28 - 4 * d) + 1) * 2 ^ (28 - 4 * d)) y t ≡ true → is_ahead n u pos y t ≡ true
     ahead_less y t one lt h = dite (ℕ_discrete y x)
         (λ e. dite (ℕ_discrete t s)
-            (λ f. absurd (true≢false (sym h ∙ ap₂ (λ i j. is_ahead n v ((pos / 2 ^ (28 - 4 * d) + 1) * 2 ^ (28 - 4 * d)) i j) e f ∙ here_past)))
-            (λ ne. elsewhere_less y t one h (λ _ f. ne f)))
+        (λ f. absurd (true≢false (sym h ∙ ap₂ (λ i j. is_ahead n v ((pos / 2 ^ (28 - 4 * d) + 1) * 2 ^ (28 - 4 * d)) i j) e f ∙ here_past)))
+        (λ ne. elsewhere_less y t one h (λ _ f. ne f)))
         (λ ne. elsewhere_less y t one h (λ e _. ne e))
 
     pub spent_on : IsSpent n u v pos ((pos / 2 ^ (28 - 4 * d) + 1) * 2 ^ (28 - 4 * d))
     spent_on =
         let less : ahead n v ((pos / 2 ^ (28 - 4 * d) + 1) * 2 ^ (28 - 4 * d)) + 1 ≤ ahead n u pos =
-            cells_lt (is_ahead n v ((pos / 2 ^ (28 - 4 * d) + 1) * 2 ^ (28 - 4 * d))) (is_ahead n u pos) n.all x s ahead_less (at.list.each x cell.path.0) cell.few.0 here_past here_ahead in
+        cells_lt (is_ahead n v ((pos / 2 ^ (28 - 4 * d) + 1) * 2 ^ (28 - 4 * d))) (is_ahead n u pos) n.all x s ahead_less (at.list.each x cell.path.0) cell.few.0 here_past here_ahead in
         record {
           spare = omega (arith, put.spare);
           stored = omega (arith, put.stores.few);
           more = put.stores.more;
           same = cells_le (λ y t. is_to_ply (v.cell y t)) (λ y t. is_to_ply (u.cell y t)) n.all (λ y t one lt h. dite (ℕ_discrete y x)
               (λ e. dite (ℕ_discrete t s)
-                  (λ f. absurd (true≢false (sym h ∙ ap₂ (λ i j. is_to_ply (v.cell i j)) e f ∙ ap is_to_ply put.cell)))
-                  (λ ne. ap is_to_ply (sym (same_cell y t one (λ _ f. ne f))) ∙ h))
+              (λ f. absurd (true≢false (sym h ∙ ap₂ (λ i j. is_to_ply (v.cell i j)) e f ∙ ap is_to_ply put.cell)))
+              (λ ne. ap is_to_ply (sym (same_cell y t one (λ _ f. ne f))) ∙ h))
               (λ ne. ap is_to_ply (sym (same_cell y t one (λ e _. ne e))) ∙ h));
         }
 

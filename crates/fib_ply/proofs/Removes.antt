@@ -1,13 +1,12 @@
 -- A prefix is removed.
-use Rattle.std.proofs.Common.{◌≡◌, ℕ, zero, suc, ◌+◌, ◌*◌, ◌-◌, ◌/◌, ◌%◌, ◌^◌, ◌<◌, ◌≤◌, ◌⊎◌, inl, inr, ⊎_elim, Bool, true, false, true≢false, cond, eqb, eq-eqb, ne_eqb, ◌&&◌, Option, Some, None, refl, sym, ap, ◌∙◌, subst, arith}
+use Rattle.std.proofs.Common.{◌≡◌, ℕ, ◌+◌, ◌*◌, ◌-◌, ◌/◌, ◌%◌, ◌^◌, ◌<◌, ◌≤◌, ◌⊎◌, inl, inr, ⊎_elim, Bool, eq-eqb, ne_eqb, Some, None, refl, sym, ap, ◌∙◌, subst, arith}
 use native.Mathlib.Decide.{ℕ_discrete}
 use mathlib.Core.Logic.{dite}
 use Rattle.fib_joined.specs.Promise.{Promise}
 use Rattle.fib_joined.specs.View.{View}
-use Rattle.fib_ply.specs.Prefixes.{Look, IsAnswer, Needs}
-use Rattle.fib_ply.specs.inner.Change.{IsSpent, IsStoredFew, ahead, Prunes, IsAt, Agree, IsSound, removed, IsPromised, IsTable, StandsFor, IsPruned, CanPrune}
+use Rattle.fib_ply.specs.Prefixes.{Look, Needs}
+use Rattle.fib_ply.specs.inner.Change.{IsSpent, IsStoredFew, ahead, Prunes, IsAt, Agree, removed, IsPromised, IsTable, IsPruned, CanPrune}
 use Rattle.fib_ply.specs.inner.Served.{Watch, Paths}
-use Rattle.fib_serving.specs.Matches.{best_block}
 use Rattle.fib_steady.specs.Names.{IsBelow}
 use Rattle.std.specs.Prelude.{length}
 use Rattle.fib_ply.proofs.Sets.{begins, ends}
@@ -36,8 +35,8 @@ module _ (look : Look) (len top : ℕ) where
   needs_or : (d w : ℕ) → len ≤ 32 → Needs look d w → Needs (removed look len top) d w ⊎ IsBelow (top * 2 ^ (32 - len)) d w
   needs_or d w le h = dite (ℕ_discrete (4 * d + h.0 + 1) len)
       (λ e. dite (ℕ_discrete h.1 top)
-          (λ f. let r : len - 4 * d ≡ h.0 + 1 = omega arith in let m : 4 * d ≤ len = omega arith in inr (block_of look len top 0 d m le ∙ ap (λ i. top / 2 ^ i) r ∙ ap (λ b. b / 2 ^ (h.0 + 1)) (sym f) ∙ h.4))
-          (λ f. inl (h.0, h.1, h.2, h.3, h.4, removed_else (4 * d + h.0 + 1) h.1 (λ _ m. f m) ∙ h.5)))
+      (λ f. let r : len - 4 * d ≡ h.0 + 1 = omega arith in let m : 4 * d ≤ len = omega arith in inr (block_of look len top 0 d m le ∙ ap (λ i. top / 2 ^ i) r ∙ ap (λ b. b / 2 ^ (h.0 + 1)) (sym f) ∙ h.4))
+      (λ f. inl (h.0, h.1, h.2, h.3, h.4, removed_else (4 * d + h.0 + 1) h.1 (λ _ m. f m) ∙ h.5)))
       (λ e. inl (h.0, h.1, h.2, h.3, h.4, removed_else (4 * d + h.0 + 1) h.1 (λ m _. e m) ∙ h.5))
 
   module _ (other : Look) (x to : ℕ) (u : View) (some : 1 ≤ len) (le : len ≤ 32) (small : top < 2 ^ len) (is : other ≡ removed look len top) (x_is : x ≡ top * 2 ^ (32 - len)) (to_is : to ≡ (top + 1) * 2 ^ (32 - len))
@@ -77,7 +76,13 @@ module _ (look : Look) (len top : ℕ) where
       pub remove_ends : (w : View) (count : ℕ) → count ≤ 7 → Prunes other ((top * 2 ^ (32 - len)) % 4294967296) v w count
           → (after : ℕ → ℕ → Bool) × (m : Paths) × IsTable wants other after m w × (length m.all + count ≡ length n.all) × IsStoredFew n u w
       remove_ends w count few prunes =
-          let h = prunes wants there n pruned_here in
-          (h.0, h.1, h.2, h.3.plies, record {
-            more = omega (arith, after.3.more, h.3.more);
-            few = (let f = ahead_few n u x in omega (arith, f, few, after.3.stored, h.3.stored)) })
+          let h = prunes wants there n pruned_here in (
+            h.0,
+            h.1,
+            h.2,
+            h.3.plies,
+            record {
+              more = omega (arith, after.3.more, h.3.more);
+              few = (let f = ahead_few n u x in omega (arith, f, few, after.3.stored, h.3.stored));
+            },
+          )

@@ -1,20 +1,17 @@
 -- Two sets of prefixes that differ at one prefix.
-use Rattle.std.proofs.Common.{◌≡◌, ℕ, zero, suc, ◌+◌, ◌*◌, ◌-◌, ◌/◌, ◌%◌, ◌^◌, ◌<◌, ◌≤◌, ◌⊎◌, inl, inr, ⊎_elim, Bool, true, false, Option, Some, None, refl, sym, ap, ◌∙◌, subst, arith}
+use Rattle.std.proofs.Common.{◌≡◌, ℕ, zero, suc, ◌+◌, ◌*◌, ◌-◌, ◌/◌, ◌^◌, ◌<◌, ◌≤◌, inl, inr, Bool, true, sym, ap, ◌∙◌, subst, arith}
 use Rattle.std.proofs.lemmas.Bool.{cases_lt}
 use Rattle.std.proofs.lemmas.Nat.{shr-shr}
 use Rattle.std.proofs.Math.Nat.{div-one, div-mul-le_self}
 use Rattle.fib_ply.proofs.Pushes.{block_end}
-use native.Mathlib.Decide.{ℕ_discrete}
-use mathlib.Core.Logic.{dite}
 use Rattle.fib_core.specs.declared.word.Word.{Word}
 use Rattle.fib_core.specs.declared.word.Word.TheVariants.{Drop, ToPly, ToBalance, Plain, Receive, Glean, ToAdjacency}
 use Rattle.fib_joined.specs.View.{View}
 use Rattle.fib_ply.specs.Prefixes.{Look, IsAnswer, Needs}
 use Rattle.fib_ply.specs.inner.Change.{Mixed, Has, IsAt, Agree, IsSound}
-use Rattle.fib_ply.specs.inner.Served.{Watch, Wanted, Paths, IsIn}
+use Rattle.fib_ply.specs.inner.Served.{Watch, Wanted, Paths}
 use Rattle.fib_ply.specs.inner.Trie.{IsFilled, Fits}
 use Rattle.fib_serving.specs.Matches.{best_block, or_else}
-use Rattle.fib_steady.specs.Names.{IsBelow}
 
 -- what holds of answers may be weakened
 module _ (K L N : ℕ → ℕ → Type 0) (weaker : (a p : ℕ) → a < 2 ^ 32 → K a p → L a p) (n : Paths) where
@@ -57,7 +54,14 @@ module _ (wants : Watch) (there : ℕ → ℕ → Bool) (old new : Look) (len to
     fits = fits_map (Mixed old old 0) (Mixed old new (top * 2 ^ (32 - len))) (Has there) (λ a p lt m.
         let h : IsAnswer old a p = m.1 (omega arith) in
         (λ below. same_answer old new len top agree a le (λ e. absurd (let r = prefix_range a top (32 - len) e in omega (arith, r.0))) ∙ h, λ _. h)) n u at.fits;
-    wider = wider; served = at.served; kinds = at.kinds; promised = promised; was = at.was; sound = sound; kept = at.kept; list = at.list;
+    wider = wider;
+    served = at.served;
+    kinds = at.kinds;
+    promised = promised;
+    was = at.was;
+    sound = sound;
+    kept = at.kept;
+    list = at.list;
   }
 
   -- and ends after its last one
@@ -66,5 +70,12 @@ module _ (wants : Watch) (there : ℕ → ℕ → Bool) (old new : Look) (len to
     fits = fits_map (Mixed old new pos) (Mixed new new 0) (Has there) (λ a p lt m.
         let h : IsAnswer new a p = elim (cases_lt a pos) [ inl less ↦ m.0 less | inr more ↦ same_answer old new len top agree a le (λ e. absurd (let r = prefix_range a top (32 - len) e in omega (arith, r.1))) ∙ m.1 more ] in
         (λ _. h, λ _. h)) n u at.fits;
-    wider = at.wider; served = at.served; kinds = at.kinds; promised = λ a p lt h. let q = at.promised a p lt h in (q.1, q.1); was = at.sound; sound = at.sound; kept = at.kept; list = at.list;
+    wider = at.wider;
+    served = at.served;
+    kinds = at.kinds;
+    promised = λ a p lt h. let q = at.promised a p lt h in (q.1, q.1);
+    was = at.sound;
+    sound = at.sound;
+    kept = at.kept;
+    list = at.list;
   }

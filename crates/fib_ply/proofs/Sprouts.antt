@@ -4,17 +4,16 @@ use Rattle.std.proofs.lemmas.Bool.{cases_lt}
 use Rattle.fib_core.specs.Union.{IsPlyWord}
 use Rattle.fib_joined.specs.Frames.{Beside}
 use Rattle.fib_joined.specs.Promise.{MayPut, Promise}
-use Rattle.fib_joined.specs.View.{View, IsBalance, Stores, leads, Retired, Edge, Goes, HasIn, IsLive, IsStanding, Kinds, IsTaken, HasKind}
-use Rattle.fib_ply.specs.Prefixes.{Look, IsAnswer, Needs}
-use Rattle.fib_ply.specs.inner.Change.{IsOne, IsListed, IsLed, IsPaid, count_cells, is_to_ply, Mixed, Has, plus, IsCalm, IsSound, IsAt, IsFresh, SameIn, CanFill, Aside, IsOnPath, IsCellOf}
+use Rattle.fib_joined.specs.View.{View, IsBalance, Stores, leads, Retired, Goes, IsStanding, Kinds, IsTaken, HasKind}
+use Rattle.fib_ply.specs.Prefixes.{Look}
+use Rattle.fib_ply.specs.inner.Change.{IsOne, IsListed, IsPaid, count_cells, is_to_ply, Mixed, Has, plus, IsCalm, IsAt, IsFresh, SameIn, CanFill, Aside, IsCellOf}
 use Rattle.fib_ply.specs.inner.Served.{Watch, Paths, IsChild, IsIn, IsRight, IsWalked, IsServed, Wanted}
-use Rattle.fib_ply.specs.inner.Trie.{IsFilled, Fits, placed, listed}
+use Rattle.fib_ply.specs.inner.Trie.{IsFilled, placed, listed}
 use Rattle.fib_ply.specs.inner.View.{IsSent, Frame}
-use Rattle.fib_serving.specs.Matches.{best_block}
 use Rattle.fib_steady.specs.Names.{IsBelow}
 use Rattle.fib_ply.proofs.Counts.{cells_lt, apart_cons}
 use Rattle.fib_ply.proofs.Promises.{IsNew, sound_beside, kept_sent, kept_taken, may_put}
-use Rattle.std.proofs.Common.{ap₂, ◌≡◌, ℕ, zero, suc, ◌+◌, ◌*◌, ◌-◌, ◌/◌, ◌%◌, ◌^◌, ◌<◌, ◌≤◌, ◌⊎◌, inl, inr, ⊎_elim, Bool, true, false, true≢false, cond, eqb, eq-eqb, ne_eqb, eqb-true, ◌||◌, ◌&&◌, Option, Some, None, List, Contains, refl, sym, ap, ◌∙◌, subst, arith, rules}
+use Rattle.std.proofs.Common.{ap₂, ◌≡◌, ℕ, suc, ◌+◌, ◌*◌, ◌-◌, ◌/◌, ◌%◌, ◌^◌, ◌<◌, ◌≤◌, ◌⊎◌, inl, inr, ⊎_elim, Bool, true, false, true≢false, eqb, eq-eqb, ne_eqb, ◌||◌, ◌&&◌, List, Contains, refl, sym, ap, ◌∙◌, subst, arith}
 use native.Mathlib.Decide.{ℕ_discrete}
 use mathlib.Core.Logic.{dite}
 use Rattle.fib_core.specs.declared.word.Word.{Word}
@@ -137,24 +136,28 @@ module _ (wants : Watch) (there : ℕ → ℕ → Bool) (old new : Look) (pos : 
     aside_served = served_put (Wanted wants) n u v c s (ToBalance o) put at.served lt (λ z e. absurd (cc)) (λ stands. absurd (not_walked stands))
 
     pub aside_on : Beside u v → Kinds v → IsAt wants there old new pos n v × IsFresh n v c × SameIn n u v
-    aside_on beside kv = (record {
-      fits = record {
-        root = at.fits.root;
-        held = λ y is. (put.kinds y (stands_on u v c s (ToBalance o) put y (at.fits.held y is).1) ∙ (at.fits.held y is).0, ⊎_elim (λ (z : y ≡ 0). inl z) (λ (h : u.is_held y ≡ true). inr (put.held y ∙ h)) (at.fits.held y is).1);
-        apart = at.fits.apart;
-        needed = at.fits.needed;
-        upward = at.fits.upward;
-        cells = λ y t is lt'. rw (same_in y t is) (at.fits.cells y t is lt');
-      };
-      wider = at.wider;
-      served = aside_served;
-      kinds = kv;
-      promised = at.promised;
-      was = sound_beside wants old u v beside at.was;
-      sound = sound_beside wants new u v beside at.sound;
-      kept = kept_sent wants u v at.kept c s (ToBalance o) at.kinds fresh.kind.0 aside_new beside put;
-      list = at.list;
-    }, record { other = fresh.other; out = fresh.out; above = above_on; below = below_on; kind = (put.kinds c (inr (inl (put.held c ∙ fresh.kind.1))) ∙ fresh.kind.0, put.held c ∙ fresh.kind.1) }, same_in)
+    aside_on beside kv = (
+      record {
+        fits = record {
+          root = at.fits.root;
+          held = λ y is. (put.kinds y (stands_on u v c s (ToBalance o) put y (at.fits.held y is).1) ∙ (at.fits.held y is).0, ⊎_elim (λ (z : y ≡ 0). inl z) (λ (h : u.is_held y ≡ true). inr (put.held y ∙ h)) (at.fits.held y is).1);
+          apart = at.fits.apart;
+          needed = at.fits.needed;
+          upward = at.fits.upward;
+          cells = λ y t is lt'. rw (same_in y t is) (at.fits.cells y t is lt');
+        };
+        wider = at.wider;
+        served = aside_served;
+        kinds = kv;
+        promised = at.promised;
+        was = sound_beside wants old u v beside at.was;
+        sound = sound_beside wants new u v beside at.sound;
+        kept = kept_sent wants u v at.kept c s (ToBalance o) at.kinds fresh.kind.0 aside_new beside put;
+        list = at.list;
+      },
+      record { other = fresh.other; out = fresh.out; above = above_on; below = below_on; kind = (put.kinds c (inr (inl (put.held c ∙ fresh.kind.1))) ∙ fresh.kind.0, put.held c ∙ fresh.kind.1) },
+      same_in,
+    )
 
   pub aside_may : MayPut wants.promise u c s (ToBalance o)
   aside_may = may_put wants u at.kept n c s (ToBalance o) at.served at.kinds fresh.kind.0 aside_calm aside_new (λ v put. aside_served v put)
@@ -197,10 +200,10 @@ module _ (wants : Watch) (there : ℕ → ℕ → Bool) (old new : Look) (pos : 
   upward e w h = plus_more there (n.depth c) (n.value c) (e + 1) (w / 16) (⊎_elim
       (λ (q : there (e + 2) w ≡ true). at.fits.upward e w q)
       (λ (q : (e + 2 ≡ n.depth c) × (w ≡ n.value c)).
-          let p : e + 1 ≡ n.depth x = omega (arith, q.0, child.0) in
-          let r : w / 16 ≡ n.value x = part w (n.value x) s cell.few.0 (q.1 ∙ place.1) in
-          let not_root : x ≡ 0 → ⊥ = λ z. absurd (let y : n.depth x ≡ 0 = ap n.depth z ∙ at.fits.root.1 in omega arith) in
-          subst (λ (i : ℕ). there i (w / 16) ≡ true) (sym p) (subst (λ (i : ℕ). there (n.depth x) i ≡ true) (sym r) (⊎_elim (λ (z : x ≡ 0). absurd (not_root z)) (λ (y : there (n.depth x) (n.value x) ≡ true). y) (at.fits.needed x cell.path.0).1)))
+      let p : e + 1 ≡ n.depth x = omega (arith, q.0, child.0) in
+      let r : w / 16 ≡ n.value x = part w (n.value x) s cell.few.0 (q.1 ∙ place.1) in
+      let not_root : x ≡ 0 → ⊥ = λ z. absurd (let y : n.depth x ≡ 0 = ap n.depth z ∙ at.fits.root.1 in omega arith) in
+      subst (λ (i : ℕ). there i (w / 16) ≡ true) (sym p) (subst (λ (i : ℕ). there (n.depth x) i ≡ true) (sym r) (⊎_elim (λ (z : x ≡ 0). absurd (not_root z)) (λ (y : there (n.depth x) (n.value x) ≡ true). y) (at.fits.needed x cell.path.0).1)))
       (plus_only there (n.depth c) (n.value c) (e + 2) w h))
     where
       part : (w v t : ℕ) → t < 16 → w ≡ 16 * v + t → w / 16 ≡ v
@@ -333,13 +336,13 @@ module _ (wants : Watch) (there : ℕ → ℕ → Bool) (old new : Look) (pos : 
       pub sprout_paid : (v : View) → IsSent u2 v x s (ToPly c) → u1.spare ≤ u2.spare → Stores u1 u2 16 → IsPaid n (listed (placed n c (d + 1) (a / 2 ^ (28 - 4 * d))) c true) u0 v 1
       sprout_paid v put spare stores =
           let more : count_cells (λ y t. is_to_ply (u0.cell y t)) n.all + 1 ≤ count_cells (λ y t. is_to_ply (v.cell y t)) n.all =
-              cells_lt (λ y t. is_to_ply (u0.cell y t)) (λ y t. is_to_ply (v.cell y t)) n.all x s
-              (λ y t one lt h. dite (ℕ_discrete y x)
-                  (λ e. dite (ℕ_discrete t s)
-                      (λ f. absurd (true≢false (sym h ∙ ap₂ (λ i j. is_to_ply (u0.cell i j)) e f ∙ ap is_to_ply was)))
-                      (λ ne. ap is_to_ply (same v put y t one (λ _ f. ne f)) ∙ h))
-                  (λ ne. ap is_to_ply (same v put y t one (λ e _. ne e)) ∙ h))
-              (at.list.each x cell.path.0) cell.few.0 (ap is_to_ply was) (ap is_to_ply put.cell) in
+          cells_lt (λ y t. is_to_ply (u0.cell y t)) (λ y t. is_to_ply (v.cell y t)) n.all x s
+          (λ y t one lt h. dite (ℕ_discrete y x)
+          (λ e. dite (ℕ_discrete t s)
+          (λ f. absurd (true≢false (sym h ∙ ap₂ (λ i j. is_to_ply (u0.cell i j)) e f ∙ ap is_to_ply was)))
+          (λ ne. ap is_to_ply (same v put y t one (λ _ f. ne f)) ∙ h))
+          (λ ne. ap is_to_ply (same v put y t one (λ e _. ne e)) ∙ h))
+          (at.list.each x cell.path.0) cell.few.0 (ap is_to_ply was) (ap is_to_ply put.cell) in
           record {
             plies = omega arith;
             spare = omega (arith, more, take.spare, spare, put.spare);
@@ -348,9 +351,12 @@ module _ (wants : Watch) (there : ℕ → ℕ → Bool) (old new : Look) (pos : 
           }
 
       pub sprout_on : (v : View) → IsSent u2 v x s (ToPly c) → Beside u2 v → Kinds v → u1.spare ≤ u2.spare → Stores u1 u2 16 → (m : Paths) × IsAt wants (plus there (d + 1) (a / 2 ^ (28 - 4 * d))) old new pos m v × IsCellOf m v a c (d + 1) (a / 2 ^ (28 - 4 * (d + 1)) % 16) × IsPaid n m u0 v 1
-      sprout_on v put beside2 kv spare stores = (listed (placed n c (d + 1) (a / 2 ^ (28 - 4 * d))) c true,
-          subst (λ (i : ℕ). IsAt wants (plus there (d + 1) i) old new pos (listed (placed n c (d + 1) (a / 2 ^ (28 - 4 * d))) c true) v) (at_it c (a / 2 ^ (28 - 4 * d)) n.value) (subst (λ (i : ℕ). IsAt wants (plus there i ((placed n c (d + 1) (a / 2 ^ (28 - 4 * d))).value c)) old new pos (listed (placed n c (d + 1) (a / 2 ^ (28 - 4 * d))) c true) v) (at_it c (d + 1) n.depth) (linked_on wants there old new pos (placed n c (d + 1) (a / 2 ^ (28 - 4 * d))) u2 a x d s o c ready.0 ready.1 cell_still was_still filled place_is low v put beside2 kv)),
-          next_cell wants there old new pos (placed n c (d + 1) (a / 2 ^ (28 - 4 * d))) u2 a x d s o c ready.0 ready.1 cell_still was_still filled place_is low v put (a / 2 ^ (28 - 4 * (d + 1)) % 16) refl below, sprout_paid v put spare stores)
+      sprout_on v put beside2 kv spare stores = (
+        listed (placed n c (d + 1) (a / 2 ^ (28 - 4 * d))) c true,
+        subst (λ (i : ℕ). IsAt wants (plus there (d + 1) i) old new pos (listed (placed n c (d + 1) (a / 2 ^ (28 - 4 * d))) c true) v) (at_it c (a / 2 ^ (28 - 4 * d)) n.value) (subst (λ (i : ℕ). IsAt wants (plus there i ((placed n c (d + 1) (a / 2 ^ (28 - 4 * d))).value c)) old new pos (listed (placed n c (d + 1) (a / 2 ^ (28 - 4 * d))) c true) v) (at_it c (d + 1) n.depth) (linked_on wants there old new pos (placed n c (d + 1) (a / 2 ^ (28 - 4 * d))) u2 a x d s o c ready.0 ready.1 cell_still was_still filled place_is low v put beside2 kv)),
+        next_cell wants there old new pos (placed n c (d + 1) (a / 2 ^ (28 - 4 * d))) u2 a x d s o c ready.0 ready.1 cell_still was_still filled place_is low v put (a / 2 ^ (28 - 4 * (d + 1)) % 16) refl below,
+        sprout_paid v put spare stores,
+      )
         where
           below : IsBelow a (d + 2) (16 * (placed n c (d + 1) (a / 2 ^ (28 - 4 * d))).value c + a / 2 ^ (28 - 4 * (d + 1)) % 16)
           below =

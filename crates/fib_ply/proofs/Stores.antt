@@ -1,14 +1,12 @@
 -- What the stores of a change keep.
-use Rattle.std.proofs.Common.{◌≡◌, ℕ, zero, suc, ◌+◌, ◌*◌, ◌/◌, ◌^◌, ◌<◌, ◌≤◌, ◌⊎◌, inl, inr, ⊎_elim, Bool, true, false, true≢false, Option, Some, None, refl, sym, ap, ◌∙◌, subst, arith}
+use Rattle.std.proofs.Common.{◌≡◌, ℕ, ◌<◌, ◌⊎◌, inl, inr, ⊎_elim, true, refl, sym, ◌∙◌, subst}
 use native.Mathlib.Decide.{ℕ_discrete}
 use mathlib.Core.Logic.{dite}
 use Rattle.fib_core.specs.declared.word.Word.{Word}
-use Rattle.fib_core.specs.declared.word.Word.TheVariants.{Drop, ToPly, ToBalance, Plain, Receive, Glean, ToAdjacency}
-use Rattle.fib_joined.specs.View.{View, Goes, HasIn, IsLive, Kinds}
-use Rattle.fib_ply.specs.inner.Served.{Paths, IsChild, IsIn, IsRight, IsWalked, IsServed}
-use Rattle.fib_ply.specs.inner.Trie.{IsFilled, Fits}
+use Rattle.fib_core.specs.declared.word.Word.TheVariants.{ToPly}
+use Rattle.fib_joined.specs.View.{View, Goes, IsLive}
+use Rattle.fib_ply.specs.inner.Served.{Paths, IsChild, IsRight, IsWalked, IsServed}
 use Rattle.fib_ply.specs.inner.View.{IsSent}
-use Rattle.fib_steady.specs.Names.{IsBelow}
 
 -- a ply on which a worker may stand is live
 pub walked_live : (u : View) (x : ℕ) → IsWalked u x → IsLive u x
@@ -35,8 +33,8 @@ module _ (W : ℕ → ℕ → Type 0) (n : Paths) (u v : View) (x s : ℕ) (w : 
         (put.edges y t c (ToPly c) refl g);
     right = λ y t stands lt'. dite (ℕ_discrete y x)
         (λ same. dite (ℕ_discrete t s)
-            (λ same'. subst (λ (i : ℕ). IsRight W n i t (v.cell i t)) (sym same) (subst (λ (i : ℕ). IsRight W n x i (v.cell x i)) (sym same') (subst (λ (z : Word). IsRight W n x s z) (sym put.cell) (right (subst (λ (i : ℕ). IsWalked v i) same stands)))))
-            (λ ne. kept y t stands lt' (λ _ e. ne e)))
+        (λ same'. subst (λ (i : ℕ). IsRight W n i t (v.cell i t)) (sym same) (subst (λ (i : ℕ). IsRight W n x i (v.cell x i)) (sym same') (subst (λ (z : Word). IsRight W n x s z) (sym put.cell) (right (subst (λ (i : ℕ). IsWalked v i) same stands)))))
+        (λ ne. kept y t stands lt' (λ _ e. ne e)))
         (λ ne. kept y t stands lt' (λ e _. ne e));
   }
     where
@@ -45,8 +43,10 @@ module _ (W : ℕ → ℕ → Type 0) (n : Paths) (u v : View) (x s : ℕ) (w : 
         where
           same : v.cell y t ≡ u.cell y t
           same = put.others y t apart (walked_live v y stands)
+
           before : IsWalked u y → IsRight W n y t (v.cell y t)
           before stood = subst (λ (z : Word). IsRight W n y t z) (sym same) (ok.right y t stood lt')
+
           before_or_new : IsWalked v y → IsRight W n y t (v.cell y t)
           before_or_new (inl e) = before (inl e)
           before_or_new (inr g) = ⊎_elim

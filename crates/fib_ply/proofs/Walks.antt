@@ -1,9 +1,9 @@
 -- A walk through plies that are served reaches what is wanted.
-use Rattle.std.proofs.Common.{◌≡◌, ℕ, zero, suc, ◌+◌, ◌*◌, ◌-◌, ◌/◌, ◌%◌, ◌^◌, ◌<◌, ◌≤◌, ◌⊎◌, inl, inr, ⊎_elim, Option, Some, None, refl, sym, ap, ◌∙◌, subst, arith}
+use Rattle.std.proofs.Common.{◌≡◌, ℕ, zero, suc, ◌+◌, ◌*◌, ◌/◌, ◌%◌, ◌^◌, ◌<◌, ◌≤◌, inl, inr, Some, refl, sym, ap, ◌∙◌, subst, arith}
 use Rattle.std.proofs.lemmas.Nat.{mod_below}
 use Rattle.fib_core.specs.declared.word.Word.{Word}
 use Rattle.fib_core.specs.declared.word.Word.TheVariants.{Drop, ToPly, ToBalance, Plain, Receive, Glean, ToAdjacency}
-use Rattle.fib_joined.specs.View.{View, Goes}
+use Rattle.fib_joined.specs.View.{View}
 use Rattle.fib_ply.specs.inner.Served.{Paths, IsChild, IsIn, IsRight, IsWalked, IsServed}
 use Rattle.fib_ply.specs.inner.Trie.{next_of, walk}
 use Rattle.fib_steady.specs.Names.{IsBelow}
@@ -34,5 +34,6 @@ module _ (W : ℕ → ℕ → Type 0) (n : Paths) (u : View) (ok : IsServed W n 
       by_word s lt inside further Receive is right = absurd right
       by_word s lt inside further (Glean v) is right = absurd right
       by_word s lt inside further (ToAdjacency v) is right = absurd right
+
       at : (s : ℕ) → s < 16 → IsIn n x s a → ((c : ℕ) → n.depth c + k ≡ 8 → IsWalked u c → IsBelow a (n.depth c) (n.value c) → walk u.cell k c a ≡ Some p) → next_of (λ c. walk u.cell k c a) (u.cell x s) ≡ Some p
       at s lt inside further = by_word s lt inside further (u.cell x s) refl (ok.right x s stands lt)

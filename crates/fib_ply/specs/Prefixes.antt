@@ -1,5 +1,5 @@
 -- Sets of prefixes as a look-up by length and first bits, and which plies a set needs.
-use Rattle.std.specs.Prelude.{◌≡◌, ℕ, ◌+◌, ◌*◌, ◌/◌, ◌^◌, ◌<◌, ◌≤◌, Option, Some}
+use Rattle.std.specs.Prelude.{◌≡◌, ℕ, ◌+◌, ◌*◌, ◌/◌, ◌^◌, ◌≤◌, Option, Some}
 use Rattle.fib_serving.specs.Matches.{best_block}
 
 -- the object of the prefix of this length with these first bits

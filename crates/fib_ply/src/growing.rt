@@ -50,9 +50,7 @@ pub fn sprout<P: Objects>(on: &mut P, at: Place, addr: u32) -> Place
     let Word::ToBalance(object) = on.word(at.ply, at.slot) else {
         unreachable!()
     };
-    let Some(ply) = take(on) else {
-        unreachable!()
-    };
+    let Some(ply) = take(on) else { unreachable!() };
     fill(on, ply, object);
     put(on, at.ply, at.slot, Word::ToPly(ply));
     let depth = at.depth + 1;

@@ -1,5 +1,5 @@
 -- The table in the middle of a change.
-use Rattle.std.specs.Prelude.{◌≡◌, ℕ, zero, suc, ◌+◌, ◌*◌, ◌-◌, ◌/◌, ◌%◌, ◌^◌, ◌<◌, ◌≤◌, ◌⊎◌, Bool, true, false, cond, List, [], ◌∷◌, length, Option, Some, None, ◌==◌, ◌&&◌, ◌||◌, not, nat_lt, if◌then◌else◌}
+use Rattle.std.specs.Prelude.{◌≡◌, ℕ, zero, suc, ◌+◌, ◌*◌, ◌-◌, ◌/◌, ◌%◌, ◌^◌, ◌<◌, ◌≤◌, ◌⊎◌, Bool, true, false, cond, List, [], ◌∷◌, length, Some, None, ◌==◌, ◌&&◌, ◌||◌, not, nat_lt, if◌then◌else◌}
 use Rattle.fib_core.specs.declared.word.Word.{Word}
 use Rattle.fib_core.specs.declared.word.Word.TheVariants.{Drop, ToPly, ToBalance, Plain, Receive, Glean, ToAdjacency}
 use Rattle.fib_reach.specs.Walks.{Leads, AllDiffer}
@@ -8,7 +8,7 @@ use Rattle.fib_joined.specs.Promise.{Promise}
 use Rattle.fib_joined.specs.View.{View, Goes, Kinds, Edge, IsBalance, leads}
 use Rattle.fib_ply.specs.Prefixes.{Look, IsAnswer, Needs}
 use Rattle.fib_ply.specs.inner.View.{IsSent}
-use Rattle.fib_ply.specs.inner.Served.{Paths, IsChild, IsServed, Watch, Wanted, IsKept}
+use Rattle.fib_ply.specs.inner.Served.{Paths, IsServed, Watch, Wanted, IsKept}
 use Rattle.fib_ply.specs.inner.Trie.{Fits}
 
 -- addresses below pos are answered as after the change, the others as before it

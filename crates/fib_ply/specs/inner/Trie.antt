@@ -3,7 +3,6 @@ use Rattle.std.specs.Prelude.{◌≡◌, ℕ, zero, suc, ◌+◌, ◌*◌, ◌/�
 use Rattle.fib_core.specs.declared.word.Word.{Word}
 use Rattle.fib_core.specs.declared.word.Word.TheVariants.{Drop, ToPly, ToBalance, Plain, Receive, Glean, ToAdjacency}
 use Rattle.fib_ply.specs.inner.Served.{Paths, IsChild, IsIn}
-use Rattle.fib_steady.specs.Names.{IsBelow}
 use Rattle.fib_joined.specs.View.{View, IsStanding}
 
 -- the plies' part of the walk, with this many nibbles left
@@ -45,7 +44,7 @@ placed n c d w = record {
   depth = λ y. if y == c then d else n.depth y;
   value = λ y. if y == c then w else n.value y;
   is_in = n.is_in;
-  all = n.all
+  all = n.all;
 }
 
 -- the names with this ply in the table, or not

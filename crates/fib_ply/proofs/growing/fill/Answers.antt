@@ -1,10 +1,9 @@
-use Rattle.std.proofs.Common.{refl, subst, ap, ◌≡◌, ◌≢◌, ℕ, ◌+◌, ◌*◌, ◌<◌, ◌≤◌, ◌∙◌, sym, inl, inr, true≢false, below_more, arith}
+use Rattle.std.proofs.Common.{refl, subst, ap, ◌≡◌, ℕ, ◌∙◌, sym, inl, inr, below_more, arith}
 use Rattle.fib_core.specs.declared.word.Word.{Word}
-use Rattle.fib_core.specs.declared.word.Word.TheVariants.{Drop, ToBalance}
+use Rattle.fib_core.specs.declared.word.Word.TheVariants.{ToBalance}
 use Rattle.fib_joined.specs.Promise.{Promise, MayPut}
 use Rattle.fib_joined.specs.View.{IsLive, leads}
 use Rattle.fib_joined.proofs.Frames.{beside_none, beside_then}
-use Rattle.fib_ply.specs.inner.Change.{CanFill, Aside}
 use Rattle.fib_ply.proofs.Sprouts.{aside_may, aside_calm, aside_on, frame_put, frame_none}
 use Rattle.fib_ply.proofs.growing.fill.Goals as goal
 
@@ -49,8 +48,8 @@ loop-slot-preserved g c =
       balance = c.put.ensures.beside.balances c.args.object i.balance;
       aside = λ wants there old new pos n at fresh quiet.
           (let p = i.aside wants there old new pos n at fresh quiet in
-           let h = aside_on wants there old new pos n u c.args.ply c.loop-slot.slot c.args.object p.0 p.1 lt i.balance (λ z t l. i.beside.cells c.args.object t c.requires.balance ∙ quiet z t l) v put c.put.ensures.beside kv in
-           (h.0, h.1, λ y t is. h.2 y t is ∙ p.2 y t is));
+          let h = aside_on wants there old new pos n u c.args.ply c.loop-slot.slot c.args.object p.0 p.1 lt i.balance (λ z t l. i.beside.cells c.args.object t c.requires.balance ∙ quiet z t l) v put c.put.ensures.beside kv in
+          (h.0, h.1, λ y t is. h.2 y t is ∙ p.2 y t is));
       filled = below_more _ _ (λ t below. put.others c.args.ply t (λ _ e. absurd (omega (arith, e, below))) (inr (inl (put.held c.args.ply ∙ q.7.kind.1))) ∙ i.filled t below) put.cell;
       empty = λ t le l. put.others c.args.ply t (λ _ e. absurd (omega (arith, e, le))) (inr (inl (put.held c.args.ply ∙ q.7.kind.1))) ∙ i.empty t (omega arith) l;
       free = omega (arith, i.free, put.free);

@@ -1,4 +1,4 @@
-use Rattle.std.proofs.Common.{◌≡◌, ℕ, ◌+◌, ◌*◌, ◌<◌, ◌≤◌}
+use Rattle.std.proofs.Common.{◌≡◌, ℕ, ◌<◌, ◌≤◌}
 use Rattle.fib_core.specs.declared.word.Word.TheVariants.{Drop, ToBalance}
 use Rattle.fib_joined.specs.Frames.{Beside}
 use Rattle.fib_joined.specs.View.{IsBalance, Stores}
@@ -18,5 +18,5 @@ invariant-loop-slot g l = record {
   spare : (g.P.Objects.view l.initial.on).spare ≤ (g.P.Objects.view l.on).spare;
   stores : Stores (g.P.Objects.view l.initial.on) (g.P.Objects.view l.on) l.slot;
   frame : Frame (g.P.Objects.view l.initial.on) (g.P.Objects.view l.on);
-  promise : g.P.Objects.promise l.on ≡ g.P.Objects.promise l.initial.on
+  promise : g.P.Objects.promise l.on ≡ g.P.Objects.promise l.initial.on;
 }

@@ -1,4 +1,4 @@
-use Rattle.std.proofs.Common.{◌≡◌, ℕ, ◌+◌, ◌-◌, ◌<◌, ◌≤◌, refl, ◌∙◌, arith}
+use Rattle.std.proofs.Common.{refl, ◌∙◌, arith}
 use Rattle.fib_joined.proofs.Frames.{beside_none, beside_then}
 use Rattle.fib_ply.proofs.Sprouts.{frame_none, frame_then}
 use Rattle.fib_ply.proofs.Grown.{found_at, grows_none, grows_more, ready_more, grows_all}

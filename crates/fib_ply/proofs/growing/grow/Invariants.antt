@@ -1,4 +1,4 @@
-use Rattle.std.proofs.Common.{◌≡◌, ℕ, ◌+◌, ◌-◌, ◌<◌, ◌≤◌}
+use Rattle.std.proofs.Common.{◌≡◌, ◌+◌, ◌-◌, ◌≤◌}
 use Rattle.fib_joined.specs.Frames.{Beside}
 use Rattle.fib_ply.specs.inner.View.{Frame}
 use Rattle.fib_ply.specs.inner.Change.{IsUnderWayAt, GrowsTo}
@@ -11,7 +11,7 @@ invariant-loop-at g l = record {
   room : (l.depth ≤ 7) × (l.depth ≤ l.at.depth + (g.P.Objects.view l.on).free) × (l.depth ≤ l.at.depth + (g.P.Objects.view l.on).spare) × (l.plies ≤ l.at.depth) × (l.plies ≤ l.depth);
   beside : Beside (g.P.Objects.view l.initial.on) (g.P.Objects.view l.on);
   frame : Frame (g.P.Objects.view l.initial.on) (g.P.Objects.view l.on);
-  promise : g.P.Objects.promise l.on ≡ g.P.Objects.promise l.initial.on
+  promise : g.P.Objects.promise l.on ≡ g.P.Objects.promise l.initial.on;
 }
 
 abbrev pub decreases-loop-at : goal.decreases-loop-at

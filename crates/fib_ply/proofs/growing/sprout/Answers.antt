@@ -1,9 +1,9 @@
-use Rattle.std.proofs.Common.{ap, subst, inl, inr, ◌≡◌, ℕ, ◌+◌, ◌*◌, ◌/◌, ◌%◌, ◌^◌, ◌-◌, ◌<◌, ◌≤◌, sym, ◌∙◌, arith}
+use Rattle.std.proofs.Common.{subst, inl, inr, ℕ, sym, ◌∙◌, arith}
 use Rattle.fib_core.specs.declared.word.Word.TheVariants.{ToPly}
 use Rattle.fib_joined.specs.Promise.{Promise, MayPut}
 use Rattle.fib_joined.specs.View.{IsLive}
 use Rattle.fib_joined.proofs.Frames.{beside_then}
-use Rattle.fib_ply.proofs.Sprouts.{can_fill, object_kind, sprout_may, sprout_ply, sprout_target, sprout_kind, sprout_calm, sprout_on, sprout_paid, frame_put, frame_taken, frame_then}
+use Rattle.fib_ply.proofs.Sprouts.{can_fill, object_kind, sprout_may, sprout_ply, sprout_target, sprout_kind, sprout_calm, sprout_on, frame_put, frame_taken, frame_then}
 use Rattle.fib_ply.proofs.growing.sprout.Goals as goal
 
 pub fill-requires-clause-ready : goal.fill-requires-clause-ready
@@ -103,9 +103,9 @@ returns-clause-free g c =
 pub returns-clause-sprouted : goal.returns-clause-sprouted
 returns-clause-sprouted g c = λ wants there old new pos n at cell.
     (let p = c.args.at in
-     let u0 = g.P.Objects.view c.args.on.now in
-     let u1 = g.P.Objects.view c.take.new.on in
-     let v = g.P.Objects.view c.put.new.on in
-     let k1 = (g.met.P.Objects.sound c.take.new.on).kinds in
-     let was = sym c.word.ensures ∙ c.in-ToBalance.is in
-     sprout_on wants there old new pos n u0 u1 c.args.addr p.ply p.depth p.slot c.in-ToBalance.object c.in-Some.ply at cell was c.in-Some.ensures.some c.ranges.addr.fits c.in-Some.ensures.beside k1 (g.P.Objects.view c.fill.new.on) c.fill.ensures.aside c.fill.ensures.filled c.requires.room.0 v c.put.ensures.put c.put.ensures.beside (g.met.P.Objects.sound c.put.new.on).kinds c.fill.ensures.spare c.fill.ensures.stores)
+    let u0 = g.P.Objects.view c.args.on.now in
+    let u1 = g.P.Objects.view c.take.new.on in
+    let v = g.P.Objects.view c.put.new.on in
+    let k1 = (g.met.P.Objects.sound c.take.new.on).kinds in
+    let was = sym c.word.ensures ∙ c.in-ToBalance.is in
+    sprout_on wants there old new pos n u0 u1 c.args.addr p.ply p.depth p.slot c.in-ToBalance.object c.in-Some.ply at cell was c.in-Some.ensures.some c.ranges.addr.fits c.in-Some.ensures.beside k1 (g.P.Objects.view c.fill.new.on) c.fill.ensures.aside c.fill.ensures.filled c.requires.room.0 v c.put.ensures.put c.put.ensures.beside (g.met.P.Objects.sound c.put.new.on).kinds c.fill.ensures.spare c.fill.ensures.stores)

@@ -1,4 +1,4 @@
-use Rattle.std.proofs.Common.{◌+◌, ◌*◌, ◌/◌, ◌%◌, ◌^◌, ◌-◌, refl, sym, ◌∙◌, inl, arith}
+use Rattle.std.proofs.Common.{refl, sym, ◌∙◌, inl, arith}
 use Rattle.fib_ply.proofs.Paths.{path_begins, path_goes, path_led, path_ends, path_live, path_shallow}
 use Rattle.fib_ply.proofs.places.find.Goals as goal
 
@@ -11,9 +11,10 @@ word-requires-clause-live g c = let q = c.requires in let i = c.loop-depth.invar
 pub loop-depth-preserved : goal.loop-depth-preserved
 loop-depth-preserved g c = λ n trie.
     let i = c.loop-depth.invariant n trie in
-    let is = sym c.in-ToPly.is ∙ c.word.ensures in
-    (path_goes n (g.P.Objects.view c.args.on.now) trie c.args.addr c.loop-depth.ply c.loop-depth.depth i.0 _ refl c.in-ToPly.child is,
-     path_led n (g.P.Objects.view c.args.on.now) trie c.args.addr c.loop-depth.ply c.loop-depth.depth i.0 _ refl c.in-ToPly.child is)
+    let is = sym c.in-ToPly.is ∙ c.word.ensures in (
+      path_goes n (g.P.Objects.view c.args.on.now) trie c.args.addr c.loop-depth.ply c.loop-depth.depth i.0 _ refl c.in-ToPly.child is,
+      path_led n (g.P.Objects.view c.args.on.now) trie c.args.addr c.loop-depth.ply c.loop-depth.depth i.0 _ refl c.in-ToPly.child is,
+    )
 
 pub returns-in_default : goal.returns-in_default
 returns-in_default g c = λ n trie.

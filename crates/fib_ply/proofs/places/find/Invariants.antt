@@ -1,4 +1,3 @@
-use Rattle.std.proofs.Common.{◌≡◌}
 use Rattle.fib_ply.specs.inner.Change.{IsOnPath, IsLed}
 use Rattle.fib_ply.specs.inner.Served.{Paths}
 use Rattle.fib_ply.specs.inner.Trie.{IsTrie}

@@ -1,6 +1,7 @@
-use Rattle.std.proofs.Common.{refl, sym, ◌∙◌, ◌+◌, ◌≤◌, inl, inr, arith}
+use Rattle.std.proofs.Common.{refl, sym, subst, ◌∙◌, ◌≡◌, ℕ, ◌+◌, ◌*◌, ◌-◌, ◌^◌, ◌<◌, inl, inr, arith}
+use Rattle.std.proofs.lemmas.Nat.{shr_below}
 use Rattle.fib_joined.proofs.Frames.{beside_none, beside_then}
-use Rattle.fib_ply.proofs.Prunes.{found_leaf, prune_done, prunes_none, prunes_more, can_more, prunes_done}
+use Rattle.fib_ply.proofs.Prunes.{found_leaf, prunes_none, prunes_more, can_more, prunes_done}
 use Rattle.fib_ply.proofs.pruning.prune.Goals as goal
 
 pub loop-leaf-init : goal.loop-leaf-init
@@ -24,3 +25,9 @@ returns-else-not-needs g c = let i = c.loop-leaf.invariant in record { few = ome
 
 pub returns-after-loop-leaf : goal.returns-after-loop-leaf
 returns-after-loop-leaf g c = let i = c.loop-leaf.invariant in record { few = omega (arith, i.few); promise = i.promise; beside = i.beside; pruned = prunes_done _ c.args.addr _ _ _ _ _ _ _ (inl (omega (arith, c.loop-leaf-test.false))) i.pruned }
+
+pub needs-requires-clause-value : goal.needs-requires-clause-value
+needs-requires-clause-value g c =
+    let d = c.loop-leaf.leaf.depth in
+    let f : 4 * d + (32 - 4 * d) ≡ 32 = omega (arith, c.loop-leaf.invariant.few) in
+    shr_below c.args.addr (4 * d) (32 - 4 * d) (subst (λ (i : ℕ). c.args.addr < 2 ^ i) (sym f) c.ranges.addr.fits)

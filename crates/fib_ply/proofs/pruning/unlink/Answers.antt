@@ -1,4 +1,4 @@
-use Rattle.std.proofs.Common.{ap, subst, ℕ, ◌+◌, ◌*◌, ◌-◌, ◌/◌, ◌%◌, ◌^◌, ◌<◌, ◌≤◌, inl, inr, sym, ◌∙◌, arith}
+use Rattle.std.proofs.Common.{subst, ℕ, ◌*◌, ◌-◌, ◌/◌, ◌%◌, ◌^◌, inl, inr, sym, ◌∙◌}
 use Rattle.fib_core.specs.declared.word.Word.TheVariants.{ToBalance}
 use Rattle.fib_joined.specs.Promise.{Promise, MayPut, MayLetGo}
 use Rattle.fib_joined.specs.View.{IsLive}
@@ -110,13 +110,16 @@ returns-clause-beside g c =
 pub returns-clause-next : goal.returns-clause-next
 returns-clause-next g c = λ wants there n pruned ended.
     (let u = g.P.Objects.view c.args.on.now in
-     let look = g.S.Prefixes.look c.args.set.now in
-     let l = c.args.leaf in
-     let r = c.find_leaf.result in
-     let is = sym c.best.ensures ∙ c.unwrap-object.ensures in
-     (_, _, unlinked wants look c.args.addr u l.above l.ply l.depth l.slot there n pruned ended c.requires.deep c.requires.free c.ranges.addr.fits c.unwrap-object.result is (g.P.Objects.view c.put.new.on) (g.P.Objects.view c.let_go.new.on) c.put.ensures.put c.let_go.ensures.gone c.put.ensures.beside c.let_go.ensures.beside (g.met.P.Objects.sound c.put.new.on).kinds (g.met.P.Objects.sound c.let_go.new.on).kinds,
+    let look = g.S.Prefixes.look c.args.set.now in
+    let l = c.args.leaf in
+    let r = c.find_leaf.result in
+    let is = sym c.best.ensures ∙ c.unwrap-object.ensures in (
+      _,
+      _,
+      unlinked wants look c.args.addr u l.above l.ply l.depth l.slot there n pruned ended c.requires.deep c.requires.free c.ranges.addr.fits c.unwrap-object.result is (g.P.Objects.view c.put.new.on) (g.P.Objects.view c.let_go.new.on) c.put.ensures.put c.let_go.ensures.gone c.put.ensures.beside c.let_go.ensures.beside (g.met.P.Objects.sound c.put.new.on).kinds (g.met.P.Objects.sound c.let_go.new.on).kinds,
       ending wants look c.args.addr u l.above l.ply l.depth l.slot there n pruned ended c.requires.deep c.requires.free c.ranges.addr.fits c.unwrap-object.result is (g.P.Objects.view c.put.new.on) (g.P.Objects.view c.let_go.new.on) c.put.ensures.put c.let_go.ensures.gone c.put.ensures.beside c.let_go.ensures.beside (g.met.P.Objects.sound c.put.new.on).kinds (g.met.P.Objects.sound c.let_go.new.on).kinds r.above r.ply r.depth r.slot c.find_leaf.ensures,
-      unlink_freed wants look c.args.addr u l.above l.ply l.depth l.slot there n pruned ended c.requires.deep c.requires.free c.ranges.addr.fits c.unwrap-object.result is (g.P.Objects.view c.put.new.on) (g.P.Objects.view c.let_go.new.on) c.put.ensures.put c.let_go.ensures.gone c.put.ensures.beside c.let_go.ensures.beside (g.met.P.Objects.sound c.put.new.on).kinds (g.met.P.Objects.sound c.let_go.new.on).kinds))
+      unlink_freed wants look c.args.addr u l.above l.ply l.depth l.slot there n pruned ended c.requires.deep c.requires.free c.ranges.addr.fits c.unwrap-object.result is (g.P.Objects.view c.put.new.on) (g.P.Objects.view c.let_go.new.on) c.put.ensures.put c.let_go.ensures.gone c.put.ensures.beside c.let_go.ensures.beside (g.met.P.Objects.sound c.put.new.on).kinds (g.met.P.Objects.sound c.let_go.new.on).kinds,
+    ))
 
 pub returns-clause-higher : goal.returns-clause-higher
 returns-clause-higher g c =

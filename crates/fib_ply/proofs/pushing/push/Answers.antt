@@ -1,10 +1,8 @@
-use Rattle.std.proofs.Common.{◌≡◌, ℕ, ◌+◌, ◌*◌, ◌/◌, ◌%◌, ◌^◌, ◌-◌, ◌<◌, ◌≤◌, Some, inl, inr, Option, refl, sym, ap, ◌∙◌, subst, arith}
-use Rattle.fib_serving.specs.Matches.{best_block}
+use Rattle.std.proofs.Common.{ℕ, ◌+◌, ◌*◌, inl, inr, sym, ◌∙◌, subst}
 use Rattle.fib_joined.specs.Promise.{Promise, MayPut}
-use Rattle.fib_joined.specs.View.{View, IsLive}
+use Rattle.fib_joined.specs.View.{IsLive}
 use Rattle.fib_core.specs.declared.word.Word.TheVariants.{ToBalance}
-use Rattle.fib_ply.specs.inner.Change.{IsAt, IsCellOf, IsSpent, ahead}
-use Rattle.fib_ply.proofs.Pushes.{cell_at, best_is_one, push_may, push_spare, kind_is, calm_is, moved_on, spent_on, pos_small, pos_below, best_some, block_small}
+use Rattle.fib_ply.proofs.Pushes.{cell_at, push_may, push_spare, kind_is, calm_is, moved_on, spent_on, pos_small, pos_below, best_some, block_small}
 use Rattle.fib_ply.proofs.pushing.push.Goals as goal
 
 pub best-requires-clause-top : goal.best-requires-clause-top
@@ -92,10 +90,10 @@ returns-clause-change g c =
     let is = sym c.best.ensures ∙ c.unwrap-object.ensures in
     λ wants there old n at.
     (let cell = cell_at wants there old new c.args.addr n u at p.ply p.depth p.slot c.find-at.ensures in
-     let v = g.P.Objects.view c.put.new.on in
-     let small = pos_small wants there old new c.args.addr n u at p.ply p.depth p.slot c.unwrap-object.result cell is c.ranges.addr.fits in
-     let moved = moved_on wants there old new c.args.addr n u at p.ply p.depth p.slot c.unwrap-object.result cell is v c.put.ensures.put c.put.ensures.beside (g.met.P.Objects.sound c.put.new.on).kinds in
-     let spent = spent_on wants there old new c.args.addr n u at p.ply p.depth p.slot c.unwrap-object.result cell is v c.put.ensures.put in
+    let v = g.P.Objects.view c.put.new.on in
+    let small = pos_small wants there old new c.args.addr n u at p.ply p.depth p.slot c.unwrap-object.result cell is c.ranges.addr.fits in
+    let moved = moved_on wants there old new c.args.addr n u at p.ply p.depth p.slot c.unwrap-object.result cell is v c.put.ensures.put c.put.ensures.beside (g.met.P.Objects.sound c.put.new.on).kinds in
+    let spent = spent_on wants there old new c.args.addr n u at p.ply p.depth p.slot c.unwrap-object.result cell is v c.put.ensures.put in
     rw (c.from.ensures, small) (moved, spent))
 
 pub returns-clause-further : goal.returns-clause-further

@@ -1,4 +1,4 @@
-use Rattle.std.proofs.Common.{◌≡◌, ℕ, ◌+◌, ◌≤◌, refl, sym, ◌∙◌, arith}
+use Rattle.std.proofs.Common.{refl, sym, ◌∙◌}
 use Rattle.fib_joined.proofs.Frames.{beside_none, beside_then}
 use Rattle.fib_ply.proofs.Pushes.{spent_none, spent_then, spent_enough}
 use Rattle.fib_ply.proofs.pushing.refresh.Goals as goal

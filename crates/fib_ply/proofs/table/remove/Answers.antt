@@ -1,9 +1,8 @@
-use Rattle.std.proofs.Common.{◌≡◌, ℕ, ◌+◌, ◌*◌, ◌^◌, ◌-◌, ◌%◌, ◌/◌, ◌<◌, ◌≤◌, ap, sym, subst, ◌∙◌, arith}
-use Rattle.fib_joined.specs.Promise.{Promise}
+use Rattle.std.proofs.Common.{◌+◌, ◌*◌, ◌^◌, ◌-◌, ◌%◌, ap, sym, subst, ◌∙◌}
 use Rattle.fib_joined.proofs.Frames.{beside_then}
 use Rattle.fib_ply.specs.Prefixes.{Look}
 use Rattle.fib_ply.specs.inner.Change.{IsPromised}
-use Rattle.fib_ply.proofs.Adds.{add_starts, add_ends, from_fits, to_fits, last_below}
+use Rattle.fib_ply.proofs.Adds.{from_fits, to_fits, last_below}
 use Rattle.fib_ply.proofs.Removes.{remove_starts, remove_prunes, remove_ends}
 use Rattle.fib_ply.proofs.table.remove.Goals as goal
 
