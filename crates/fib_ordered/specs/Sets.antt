@@ -1,5 +1,5 @@
 -- A set in the order of its members' keys, seen as the list of its members, the least key first.
-use Rattle.std.specs.Prelude.{ℕ, ◌<◌, ◌&&◌, ◌==◌, List, [], ◌∷◌, Option, Some, None, filter, nat_lt, nat_le, if◌then◌else◌}
+use Rattle.std.specs.Prelude.{ℕ, ◌<◌, ◌==◌, List, [], ◌∷◌, Option, Some, None, filter, nat_lt, nat_le, if◌then◌else◌}
 use Rattle.std.specs.List.{AllByRecursion}
 
 -- the members in order, and for how many more there is room at least
@@ -17,7 +17,7 @@ abbrev pub found : {T : Type 0} → (T → ℕ) → List T → ℕ → Option T
 found rank [] key = None
 found rank (x ∷ xs) key = if rank x == key then Some x else found rank xs key
 
--- the members with lower keys, with greater keys, with that key or greater ones, and with keys from the one up to the other, which is left out
+-- the members with lower keys, with greater keys, and with that key or greater ones
 abbrev pub below : {T : Type 0} → (T → ℕ) → ℕ → List T → List T
 below rank key xs = filter (λ x. nat_lt (rank x) key) xs
 
@@ -26,9 +26,6 @@ above rank key xs = filter (λ x. nat_lt key (rank x)) xs
 
 abbrev pub from : {T : Type 0} → (T → ℕ) → ℕ → List T → List T
 from rank key xs = filter (λ x. nat_le key (rank x)) xs
-
-abbrev pub within : {T : Type 0} → (T → ℕ) → ℕ → ℕ → List T → List T
-within rank low high xs = filter (λ x. nat_le low (rank x) && nat_lt (rank x) high) xs
 
 abbrev pub first_of : {T : Type 0} → List T → Option T
 first_of [] = None

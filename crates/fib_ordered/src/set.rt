@@ -12,7 +12,7 @@ use std::marker::Model;
 const MOST: usize = 64;
 
 /// A set of members with keys of 64 bits, no two with one key. Contracts see the list of the members, the least key first, and for
-/// how many more there is room. No call takes memory but `reserve` and `within`.
+/// how many more there is room. No call takes memory but `reserve`.
 #[derive(Drop)]
 pub struct Ordered<T: Keyed> {
     /// None of them is empty.

@@ -16,3 +16,5 @@ pub mod Removes
 pub mod Rowing
 pub mod Longest
 pub mod Needing
+pub mod Rewatching
+pub mod Tables

@@ -100,7 +100,7 @@ object_some (Some q) o e = (q, refl)
 div_between : (a w m : ℕ) → w * m ≤ a → a < (w + 1) * m → a / m ≡ w
 div_between a w m low high = div-eq_of_lt-le {k = w} m low high
 
-whole_is : (a m : ℕ) → a % m ≡ 0 → a / m * m ≡ a
+pub whole_is : (a m : ℕ) → a % m ≡ 0 → a / m * m ≡ a
 whole_is a m whole = let h : m * (a / m) + a % m ≡ a = div-add-mod a m in omega (arith, h, whole)
 
 only_start : (a w k : ℕ) → a % 2 ^ k ≡ 0 → w * 2 ^ k ≤ a → a < (w + 1) * 2 ^ k → a ≡ w * 2 ^ k

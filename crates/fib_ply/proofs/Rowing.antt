@@ -28,7 +28,7 @@ same_key p q lt lt' e =
     let len : p.len ≡ q.len = omega arith in
     ap₂ (λ (b l : ℕ). let r : Prefix = record { bits = b; len = l } in r) bits len
 
-not_true : (b : Bool) → (b ≡ true → ⊥) → b ≡ false
+pub not_true : (b : Bool) → (b ≡ true → ⊥) → b ≡ false
 not_true true h = absurd (h refl)
 not_true false h = refl
 

@@ -4,6 +4,7 @@
 mod calls;
 mod growing;
 mod places;
+mod prefixes;
 mod pruning;
 mod pushing;
 mod rows;
@@ -13,6 +14,7 @@ mod table;
 pub use calls::{let_go, put, take};
 pub use growing::{fill, grow, sprout};
 pub use places::{Leaf, Place, find, find_leaf};
+pub use prefixes::PrefixTable;
 pub use pruning::{prune, unlink};
 pub use pushing::{push, refresh};
 pub use rows::{Row, Rows};

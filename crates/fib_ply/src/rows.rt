@@ -2,7 +2,7 @@
 ghost use Rattle.std.specs.Prelude.{◌≡◌, ◌≢◌, ◌<◌, ◌-◌, ◌^◌, ◌≤◌, ◌+◌, ◌*◌, ℕ, None, Some, [], IfSome, OnOk};
 ghost use Rattle.fib_addr.specs.Prefixes.{Prefix as PrefixValue, IsPrefix};
 ghost use Rattle.fib_serving.specs.Matches.{added, look_of, removed};
-ghost use Rattle.fib_ply.specs.Rows.{held};
+ghost use Rattle.fib_ply.specs.Rows.{ArePrefixes, held};
 
 use crate::set::Prefixes;
 use fib_addr::{Addr, Prefix};
@@ -80,6 +80,13 @@ impl Rows {
             Some(row) => Some(row.object),
             None => None,
         }
+    }
+
+    /// Tells contracts that each row has a prefix.
+    pub fn are_prefixes(&self)
+        ensures { ArePrefixes self.now.members }
+    {
+        let _ = &self.rows;
     }
 
     /// Takes a prefix in, for which there must be room.
