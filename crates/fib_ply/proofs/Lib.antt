@@ -18,3 +18,4 @@ pub mod Longest
 pub mod Needing
 pub mod Rewatching
 pub mod Tables
+pub mod Laws

@@ -6,7 +6,7 @@ ghost use Rattle.fib_joined.specs.Promise.{IsBegun};
 ghost use Rattle.fib_joined.specs.View.{IsBalance};
 ghost use Rattle.fib_serving.specs.Matches.{FitsVersions, IsSometime, added, removed};
 ghost use Rattle.fib_steady.specs.Aims.{IsLasting};
-ghost use Rattle.fib_ply.specs.Tables.{Stands, object_in};
+ghost use Rattle.fib_ply.specs.Tables.{LeadsAll, Stands, object_in};
 
 use crate::rows::Rows;
 use crate::table::{add, remove};
@@ -81,6 +81,7 @@ impl PrefixTable {
         ensures plies { (self.old.plies ≤ self.new.plies) × (self.new.plies ≤ self.old.plies + 7) }
         ensures room { self.old.rows.spare ≤ self.new.rows.spare + 1 }
         ensures stands { Stands (P.promise on.new) self.new (P.view on.new) }
+        ensures leads { LeadsAll self.new (P.view on.new) }
         ensures fits { IsBegun (P.promise on.new) → FitsVersions (P.promise on.new).versions (object_in self.new) }
         ensures stores { ((P.view on.old).stored ≤ (P.view on.new).stored) × (result ≡ ((P.view on.new).stored - (P.view on.old).stored) % 2 ^ 64) }
         ensures promise { P.promise on.new ≡ P.promise on.old }
@@ -108,6 +109,7 @@ impl PrefixTable {
         ensures plies { (self.new.plies ≤ self.old.plies) × (self.old.plies ≤ self.new.plies + 7) }
         ensures room { self.old.rows.spare ≤ self.new.rows.spare }
         ensures stands { Stands (P.promise on.new) self.new (P.view on.new) }
+        ensures leads { LeadsAll self.new (P.view on.new) }
         ensures fits { IsBegun (P.promise on.new) → FitsVersions (P.promise on.new).versions (object_in self.new) }
         ensures stores { ((P.view on.old).stored ≤ (P.view on.new).stored) × (result ≡ ((P.view on.new).stored - (P.view on.old).stored) % 2 ^ 64) }
         ensures promise { P.promise on.new ≡ P.promise on.old }
