@@ -1,0 +1,4 @@
+pub mod Served
+pub mod View
+pub mod Trie
+pub mod Change

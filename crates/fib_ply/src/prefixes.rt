@@ -1,0 +1,127 @@
+// A prefix table with its own set of prefixes.
+ghost use Rattle.std.specs.Prelude.{◌≡◌, ℕ, ◌+◌, ◌-◌, ◌*◌, ◌^◌, ◌%◌, ◌<◌, ◌≤◌, None, [], OnOk};
+ghost use Rattle.fib_core.specs.declared.word.Word.TheVariants.{Drop};
+ghost use Rattle.fib_joined.specs.Frames.{Beside};
+ghost use Rattle.fib_joined.specs.Promise.{IsBegun};
+ghost use Rattle.fib_joined.specs.View.{IsBalance};
+ghost use Rattle.fib_serving.specs.Matches.{FitsVersions, IsSometime, added, removed};
+ghost use Rattle.fib_steady.specs.Aims.{IsLasting};
+ghost use Rattle.fib_ply.specs.Tables.{LeadsAll, Stands, object_in};
+
+use crate::rows::Rows;
+use crate::table::{add, remove};
+use fib_addr::Prefix;
+use fib_joined::Objects;
+use std::alloc::{AllocError, Global};
+use std::marker::Model;
+
+/// Prefixes with the numbers of their balances, and how many plies stand for them. The plies themselves lie in the plane, the root at object 0.
+#[derive(Drop)]
+pub struct PrefixTable {
+    rows: Rows,
+    plies: u32,
+}
+
+impl Model for PrefixTable {
+    ghost use Rattle.fib_ply.specs.Tables.{Table};
+
+    ghost Value = { Table };
+
+    ghost view = { λ s. record { rows = s.rows; plies = s.plies } };
+}
+
+impl PrefixTable {
+    /// No prefix yet, and the root alone.
+    pub fn new(alloc: Global) -> PrefixTable
+        ensures members { result.rows.members ≡ [] }
+        ensures plies { result.plies ≡ 1 }
+    {
+        PrefixTable {
+            rows: Rows::new(alloc),
+            plies: 1,
+        }
+    }
+
+    /// Room for that many prefixes more.
+    pub fn reserve(&mut self, alloc: Global, more: usize) -> Result<(), AllocError>
+        ensures members { self.new.rows.members ≡ self.old.rows.members }
+        ensures plies { self.new.plies ≡ self.old.plies }
+        ensures room { OnOk result (more ≤ self.new.rows.spare) }
+        ensures spare { self.old.rows.spare ≤ self.new.rows.spare }
+    {
+        self.rows.reserve(alloc, more)
+    }
+
+    /// How many plies stand for the prefixes, the root too.
+    pub fn plies(&self) -> u32
+        ensures { result ≡ self.now.plies }
+    {
+        self.plies
+    }
+
+    /// The balance of a prefix.
+    pub fn object(&self, prefix: Prefix) -> Option<u32>
+        ensures { result ≡ object_in self.now prefix }
+    {
+        self.rows.find(prefix)
+    }
+
+    /// Puts a prefix into the table, which leads to that balance. Answers how many stores there were.
+    pub fn add<P: Objects>(&mut self, on: &mut P, prefix: Prefix, object: u32) -> u64
+        requires stands { Stands (P.promise on.old) self.old (P.view on.old) }
+        requires fits { IsBegun (P.promise on.old) → FitsVersions (P.promise on.old).versions (object_in self.old) }
+        requires prefix { 1 ≤ prefix.len }
+        requires absent { object_in self.old prefix ≡ None }
+        requires sometime { IsBegun (P.promise on.old) → IsSometime (P.promise on.old).versions prefix }
+        requires balance { IsBalance (P.view on.old) object × ((P.promise on.old).applied ≡ 0 → (t : ℕ) → t < 16 → (P.view on.old).cell object t ≡ Drop) }
+        requires free { 7 ≤ (P.view on.old).free }
+        requires spare { 16 * (self.old.plies + 7) ≤ (P.view on.old).spare }
+        requires room { 0 < self.old.rows.spare }
+        ensures object { object_in self.new ≡ added (object_in self.old) prefix object }
+        ensures plies { (self.old.plies ≤ self.new.plies) × (self.new.plies ≤ self.old.plies + 7) }
+        ensures room { self.old.rows.spare ≤ self.new.rows.spare + 1 }
+        ensures stands { Stands (P.promise on.new) self.new (P.view on.new) }
+        ensures leads { LeadsAll self.new (P.view on.new) }
+        ensures fits { IsBegun (P.promise on.new) → FitsVersions (P.promise on.new).versions (object_in self.new) }
+        ensures stores { ((P.view on.old).stored ≤ (P.view on.new).stored) × (result ≡ ((P.view on.new).stored - (P.view on.old).stored) % 2 ^ 64) }
+        ensures promise { P.promise on.new ≡ P.promise on.old }
+        ensures beside { Beside (P.view on.old) (P.view on.new) }
+    {
+        self.rows.are_prefixes();
+        let before = on.stored();
+        let _spare = on.spare();
+        let len = u32::from(prefix.len());
+        let top = prefix.bits().0 >> (32 - len);
+        let plies = add(&mut self.rows, on, len, top, object);
+        self.rows.are_prefixes();
+        self.plies += plies;
+        on.stored().wrapping_sub(before)
+    }
+
+    /// Takes a prefix out of the table. Answers how many stores there were.
+    pub fn remove<P: Objects>(&mut self, on: &mut P, prefix: Prefix) -> u64
+        requires stands { Stands (P.promise on.old) self.old (P.view on.old) }
+        requires fits { IsBegun (P.promise on.old) → FitsVersions (P.promise on.old).versions (object_in self.old) }
+        requires prefix { 1 ≤ prefix.len }
+        requires leaves { IsBegun (P.promise on.old) → IsLasting (P.promise on.old).versions prefix → ⊥ }
+        requires spare { 16 * self.old.plies ≤ (P.view on.old).spare }
+        ensures object { object_in self.new ≡ removed (object_in self.old) prefix }
+        ensures plies { (self.new.plies ≤ self.old.plies) × (self.old.plies ≤ self.new.plies + 7) }
+        ensures room { self.old.rows.spare ≤ self.new.rows.spare }
+        ensures stands { Stands (P.promise on.new) self.new (P.view on.new) }
+        ensures leads { LeadsAll self.new (P.view on.new) }
+        ensures fits { IsBegun (P.promise on.new) → FitsVersions (P.promise on.new).versions (object_in self.new) }
+        ensures stores { ((P.view on.old).stored ≤ (P.view on.new).stored) × (result ≡ ((P.view on.new).stored - (P.view on.old).stored) % 2 ^ 64) }
+        ensures promise { P.promise on.new ≡ P.promise on.old }
+        ensures beside { Beside (P.view on.old) (P.view on.new) }
+    {
+        self.rows.are_prefixes();
+        let before = on.stored();
+        let len = u32::from(prefix.len());
+        let top = prefix.bits().0 >> (32 - len);
+        let plies = remove(&mut self.rows, on, len, top);
+        self.rows.are_prefixes();
+        self.plies -= plies;
+        on.stored().wrapping_sub(before)
+    }
+}
