@@ -1,6 +1,5 @@
 use Rattle.std.proofs.Common.{sym, subst}
 use Rattle.fib_board.specs.Boards.{Board}
-use Rattle.fib_plainboard.specs.Passes.{pass_of}
 use Rattle.fib_plainboard.proofs.Calls as calls
 use Rattle.fib_plainboard.specs.Passes.{IsOnItsWay}
 use Rattle.fib_plainboard.proofs.plain_board.PlainBoard.hop.Goals as goal
@@ -34,4 +33,3 @@ returns-clause-ended c =
     let on : IsOnItsWay c.self.inside.memory c.args.worker = subst (λ (p : Board). IsOnItsWay p c.args.worker) (sym c.self.view_is) c.requires in
     calls.hop_ended c.self.inside.words.items c.self.inside.memory c.self.invariant.0 c.self.inside.objects c.self.inside.workers c.self.inside.passes c.self.invariant.1 c.args.worker on.0 on.1 c.running_pass.result c.running_pass.ensures on.2
     c.hopped-pass.result c.hop.new.self c.hop.ensures c.hopped-pass.ensures.same c.hopped-pass.ensures.next c.end-end.result c.end-end.ensures
-
