@@ -5,3 +5,4 @@ pub mod Passing
 pub mod Hopping
 pub mod Ending
 pub mod Calls
+pub mod Filling
