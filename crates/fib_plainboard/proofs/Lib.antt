@@ -6,3 +6,4 @@ pub mod Hopping
 pub mod Ending
 pub mod Calls
 pub mod Filling
+pub mod Freshly
