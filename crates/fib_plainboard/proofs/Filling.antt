@@ -107,6 +107,12 @@ set_cases cells k j w = dite (ℕ_discrete j k)
     le_of : (k < length cells → ⊥) → length cells ≤ k
     le_of past = omega arith
 
+pub set_there_is : (cells : List ℕ) (k w : ℕ) → k < length cells → slice_index (slice_set cells k w) k ≡ w
+set_there_is cells k w lt = get_or-set_same cells k w 0 lt
+
+pub set_else : (cells : List ℕ) (k j w : ℕ) → j ≢ k → slice_index (slice_set cells k w) j ≡ slice_index cells j
+set_else cells k j w ne = get_or-set_other cells k j w 0 ne
+
 -- walks over such cells drop
 module _ (f : Forest) (cells : List ℕ) (all : (k : ℕ) → Fits f (owner k) (decoded (slice_index cells k))) where
   abbrev IsCalm : Place → Type 0
@@ -198,7 +204,7 @@ module _ (f : Forest) (ok : IsForest f) (u : Union) (h : IsFilled f u) where
       (other : decoded (slice_index u.cells k) ≢ w) (formed : (s : ℕ) → s < 16 → HasForm w s (word_at u.cells (value_of w) s))
       (linked : (c : ℕ) → w ≡ words.ToPly c → owner k ≢ 0 → LeadsNow u.cells (owner k))
       (kept : (c : ℕ) → decoded (slice_index u.cells k) ≡ words.ToPly c → ⊥) where
-    back : decoded (encoded w) ≡ w
+    pub back : decoded (encoded w) ≡ w
     back = decoded_encoded w (roomy f (owner k) w ok.part ok.few fits)
 
     leads : target (encoded w) ≡ value_of w
@@ -266,7 +272,7 @@ module _ (f : Forest) (ok : IsForest f) (u : Union) (h : IsFilled f u) where
     abbrev Mine : Control
     Mine = as_control b
 
-    then_fits : (j : ℕ) → Fits f (owner j) (decoded (slice_index (slice_set u.cells k (encoded w)) j))
+    pub then_fits : (j : ℕ) → Fits f (owner j) (decoded (slice_index (slice_set u.cells k (encoded w)) j))
     then_fits j = ⊎_elim
         (λ (e : slice_index (slice_set u.cells k (encoded w)) j ≡ slice_index u.cells j). subst (λ n. Fits f (owner j) (decoded n)) (sym e) (h.found j))
         (λ (e : (j ≡ k) × (slice_index (slice_set u.cells k (encoded w)) j ≡ encoded w)). subst (λ (x : ℕ × ℕ). Fits f (owner x.0) (decoded x.1)) (λ i. (sym e.0 i, sym e.1 i)) (subst (Fits f (owner k)) (sym back) fits))

@@ -1,5 +1,5 @@
 -- The stores that fill a board for the fresh tables: each is good, and after the last the cells stand for these tables.
-use Rattle.std.proofs.Common.{◌≡◌, ◌≢◌, ◌⊎◌, inl, inr, ℕ, zero, suc, ◌+◌, ◌*◌, ◌/◌, ◌<◌, ◌≤◌, true, false, List, [], ◌∷◌, length, refl, sym, ap, ◌∙◌, subst, arith}
+use Rattle.std.proofs.Common.{◌≡◌, ◌≢◌, ◌⊎◌, inl, inr, ℕ, zero, suc, ◌+◌, ◌*◌, ◌/◌, ◌%◌, ◌<◌, ◌≤◌, true, false, List, [], ◌∷◌, length, refl, sym, ap, ◌∙◌, subst, arith}
 use Rattle.std.specs.Prelude.{Bool, Contains, slice_index, ◌==◌, ◌&&◌, nat_lt, if◌then◌else◌}
 use Rattle.std.specs.Set.{is_member}
 use Rattle.std.proofs.lemmas.Bool.{eqb-true, ltb-true}
@@ -7,7 +7,7 @@ use Rattle.std.proofs.lemmas.Bool.Decides.{nat_tests}
 use Rattle.std.proofs.lemmas.Map.Made.{is_member-Decides}
 use Rattle.fib_list.proofs.Booleans.{and_both}
 use Rattle.fib_list.proofs.Lists.{either}
-use Rattle.fib_addr.specs.Prefixes.{Prefix, same_prefix}
+use Rattle.fib_addr.specs.Prefixes.{IsPrefix, Prefix, same_prefix, size_of}
 use Rattle.fib_buckets.specs.Shares.{buckets}
 use Rattle.fib_addr.proofs.PrefixLaws.{same_prefix-Decides}
 use Rattle.fib_resolve.specs.Tables.{fresh}
@@ -24,7 +24,7 @@ use Rattle.fib_core.specs.Walk.{word_at}
 use Rattle.fib_core.specs.StandsFor.{IsCounted, StandsFor, Thing, adjacency_of, balance_of, ply_of, thing_word}
 use Rattle.fib_plainboard.specs.inner.Fresh.{after_stores, all_below, all_in, entry_at, entry_stands, holds_all, is_good, number_of, number_stands, ply_at, ply_stands, same_word}
 
-all_good : all_below 254 is_good ≡ true
+pub all_good : all_below 254 is_good ≡ true
 unfolding after_stores
 all_good = refl
 
@@ -113,6 +113,25 @@ module _ (e : Prefix) (there : Contains (entries fresh) e) where
 
   entry_holds : holds_all (balance_of e) ≡ true
   entry_holds = (and_both (same_prefix (entry_at (number_of (balance_of e))) e) (holds_all (balance_of e)) more_facts.1).1
+
+abbrev is_whole : ℕ → Bool
+is_whole n = nat_lt (entry_at n).len 33 && (nat_lt (entry_at n).bits 4294967296 && ((entry_at n).bits % size_of (entry_at n).len == 0))
+
+whole_entries : all_below 20 is_whole ≡ true
+whole_entries = refl
+
+pub entries_are_prefixes : (e : Prefix) → Contains (entries fresh) e → IsPrefix e
+entries_are_prefixes e there = subst IsPrefix (entry_back e there) (whole (number_of (balance_of e)) (entry_low e there).1)
+  where
+    whole : (n : ℕ) → n < 20 → IsPrefix (entry_at n)
+    whole n lt =
+        let one = and_both (nat_lt (entry_at n).len 33) (nat_lt (entry_at n).bits 4294967296 && ((entry_at n).bits % size_of (entry_at n).len == 0)) (in_range 20 is_whole n whole_entries lt) in
+        let two = and_both (nat_lt (entry_at n).bits 4294967296) ((entry_at n).bits % size_of (entry_at n).len == 0) one.1 in
+        record {
+          short = (let l = ltb-true (entry_at n).len 33 one.0 in omega arith);
+          fits = (let l = ltb-true (entry_at n).bits 4294967296 two.0 in omega arith);
+          cleared = eqb-true ((entry_at n).bits % size_of (entry_at n).len) 0 two.1;
+        }
 
 none_there : (x : Adjacency) → Contains (adjacencies fresh) x → ⊥
 none_there x there = (let q : Contains [] x = subst (λ xs. Contains xs x) no_adjacency there in absurd (let lt = q.1 in let bad : ⊥ = omega arith in bad))

@@ -7,3 +7,4 @@ pub mod Ending
 pub mod Calls
 pub mod Filling
 pub mod Freshly
+pub mod Fills

@@ -1,4 +1,5 @@
 pub mod Filled
+pub mod Filling
 pub mod Fresh
 pub mod Reads
 pub mod Sits

@@ -13,4 +13,6 @@ mod running;
 pub use plain_board::PlainBoard;
 
 #[cfg(test)]
+mod standing;
+#[cfg(test)]
 mod tests;

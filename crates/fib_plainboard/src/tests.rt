@@ -1,9 +1,10 @@
 // Each public call.
 use super::*;
+use crate::standing::filled_board;
 use fib_addr::Addr;
 use fib_board::Board;
 use fib_core::{Record, Version, Word};
-use fib_resolve::End;
+use fib_resolve::{End, Tables};
 use std::test::Fail;
 
 #[test]
@@ -35,5 +36,35 @@ fn a_pass_on_a_fresh_board(rt: HostRuntime) -> Result<(), Fail> {
     assert!(rt; !board.running(1));
     assert_eq!(rt; board.scan(1), 2);
     assert_eq!(rt; board.passes_left(1), 9_223_372_036_854_775_806);
+    Ok(())
+}
+
+#[test]
+fn a_change_beneath_a_pass(rt: HostRuntime) -> Result<(), Fail> {
+    let mut board = filled_board(rt.alloc())?;
+    let tables = Tables::fresh(rt.alloc());
+    board.begin_version(&tables);
+    assert_eq!(rt;
+        board.version(),
+        Version {
+            settled: 0,
+            applied: 1
+        }
+    );
+    assert_eq!(rt; board.load(0, 0), Word::ToPly(1));
+    board.begin(0, Addr(0x0700_0000), 5);
+    if board.hop(0).is_some() {
+        return Err(Fail::from("no edge to the ply"));
+    }
+    assert_eq!(rt; board.scan(0), 1);
+    if board.hop(0).is_some() {
+        return Err(Fail::from("no edge to the balance"));
+    }
+    let end = board.hop(0).ok_or("an edge")?;
+    assert_eq!(rt; end, End::Drop);
+    let record = board.end(0);
+    assert_eq!(rt; record.lo, board.version());
+    board.settle_version();
+    assert_eq!(rt; board.version(), Version::settled_at(1));
     Ok(())
 }

@@ -1,0 +1,115 @@
+// A board that stands for the fresh tables, for tests.
+ghost use Rattle.std.specs.Prelude.{IfOk, ◌+◌, ◌<◌, ◌≡◌};
+ghost use Rattle.fib_plainboard.specs.inner.Filling.{IsFilling, IsReady};
+ghost use Rattle.fib_plainboard.specs.inner.Fresh.{cell_at, last_cell as last_of, last_word as last_said, link_cell as link_of, word_of_store};
+
+use super::*;
+use fib_board::Board;
+use fib_core::Word;
+use std::alloc::Global;
+use std::test::Fail;
+
+// Where the ply in that object is linked.
+fn link_cell(object: u32) -> u32
+    requires { (0 < object) × (object < 64) }
+    ensures { result ≡ link_of object }
+{
+    if object == 1 {
+        0
+    } else if object == 8 {
+        15
+    } else if object < 8 {
+        16 * (object - 1)
+    } else {
+        16 * (object - 1) + 15
+    }
+}
+
+// The last stores: the two longest entries, and the root's cells.
+fn last_cell(store: u32) -> u32
+    ensures { result ≡ last_of store }
+{
+    if store == 0 {
+        112
+    } else if store == 1 {
+        239
+    } else {
+        store - 1
+    }
+}
+
+fn last_word(store: u32) -> Word
+    ensures { result ≡ last_said store }
+{
+    if store == 0 {
+        Word::ToBalance(16)
+    } else if store == 1 {
+        Word::ToBalance(19)
+    } else if store == 15 {
+        Word::ToBalance(17)
+    } else {
+        Word::ToBalance(15)
+    }
+}
+
+// The cell of that store, of 254, and its word: each ply is filled, and then linked.
+fn cell(store: u32) -> u32
+    requires { store < 254 }
+    ensures { result ≡ cell_at store }
+{
+    if store < 238 {
+        let object = store / 17 + 1;
+        let slot = store % 17;
+        if slot < 16 {
+            16 * object + slot
+        } else {
+            link_cell(object)
+        }
+    } else {
+        last_cell(store - 238)
+    }
+}
+
+fn word(store: u32) -> Word
+    requires { store < 254 }
+    ensures { result ≡ word_of_store store }
+{
+    if store < 238 {
+        let object = store / 17 + 1;
+        if store % 17 < 16 {
+            if object < 8 {
+                Word::ToBalance(15)
+            } else {
+                Word::ToBalance(18)
+            }
+        } else {
+            Word::ToPly(object)
+        }
+    } else {
+        last_word(store - 238)
+    }
+}
+
+fn store_one(board: &mut PlainBoard, store: u32)
+    requires { (store < 254) × IsFilling store board.old }
+    ensures { IsFilling (store + 1) board.new }
+{
+    let cell = cell(store);
+    board.store(cell / 16, cell % 16, word(store));
+}
+
+/// A board of 64 objects and one worker whose cells stand for the fresh tables.
+pub fn filled_board(alloc: Global) -> Result<PlainBoard, Fail>
+    ensures { IfOk result (λ b. IsReady b) }
+{
+    let mut board = PlainBoard::new(alloc, 64, 1)?;
+    for store in 0..254 {
+        store_one(&mut board, store);
+    }
+    let word = board.scan(0);
+    if word % 2 == 0 {
+        Ok(board)
+    } else {
+        Err(Fail::from("a pass runs"))
+    }
+}
