@@ -15,11 +15,11 @@ use Rattle.fib_union.specs.Marks.{Mark, all_passed, is_even, looked, unseen}
 use Rattle.fib_union.specs.Unions.{owner}
 use Rattle.fib_core.specs.declared.word.Word.{Word}
 use Rattle.fib_core.specs.declared.word.Word.TheVariants as words
-use Rattle.fib_core.specs.Words.{decoded, encoded, goes, is_edge, tag_of, value_of}
+use Rattle.fib_core.specs.Words.{decoded, encoded, goes, is_edge, tag_of, target, value_of}
 use Rattle.fib_core.specs.Walk.{word_at}
 use Rattle.fib_core.specs.StandsFor.{Stands}
-use Rattle.fib_core.specs.Union.{AreEdges, Goes, HasForm, IsBucketWord, IsPlyWord, Retired, Union, must_retire, retire_if, scan_retired, scanned, stored}
-use Rattle.fib_core.proofs.Numbers.{decoded_encoded, decoded-zero, zeros}
+use Rattle.fib_core.specs.Union.{AnyOf, AreEdges, Goes, HasForm, IsBucketWord, IsPlyWord, Retired, Union, must_retire, retire_if, scan_retired, scanned, stored}
+use Rattle.fib_core.proofs.Numbers.{decoded_encoded, goes-zero, target_of}
 use Rattle.fib_core.proofs.Unions.{goes_stored}
 use Rattle.fib_lawful.specs.State.{Log, begun}
 use Rattle.fib_lawful.proofs.Begins.{drop_at, falses, length_zeros, no_goes}
@@ -32,7 +32,7 @@ use Rattle.fib_plainboard.specs.inner.Filled.{Fits, Forest, IsFilled, IsForest, 
 use Rattle.fib_plainboard.specs.inner.Fresh.{after_stores, all_below, cell_at, depth_of, fits_by, forest, is_good, is_ply_word, link_cell, number_of, same_word, word_of_store}
 use Rattle.fib_plainboard.specs.inner.Filling.{IsFilling, IsReady}
 use Rattle.fib_plainboard.proofs.Filling as filling
-use Rattle.fib_plainboard.proofs.Freshly.{all_good, entries_are_prefixes, in_range, same_is, stand_for_fresh}
+use Rattle.fib_plainboard.proofs.Freshly.{all_good, entries_are_prefixes, in_range, none_to_twenty, same_is, stand_for_fresh}
 
 is_forest : IsForest forest
 is_forest = record { part = omega arith; few = omega arith; root = refl; low = λ x lt. low x lt }
@@ -237,6 +237,12 @@ none_left found (r ∷ rs) even all =
     passes : all_passed (looked 0 found (unseen ∷ [])) ≡ true
     passes = rw even refl
 
+-- an edge lies in a cell that there is
+in_range_of : (cells : List ℕ) (j v : ℕ) → goes v ≡ true → slice_index cells j ≡ v → j < length cells
+in_range_of [] j v going is = absurd (false≢true (sym goes-zero ∙ ap goes is ∙ going))
+in_range_of (x ∷ xs) zero v going is = omega arith
+in_range_of (x ∷ xs) (suc j) v going is = let lt = in_range_of xs j v going is in omega arith
+
 pub ready : (b c : Board) (found : ℕ) → IsFilling 254 b → is_even found ≡ true → c ≡ board_scanned 0 found b → IsReady c
 ready b c found s even is = subst IsReady (sym is) (record {
   rest = ap (λ (d : Board). record d { union = scanned b.union 0 found; stored = b.stored }) s.rest;
@@ -246,30 +252,16 @@ ready b c found s even is = subst IsReady (sym is) (record {
     quiet = none_left found b.union.retired even s.marks;
     stands = stand_for_fresh b.union.cells s.long s.says;
   };
+  named = stand_for_fresh b.union.cells s.long s.says;
+  long = s.long;
+  free = none_to_free;
 })
+  where
+    none_to_free : (j v : ℕ) → Goes (scanned b.union 0 found) j v → target v ≡ 20 → ⊥
+    none_to_free j v (going, inl is) e = none_to_twenty j (subst (λ n. j < n) s.long (in_range_of b.union.cells j v going is)) (ap value_of (sym (s.says j (subst (λ n. j < n) s.long (in_range_of b.union.cells j v going is))) ∙ ap decoded is) ∙ sym (target_of v (decoded v) refl) ∙ e)
+    none_to_free j v (going, inr a) e = absurd (subst (AnyOf (λ (r : Retired). (r.cell ≡ j) × (r.word ≡ v))) (none_left found b.union.retired even s.marks) a)
 
 pub stored_then : (i : ℕ) → i < 254 → (b c : Board) → IsFilling i b → c ≡ board_stored b (cell_at i) (word_of_store i) → IsFilling (i + 1) c
 stored_then i lt b c s is =
     let next : suc i ≡ i + 1 = omega arith in
     subst (λ (n : ℕ). IsFilling n c) next (subst (IsFilling (suc i)) (sym is) (stored_is i lt b s))
-
--- a change may begin then
-pub ready_begins : (b : Board) → IsReady b → MayBegin b fresh
-ready_begins b r =
-    let none : b.log.version.applied ≡ 0 = ap (λ (c : Board). c.log.version.applied) r.rest in
-    record { room = omega arith; sound = sound_fresh; first = λ z. r.stands }
-
--- and be settled, where only passes went on and were looked at since
-looked_stands : (u : Union) (n found : ℕ) → Stands u fresh → Stands (scanned u n found) fresh
-looked_stands u n found s = record { names = s.names; prefixes = s.prefixes; quiet = ap (scan_retired n found) s.quiet; stands = s.stands }
-
-pub ready_settles : (b c : Board) (found : ℕ) (next : Tables) → IsReady b → next ≡ fresh → c.union ≡ scanned b.union 0 found → c.log ≡ begun b.log next → MaySettle c
-ready_settles b c found next r same union log =
-    let first : b.log ≡ (fresh_plain 64 1).log = ap (λ (d : Board). d.log) r.rest in
-    let now : c.log ≡ begun (fresh_plain 64 1).log fresh = log ∙ (λ i. begun (first i) (same i)) in
-    record {
-      tables = fresh;
-      held = subst (λ (l : Log). slice_get l.history l.version.applied ≡ Some fresh) (sym now) refl;
-      sound = sound_fresh;
-      stands = subst (λ (u : Union). Stands u fresh) (sym union) (looked_stands b.union 0 found r.stands);
-    }

@@ -1,8 +1,8 @@
 -- The stores that fill a board for the fresh tables: each is good, and after the last the cells stand for these tables.
 use Rattle.std.proofs.Common.{◌≡◌, ◌≢◌, ◌⊎◌, inl, inr, ℕ, zero, suc, ◌+◌, ◌*◌, ◌/◌, ◌%◌, ◌<◌, ◌≤◌, true, false, List, [], ◌∷◌, length, refl, sym, ap, ◌∙◌, subst, arith}
-use Rattle.std.specs.Prelude.{Bool, Contains, slice_index, ◌==◌, ◌&&◌, nat_lt, if◌then◌else◌}
+use Rattle.std.specs.Prelude.{Bool, Contains, not, slice_index, ◌==◌, ◌&&◌, nat_lt, if◌then◌else◌}
 use Rattle.std.specs.Set.{is_member}
-use Rattle.std.proofs.lemmas.Bool.{eqb-true, ltb-true}
+use Rattle.std.proofs.lemmas.Bool.{eq-eqb, eqb-true, false≢true, ltb-true}
 use Rattle.std.proofs.lemmas.Bool.Decides.{nat_tests}
 use Rattle.std.proofs.lemmas.Map.Made.{is_member-Decides}
 use Rattle.fib_list.proofs.Booleans.{and_both}
@@ -39,6 +39,14 @@ entries_stand = refl
 numbers_stand : all_below 64 number_stands ≡ true
 unfolding after_stores plies entries pairs all_pairs base_pairs chosen best_pair
 numbers_stand = refl
+
+-- no word leads to object 20
+abbrev is_elsewhere : ℕ → Bool
+is_elsewhere k = not (value_of (after_stores 254 k) == 20)
+
+elsewhere : all_below 1024 is_elsewhere ≡ true
+unfolding after_stores
+elsewhere = refl
 
 no_adjacency : adjacencies fresh ≡ []
 unfolding adjacencies entries pairs all_pairs base_pairs chosen best_pair
@@ -83,6 +91,13 @@ drop_is (words.ToBalance o) e = absurd (omega (arith, e))
 drop_is (words.ToAdjacency o) e = absurd (omega (arith, e))
 drop_is (words.Plain n) e = absurd (omega (arith, e))
 
+pub none_to_twenty : (k : ℕ) → k < 1024 → value_of (after_stores 254 k) ≡ 20 → ⊥
+none_to_twenty k lt is = by_test (value_of (after_stores 254 k) == 20) (in_range 1024 is_elsewhere k elsewhere lt) (eq-eqb (value_of (after_stores 254 k)) 20 is)
+  where
+    by_test : (b : Bool) → not b ≡ true → b ≡ true → ⊥
+    by_test true e is = false≢true e
+    by_test false e is = false≢true is
+
 -- the facts on a ply and on an entry
 module _ (p : Prefix) (there : Contains (plies fresh) p) where
   ply_facts : (nat_lt (number_of (ply_of p)) 15 ≡ true) × (same_prefix (ply_at (number_of (ply_of p))) p && holds_all (ply_of p) ≡ true)
@@ -105,7 +120,7 @@ module _ (e : Prefix) (there : Contains (entries fresh) e) where
   more_facts : (nat_lt (number_of (balance_of e)) 20 ≡ true) × (same_prefix (entry_at (number_of (balance_of e))) e && holds_all (balance_of e) ≡ true)
   more_facts = and_both (nat_lt (number_of (balance_of e)) 20) (same_prefix (entry_at (number_of (balance_of e))) e && holds_all (balance_of e)) entry_facts.1
 
-  entry_low : (14 < number_of (balance_of e)) × (number_of (balance_of e) < 20)
+  pub entry_low : (14 < number_of (balance_of e)) × (number_of (balance_of e) < 20)
   entry_low = (ltb-true 14 (number_of (balance_of e)) entry_facts.0, ltb-true (number_of (balance_of e)) 20 more_facts.0)
 
   entry_back : entry_at (number_of (balance_of e)) ≡ e
@@ -136,13 +151,13 @@ entries_are_prefixes e there = subst IsPrefix (entry_back e there) (whole (numbe
 none_there : (x : Adjacency) → Contains (adjacencies fresh) x → ⊥
 none_there x there = (let q : Contains [] x = subst (λ xs. Contains xs x) no_adjacency there in absurd (let lt = q.1 in let bad : ⊥ = omega arith in bad))
 
+pub low : (x : Thing) → IsCounted fresh x → number_of x < 20
+low (ply_of p) there = (let lt = ply_low p there in omega arith)
+low (balance_of e) there = (entry_low e there).1
+low (adjacency_of x) there = absurd (none_there x there)
+
 -- cells that say this stand for the fresh tables
 module _ (cells : List ℕ) (long : length cells ≡ 1024) (says : (k : ℕ) → k < 1024 → decoded (slice_index cells k) ≡ after_stores 254 k) where
-  low : (x : Thing) → IsCounted fresh x → number_of x < 20
-  low (ply_of p) there = (let lt = ply_low p there in omega arith)
-  low (balance_of e) there = (entry_low e there).1
-  low (adjacency_of x) there = absurd (none_there x there)
-
   holds_by : (x : Thing) → IsCounted fresh x → holds_all x ≡ true
   holds_by (ply_of p) there = ply_holds p there
   holds_by (balance_of e) there = entry_holds e there

@@ -8,3 +8,4 @@ pub mod Calls
 pub mod Filling
 pub mod Freshly
 pub mod Fills
+pub mod Changing

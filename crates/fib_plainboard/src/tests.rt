@@ -56,10 +56,13 @@ fn a_change_beneath_a_pass(rt: HostRuntime) -> Result<(), Fail> {
     if board.hop(0).is_some() {
         return Err(Fail::from("no edge to the ply"));
     }
-    assert_eq!(rt; board.scan(0), 1);
+    board.store(20, 0, Word::Plain(7));
+    assert_eq!(rt; board.load(20, 0), Word::Plain(7));
     if board.hop(0).is_some() {
         return Err(Fail::from("no edge to the balance"));
     }
+    board.store(20, 0, Word::Drop);
+    assert_eq!(rt; board.scan(0), 1);
     let end = board.hop(0).ok_or("an edge")?;
     assert_eq!(rt; end, End::Drop);
     let record = board.end(0);

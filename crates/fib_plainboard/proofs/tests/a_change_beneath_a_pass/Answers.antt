@@ -1,13 +1,42 @@
-use Rattle.std.proofs.Common.{◌≡◌, ap, ◌∙◌}
+use Rattle.std.proofs.Common.{ap, sym, ◌∙◌, subst}
 use Rattle.fib_core.specs.Union.{scanned}
 use Rattle.fib_board.specs.Boards.{Board}
-use Rattle.fib_plainboard.proofs.Fills.{ready_settles}
+use Rattle.fib_plainboard.specs.Passes.{FoundEdge, IsOnItsWay, loads_in, pass_of}
+use Rattle.fib_plainboard.specs.inner.Filling.{HasNumber, IsChanging}
+use Rattle.fib_plainboard.proofs.Changing as changing
 use Rattle.fib_plainboard.proofs.tests.a_change_beneath_a_pass.Goals as goal
 
+pub store-requires-clause-may : goal.store-requires-clause-may
+store-requires-clause-may g c =
+    let first = changing.begins_changing c.in_ok-board.board c.begin_version.new.self c.fresh-tables.result c.in_ok-board.ensures c.fresh-tables.ensures.value c.begin_version.ensures in
+    let begun = changing.still_changing c.begin_version.new.self c.begin.new.self first (ap (λ (b : Board). b.union) c.begin.ensures.pass) (ap (λ (b : Board). b.log) c.begin.ensures.pass) (ap (λ (b : Board). b.objects) c.begin.ensures.pass) in
+    let hopped = changing.still_changing c.begin.new.self c.hop.new.self begun (ap (λ (b : Board). b.union) c.hop.ensures.pass) (ap (λ (b : Board). b.log) c.hop.ensures.pass) (ap (λ (b : Board). b.objects) c.hop.ensures.pass) in
+    changing.may_number c.hop.new.self hopped
+
+pub store-requires-2-clause-may : goal.store-requires-2-clause-may
+store-requires-2-clause-may g c =
+    let first = changing.begins_changing c.in_ok-board.board c.begin_version.new.self c.fresh-tables.result c.in_ok-board.ensures c.fresh-tables.ensures.value c.begin_version.ensures in
+    let begun = changing.still_changing c.begin_version.new.self c.begin.new.self first (ap (λ (b : Board). b.union) c.begin.ensures.pass) (ap (λ (b : Board). b.log) c.begin.ensures.pass) (ap (λ (b : Board). b.objects) c.begin.ensures.pass) in
+    let hopped = changing.still_changing c.begin.new.self c.hop.new.self begun (ap (λ (b : Board). b.union) c.hop.ensures.pass) (ap (λ (b : Board). b.log) c.hop.ensures.pass) (ap (λ (b : Board). b.objects) c.hop.ensures.pass) in
+    let with_number = changing.numbered c.hop.new.self c.store.new.self hopped c.store.ensures in
+    let then = changing.still_numbered c.store.new.self c.hop-2.new.self with_number (ap (λ (b : Board). b.union) c.hop-2.ensures.pass) (ap (λ (b : Board). b.log) c.hop-2.ensures.pass) (ap (λ (b : Board). b.objects) c.hop-2.ensures.pass) in
+    changing.may_clear c.hop-2.new.self then
+
+pub hop-requires-3 : goal.hop-requires-3
+hop-requires-3 g c =
+    let on = changing.none_of c.hop-2.result (IsOnItsWay c.hop-2.new.self 0 × FoundEdge (loads_in (pass_of c.hop-2.new.self 0))) (sym c.is_some-2.ensures ∙ c.if-is_some-2.false) c.hop-2.ensures.on in
+    let stored = subst (λ (b : Board). IsOnItsWay b 0) (sym c.store-2.ensures) on.0 in
+    subst (λ (b : Board). IsOnItsWay b 0) (sym c.scan.ensures) stored
+
 pub settle_version-requires : goal.settle_version-requires
-settle_version-requires g c = ready_settles c.in_ok-board.board c.end-record.new.self c.scan.result c.fresh-tables.result c.in_ok-board.ensures c.fresh-tables.ensures.value
-    (ap (λ (b : Board). b.union) c.end-record.ensures.pass ∙ ap (λ (b : Board). b.union) c.hop-3.ensures.pass ∙ ap (λ (b : Board). b.union) c.hop-2.ensures.pass
-    ∙ ap (λ (b : Board). b.union) c.scan.ensures ∙ ap (λ (b : Board). scanned b.union 0 c.scan.result) c.hop.ensures.pass
-    ∙ ap (λ (b : Board). scanned b.union 0 c.scan.result) c.begin.ensures.pass ∙ ap (λ (b : Board). scanned b.union 0 c.scan.result) c.begin_version.ensures)
-    (ap (λ (b : Board). b.log) c.end-record.ensures.pass ∙ ap (λ (b : Board). b.log) c.hop-3.ensures.pass ∙ ap (λ (b : Board). b.log) c.hop-2.ensures.pass
-    ∙ ap (λ (b : Board). b.log) c.scan.ensures ∙ ap (λ (b : Board). b.log) c.hop.ensures.pass ∙ ap (λ (b : Board). b.log) c.begin.ensures.pass ∙ ap (λ (b : Board). b.log) c.begin_version.ensures)
+settle_version-requires g c =
+    let first = changing.begins_changing c.in_ok-board.board c.begin_version.new.self c.fresh-tables.result c.in_ok-board.ensures c.fresh-tables.ensures.value c.begin_version.ensures in
+    let begun = changing.still_changing c.begin_version.new.self c.begin.new.self first (ap (λ (b : Board). b.union) c.begin.ensures.pass) (ap (λ (b : Board). b.log) c.begin.ensures.pass) (ap (λ (b : Board). b.objects) c.begin.ensures.pass) in
+    let hopped = changing.still_changing c.begin.new.self c.hop.new.self begun (ap (λ (b : Board). b.union) c.hop.ensures.pass) (ap (λ (b : Board). b.log) c.hop.ensures.pass) (ap (λ (b : Board). b.objects) c.hop.ensures.pass) in
+    let with_number = changing.numbered c.hop.new.self c.store.new.self hopped c.store.ensures in
+    let then = changing.still_numbered c.store.new.self c.hop-2.new.self with_number (ap (λ (b : Board). b.union) c.hop-2.ensures.pass) (ap (λ (b : Board). b.log) c.hop-2.ensures.pass) (ap (λ (b : Board). b.objects) c.hop-2.ensures.pass) in
+    let cleared = changing.cleared c.hop-2.new.self then c.store-2.new.self c.store-2.ensures in
+    let looked = changing.still_changing c.store-2.new.self c.scan.new.self cleared (ap (λ (b : Board). b.union) c.scan.ensures ∙ changing.looked_same c.store-2.new.self.union 0 c.scan.result cleared.quiet) (ap (λ (b : Board). b.log) c.scan.ensures) (ap (λ (b : Board). b.objects) c.scan.ensures) in
+    let last = changing.still_changing c.scan.new.self c.hop-3.new.self looked (ap (λ (b : Board). b.union) c.hop-3.ensures.pass) (ap (λ (b : Board). b.log) c.hop-3.ensures.pass) (ap (λ (b : Board). b.objects) c.hop-3.ensures.pass) in
+    let ended = changing.still_changing c.hop-3.new.self c.end-record.new.self last (ap (λ (b : Board). b.union) c.end-record.ensures.pass) (ap (λ (b : Board). b.log) c.end-record.ensures.pass) (ap (λ (b : Board). b.objects) c.end-record.ensures.pass) in
+    changing.changing_settles c.end-record.new.self ended
