@@ -155,8 +155,11 @@ module _ (b : Board) (r : IsChanging b) where
     edge = λ is. absurd (no_goes_seven is);
     end = tt;
     drops = λ z. absurd (let one : b.log.version.applied ≡ 1 = ap (λ (l : Log). l.version.applied) r.log in let bad : ⊥ = omega arith in bad);
-    steady = λ begun. (names, subst (λ (l : Log). IsPromised (since l.history l.version.settled) names b.union) (sym r.log) promised,
-        subst (λ (l : Log). IsPromised (since l.history l.version.settled) names Then) (sym r.log) promised_then);
+    steady = λ begun. (
+      names,
+      subst (λ (l : Log). IsPromised (since l.history l.version.settled) names b.union) (sym r.log) promised,
+      subst (λ (l : Log). IsPromised (since l.history l.version.settled) names Then) (sym r.log) promised_then,
+    );
     rooted = record {
       links = λ c is. absurd (plain_no_ply (decoded seven) c seven_back is);
       unlinks = λ c is. absurd (drop_no_ply (decoded (slice_index b.union.cells 320)) c empty is);
@@ -201,8 +204,11 @@ module _ (b : Board) (h : HasNumber b) where
   log_is = h.log ∙ h.was.log
 
   clear : MayClear b 20
-  clear begun = (names Old h.was, subst (λ (x : Union × Log). IsPromised (since x.1.history x.1.version.settled) (names Old h.was) x.0) (λ i. (sym h.union i, sym log_is i)) (promised_then Old h.was),
-      λ e lasting is. unnamed Old h.was e is)
+  clear begun = (
+    names Old h.was,
+    subst (λ (x : Union × Log). IsPromised (since x.1.history x.1.version.settled) (names Old h.was) x.0) (λ i. (sym h.union i, sym log_is i)) (promised_then Old h.was),
+    λ e lasting is. unnamed Old h.was e is,
+  )
 
   not_seen : IsReached b 20 → ⊥
   not_seen (inl z) = omega (arith, z)
@@ -234,8 +240,8 @@ module _ (b : Board) (h : HasNumber b) where
   same_words : (k : ℕ) → decoded (slice_index (slice_set (slice_set Old.union.cells 320 seven) 320 (encoded words.Drop)) k) ≡ decoded (slice_index Old.union.cells k)
   same_words k = dite (ℕ_discrete k 320)
       (λ same. ap decoded (ap (slice_index (slice_set (slice_set Old.union.cells 320 seven) 320 (encoded words.Drop))) same
-          ∙ set_there_is (slice_set Old.union.cells 320 seven) 320 (encoded words.Drop) (let long = h.was.long in let l = length-set Old.union.cells 320 seven in omega arith))
-          ∙ decoded_encoded words.Drop tt ∙ sym (empty Old h.was) ∙ ap (λ i. decoded (slice_index Old.union.cells i)) (sym same))
+      ∙ set_there_is (slice_set Old.union.cells 320 seven) 320 (encoded words.Drop) (let long = h.was.long in let l = length-set Old.union.cells 320 seven in omega arith))
+      ∙ decoded_encoded words.Drop tt ∙ sym (empty Old h.was) ∙ ap (λ i. decoded (slice_index Old.union.cells i)) (sym same))
       (λ ne. ap decoded (set_else (slice_set Old.union.cells 320 seven) 320 k (encoded words.Drop) ne ∙ set_else Old.union.cells 320 k seven ne))
 
   pub cleared : (c : Board) → c ≡ board_stored b 320 words.Drop → IsChanging c

@@ -101,7 +101,7 @@ set_cases cells k j w = dite (ℕ_discrete j k)
     (λ e. dite (dec_lt k (length cells))
     (λ room. inr (e, ap (slice_index (slice_set cells k w)) e ∙ get_or-set_same cells k w 0 room))
     (λ past. inl (get_or_past (slice_set cells k w) j 0 (let same : length (slice_set cells k w) ≡ length cells = length-set cells k w in let le = le_of past in omega arith)
-        ∙ sym (get_or_past cells j 0 (let le = le_of past in omega arith)))))
+    ∙ sym (get_or_past cells j 0 (let le = le_of past in omega arith)))))
     (λ ne. inl (get_or-set_other cells k j w 0 ne))
   where
     le_of : (k < length cells → ⊥) → length cells ≤ k
@@ -231,31 +231,31 @@ module _ (f : Forest) (ok : IsForest f) (u : Union) (h : IsFilled f u) where
         let is : value_of (decoded v) ≡ value_of w = sym (target_of v (decoded v) refl) ∙ e ∙ leads in
         ⊎_elim
         (λ (d : IsDeeper f (owner j) (decoded v)). ⊎_elim
-            (λ (c : IsDeeper f (owner k) w). d.0 ∙ sym c.0 ∙ ap tag_of (sym back))
-            (λ (l : IsLast f (owner k) w). absurd (let x = d.2 in let y = l.2 in let bad : ⊥ = omega arith in bad)) mine)
+        (λ (c : IsDeeper f (owner k) w). d.0 ∙ sym c.0 ∙ ap tag_of (sym back))
+        (λ (l : IsLast f (owner k) w). absurd (let x = d.2 in let y = l.2 in let bad : ⊥ = omega arith in bad)) mine)
         (λ (d : IsLast f (owner j) (decoded v)). ⊎_elim
-            (λ (c : IsDeeper f (owner k) w). absurd (let x = d.2 in let y = c.2 in let bad : ⊥ = omega arith in bad))
-            (λ (l : IsLast f (owner k) w). d.0 ∙ sym l.0 ∙ ap tag_of (sym back)) mine)
+        (λ (c : IsDeeper f (owner k) w). absurd (let x = d.2 in let y = c.2 in let bad : ⊥ = omega arith in bad))
+        (λ (l : IsLast f (owner k) w). d.0 ∙ sym l.0 ∙ ap tag_of (sym back)) mine)
         (edge_fits j v g)
 
     shallow : tag_of (decoded (encoded w)) ≡ 3 → (n m y : ℕ) → Walk (PlyEdge u) n 0 (owner k) → Walk (PlyEdge u) m (target (encoded w)) y → n + 1 + m ≤ 7
     shallow three n m y up down = ⊎_elim
         (λ (d : IsDeeper f (owner k) w).
-            let top : f.depth (owner k) ≡ n + f.depth 0 = depth_of n 0 (owner k) up in
-            let from : f.depth y ≡ m + f.depth (value_of w) = subst (λ o. f.depth y ≡ m + f.depth o) leads (depth_of m (target (encoded w)) y down) in
-            let low : y < f.plies = stays_low m (value_of w) y d.2 (subst (λ o. Walk (PlyEdge u) m o y) leads down) in
-            let most = ok.low y low in
-            let zero_deep = ok.root in
-            let one = d.3 in
-            omega arith)
+        let top : f.depth (owner k) ≡ n + f.depth 0 = depth_of n 0 (owner k) up in
+        let from : f.depth y ≡ m + f.depth (value_of w) = subst (λ o. f.depth y ≡ m + f.depth o) leads (depth_of m (target (encoded w)) y down) in
+        let low : y < f.plies = stays_low m (value_of w) y d.2 (subst (λ o. Walk (PlyEdge u) m o y) leads down) in
+        let most = ok.low y low in
+        let zero_deep = ok.root in
+        let one = d.3 in
+        omega arith)
         (λ (l : IsLast f (owner k) w). absurd (let a : tag_of w ≡ 3 = sym (ap tag_of back) ∙ three in let c = l.0 in let bad : ⊥ = omega arith in bad))
         mine
 
     others : (tag_of (decoded (encoded w)) ≡ 3 → ⊥) → (j v : ℕ) → Goes u j v → tag_of (decoded v) ≡ 3 → owner j ≢ target (encoded w)
     others no_ply j v g three e = ⊎_elim
         (λ (d : IsDeeper f (owner j) (decoded v)). ⊎_elim
-            (λ (c : IsDeeper f (owner k) w). no_ply (ap tag_of back ∙ c.0))
-            (λ (l : IsLast f (owner k) w). let x = d.1 in let y = d.2 in let z = l.2 in let t : target (encoded w) ≡ value_of w = leads in let bad : ⊥ = omega arith in bad) mine)
+        (λ (c : IsDeeper f (owner k) w). no_ply (ap tag_of back ∙ c.0))
+        (λ (l : IsLast f (owner k) w). let x = d.1 in let y = d.2 in let z = l.2 in let t : target (encoded w) ≡ value_of w = leads in let bad : ⊥ = omega arith in bad) mine)
         (λ (d : IsLast f (owner j) (decoded v)). let a = d.0 in let bad : ⊥ = omega arith in bad)
         (edge_fits j v g)
 

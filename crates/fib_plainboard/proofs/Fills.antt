@@ -168,8 +168,8 @@ module _ (i : ℕ) (lt : i < 254) (b : Board) (s : IsFilling i b) where
       ⊎_elim
       (λ (z : (owner K == 0) ≡ true). absurd (ne (eqb-true (owner K) 0 z)))
       (λ (h : nat_lt (link_cell (owner K)) 1024 && same_word (after_stores i (link_cell (owner K))) (words.ToPly (owner K)) ≡ true).
-          let two = and_both (nat_lt (link_cell (owner K)) 1024) (same_word (after_stores i (link_cell (owner K))) (words.ToPly (owner K))) h in
-          (link_cell (owner K), s.says (link_cell (owner K)) (ltb-true (link_cell (owner K)) 1024 two.0) ∙ same_is (after_stores i (link_cell (owner K))) (words.ToPly (owner K)) two.1))
+      let two = and_both (nat_lt (link_cell (owner K)) 1024) (same_word (after_stores i (link_cell (owner K))) (words.ToPly (owner K))) h in
+      (link_cell (owner K), s.says (link_cell (owner K)) (ltb-true (link_cell (owner K)) 1024 two.0) ∙ same_is (after_stores i (link_cell (owner K))) (words.ToPly (owner K)) two.1))
       (or_cases (owner K == 0) (nat_lt (link_cell (owner K)) 1024 && same_word (after_stores i (link_cell (owner K))) (words.ToPly (owner K))) either_way)
 
   still : IsStill forest b
@@ -208,9 +208,9 @@ module _ (i : ℕ) (lt : i < 254) (b : Board) (s : IsFilling i b) where
       says_then : (k : ℕ) → k < 1024 → decoded (slice_index (slice_set b.union.cells (cell_at i) (encoded (word_of_store i))) k) ≡ (if k == cell_at i then word_of_store i else after_stores i k)
       says_then k small = dite (ℕ_discrete k (cell_at i))
           (λ same. ap decoded (ap (slice_index (slice_set b.union.cells (cell_at i) (encoded (word_of_store i)))) same ∙ filling.set_there_is b.union.cells (cell_at i) (encoded (word_of_store i)) (let l = s.long in let n = inside in omega arith)) ∙ back
-              ∙ sym (ap (λ (c : Bool). if c then word_of_store i else after_stores i k) (eq-eqb k (cell_at i) same)))
+          ∙ sym (ap (λ (c : Bool). if c then word_of_store i else after_stores i k) (eq-eqb k (cell_at i) same)))
           (λ ne. ap decoded (filling.set_else b.union.cells (cell_at i) k (encoded (word_of_store i)) ne) ∙ s.says k small
-              ∙ sym (ap (λ (c : Bool). if c then word_of_store i else after_stores i k) (ne_eqb k (cell_at i) ne)))
+          ∙ sym (ap (λ (c : Bool). if c then word_of_store i else after_stores i k) (ne_eqb k (cell_at i) ne)))
 
 -- the first board
 pub fresh_filling : IsFilling 0 (fresh_plain 64 1)

@@ -22,8 +22,8 @@ IsOnItsWay b n = (q : Pass) × (pass_of b n ≡ Some q) × IsGoing (place q.load
 abbrev pub HasEnd : Board → ℕ → End → Type 0
 HasEnd b n e = (q : Pass) × (pass_of b n ≡ Some q) × (place q.loads ≡ ended e)
 
--- all cells say Drop, the version is (0, 0), nothing is retired, and no pass runs. A plain board shares its words with no other, and no trails
--- are brought home to it
+-- all cells say Drop, the version is (0, 0), nothing is retired, and no pass runs. A plain board shares its words with no
+-- other, and no trails are brought home to it
 abbrev pub fresh_plain : ℕ → ℕ → Board
 fresh_plain objects workers = board_of [] [] (replicate 8 None) (first_control objects workers)
 
@@ -41,11 +41,12 @@ load_of cells k = (k, slice_index cells k)
 abbrev pub further : List ℕ → ℕ → ℕ → Place → List Load → List Load
 further cells a h (ply o d) t = load_of cells (asked a h (ply o d)) ∷ t
 further cells a h (balance o n) t = load_of cells (asked a h (balance o n)) ∷ t
-further cells a h (adjacency o read) t = load_of cells (16 * o + 2) ∷ load_of cells (16 * o + 1) ∷ load_of cells (16 * o + 0) ∷ t
+further cells a h (adjacency o read) t =
+    load_of cells (16 * o + 2) ∷ load_of cells (16 * o + 1) ∷ load_of cells (16 * o + 0) ∷ t
 further cells a h (ended e) t = t
 
 abbrev pub pass_hopped : List ℕ → Pass → Pass
-pass_hopped cells q = record { addr = q.addr; hash = q.hash; lo = q.lo; loads = further cells q.addr q.hash (place q.loads) q.loads }
+pass_hopped cells q = record q { loads = further cells q.addr q.hash (place q.loads) q.loads }
 
 abbrev pub hopped_on : Board → ℕ → Board
 hopped_on b n = record b { passes = slice_set b.passes n (option_map (pass_hopped b.union.cells) (pass_of b n)) }

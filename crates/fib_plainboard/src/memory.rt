@@ -1,4 +1,5 @@
-// What contracts see of a plain board and no run does: history, retired edges, trails. It lies in the view of the one seat of a one-word table.
+// What contracts see of a plain board and no run does: history, retired edges, trails. It lies in the view of the one
+// seat of a one-word table.
 ghost use Rattle.std.specs.Prelude.{IfOk, ◌≡◌};
 ghost use mathlib.Core.Option.{some};
 ghost use Rattle.fib_plainboard.specs.Passes.{fresh_plain};
@@ -125,7 +126,8 @@ impl Model for Memory {
 
     ghost view = { λ m. m.seat.me.0 };
 
-    ghost invariant = { λ m. (m.seat.table_id ≡ m.table.shared.table_id) × (m.table.shared.table_id.words ≡ 1) × (m.seat.me ≡ (m.seat.me.0, [])) };
+    ghost invariant = { λ m. (m.seat.table_id ≡ m.table.shared.table_id) × (m.table.shared.table_id.words ≡ 1)
+        × (m.seat.me ≡ (m.seat.me.0, [])) };
 }
 
 impl Memory {

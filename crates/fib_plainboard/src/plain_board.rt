@@ -133,8 +133,10 @@ fn ended(stage: Stage) -> End
 }
 
 impl PlainBoard {
-    /// A fresh board: each cell says Drop, the version is (0, 0), nothing is retired and no pass runs. From 64 to 131,072 objects, an even
-    /// number, and from 1 to 8 workers.
+    /// A fresh board: each cell says Drop, the version is (0, 0), nothing is retired and no pass runs. It takes all the
+    /// memory that it ever needs.
+    ///
+    /// From 64 to 131,072 objects, an even number, and from 1 to 8 workers.
     pub fn new(alloc: Global, objects: u32, workers: u32) -> Result<PlainBoard, AllocError>
         requires { IsWithinLimits objects workers }
         ensures { IfOk result (λ b. b ≡ fresh_plain objects workers) }
@@ -173,8 +175,8 @@ impl PlainBoard {
         });
     }
 
-    /// The running pass of that worker loads the next cell of its walk, or the three words of the adjacency on which it stands. Its end; None
-    /// exactly where the hop loaded an edge. It must have had no end yet.
+    /// The running pass of that worker loads the next cell of its walk, or the three words of the adjacency on which it
+    /// stands. Its end; None exactly where the hop loaded an edge. It must have had no end yet.
     pub fn hop(&mut self, worker: u32) -> Option<End>
         requires { IsOnItsWay self.old worker }
         ensures pass { self.new ≡ hopped_on self.old worker }
@@ -190,8 +192,8 @@ impl PlainBoard {
         end
     }
 
-    /// Ends the running pass of that worker, which has its end. The answer is right and steady over the versions that the pass spanned, from that
-    /// at its begin to that of now. The worker has one pass less left.
+    /// Ends the running pass of that worker, which has its end. The answer is right and steady over the versions that the
+    /// pass spanned, from that at its begin to that of now. The worker has one pass less left.
     pub fn end(&mut self, worker: u32) -> Record
         requires { (e : Ending) × HasEnd self.old worker e }
         ensures pass { self.new ≡ pass_ended self.old worker }

@@ -1,7 +1,8 @@
 -- How a board is filled for the fresh tables, store by store.
 --
--- Objects 0 to 7 are the plies on the way to 0.0.0.0, objects 8 to 14 those on the way to 255.255.255.255, and objects 15 to 19 the balances of
--- 0.0.0.0/0, 0.0.0.0/32, 224.0.0.0/4, 240.0.0.0/4 and 255.255.255.255/32. Each ply is filled before it is linked below its own.
+-- Objects 0 to 7 are the plies on the way to 0.0.0.0, objects 8 to 14 those on the way to 255.255.255.255, and objects 15
+-- to 19 the balances of 0.0.0.0/0, 0.0.0.0/32, 224.0.0.0/4, 240.0.0.0/4 and 255.255.255.255/32. Each ply is filled before
+-- it is linked below its own.
 use Rattle.std.specs.Prelude.{ℕ, zero, suc, ◌+◌, ◌-◌, ◌*◌, ◌/◌, ◌%◌, ◌==◌, nat_lt, if◌then◌else◌, ◌&&◌, ◌||◌, not, Bool, true, false, List, [], ◌∷◌}
 use Rattle.std.specs.Set.{is_member}
 use Rattle.fib_addr.specs.Prefixes.{Prefix, masked, same_prefix}
@@ -37,18 +38,20 @@ last_word r = words.ToBalance (if r == 0 then 16 else if r == 1 then 19 else if 
 
 abbrev pub cell_at : ℕ → ℕ
 cell_at i =
-    if nat_lt i 238 then (if nat_lt (i % 17) 16 then 16 * (i / 17 + 1) + i % 17 else link_cell (i / 17 + 1)) else last_cell (i - 238)
+    if nat_lt i 238 then (if nat_lt (i % 17) 16 then 16 * (i / 17 + 1) + i % 17 else link_cell (i / 17 + 1))
+    else last_cell (i - 238)
 
 abbrev pub word_of_store : ℕ → Word
 word_of_store i =
-    if nat_lt i 238 then (if nat_lt (i % 17) 16 then words.ToBalance (rest_of (i / 17 + 1)) else words.ToPly (i / 17 + 1)) else last_word (i - 238)
+    if nat_lt i 238 then (if nat_lt (i % 17) 16 then words.ToBalance (rest_of (i / 17 + 1)) else words.ToPly (i / 17 + 1))
+    else last_word (i - 238)
 
 -- what a cell says after so many stores
 unfoldable pub after_stores : ℕ → ℕ → Word
 after_stores zero k = words.Drop
 after_stores (suc i) k = if k == cell_at i then word_of_store i else after_stores i k
 
--- each store fits, is one of another word, and leaves no ply's place; a ply is linked when it is filled, below a ply that is linked
+-- each store fits, is one of another word, and unlinks no ply; a ply is linked when it is filled, below a linked ply
 abbrev pub same_word : Word → Word → Bool
 same_word v w = (tag_of v == tag_of w) && (value_of v == value_of w)
 
@@ -71,9 +74,11 @@ is_good i =
     && (not (same_word (after_stores i (cell_at i)) (word_of_store i))
     && (not (tag_of (after_stores i (cell_at i)) == 3)
     && (if tag_of (word_of_store i) == 3
-        then all_below 16 (λ s. is_ply_word (after_stores i (16 * value_of (word_of_store i) + s)))
-            && ((owner (cell_at i) == 0) || (nat_lt (link_cell (owner (cell_at i))) 1024 && same_word (after_stores i (link_cell (owner (cell_at i)))) (words.ToPly (owner (cell_at i)))))
-        else true))))
+    then all_below 16 (λ s. is_ply_word (after_stores i (16 * value_of (word_of_store i) + s)))
+    && ((owner (cell_at i) == 0)
+    || (nat_lt (link_cell (owner (cell_at i))) 1024
+    && same_word (after_stores i (link_cell (owner (cell_at i)))) (words.ToPly (owner (cell_at i)))))
+    else true))))
 
 -- the tables' objects have their numbers
 abbrev pub all_in : {A : Type 0} → (A → Bool) → List A → Bool
@@ -106,7 +111,9 @@ ply_stands p = nat_lt (number_of (ply_of p)) 15 && (same_prefix (ply_at (number_
 
 abbrev pub entry_stands : Prefix → Bool
 entry_stands e =
-    nat_lt 14 (number_of (balance_of e)) && (nat_lt (number_of (balance_of e)) 20 && (same_prefix (entry_at (number_of (balance_of e))) e && holds_all (balance_of e)))
+    nat_lt 14 (number_of (balance_of e))
+    && (nat_lt (number_of (balance_of e)) 20
+    && (same_prefix (entry_at (number_of (balance_of e))) e && holds_all (balance_of e)))
 
 -- each number is that of an object, or its cells drop
 abbrev pub number_stands : ℕ → Bool
