@@ -1,5 +1,6 @@
 // What everything of the control plane is written over.
-ghost use Rattle.std.specs.Prelude.{ℕ, slice_index, ◌*◌, ◌+◌, ◌<◌, ◌≡◌};
+ghost use Rattle.std.specs.Prelude.{ℕ, false, slice_index, slice_index_or, true, ◌*◌, ◌+◌, ◌<◌, ◌≡◌};
+ghost use Rattle.fib_union.specs.Marks.{is_even};
 ghost use Rattle.fib_lawful.specs.State.{left_of};
 ghost use Rattle.fib_board.specs.Boards.{Board as Seen, board_begun, board_scanned, board_settled, board_stored, word_in};
 ghost use Rattle.fib_board.specs.May.{MayBegin, MaySettle, MayStore};
@@ -54,10 +55,12 @@ pub trait Board {
         requires { MaySettle (view self.old) }
         ensures { view self.new ≡ board_settled (view self.old) };
 
-    /// Loads a worker's pass word. Retired edges are marked by it, and those that are passed for all workers leave.
+    /// Loads a worker's pass word. Retired edges are marked by it, and those that are passed for all workers leave. The word
+    /// is even where that worker isn't out: so once nobody is out, looks at all workers leave nothing retired.
     fn scan(&mut self, worker: u32) -> u64
         requires { worker < (view self.old).workers }
-        ensures { view self.new ≡ board_scanned worker result (view self.old) };
+        ensures board { view self.new ≡ board_scanned worker result (view self.old) }
+        ensures rests { slice_index_or (view self.old).out worker false ≡ false → is_even result ≡ true };
 
     /// How many passes are left to a worker: 2^63 - 1 at first. While the worker is out it is what it was when the worker left.
     fn passes_left(&self, worker: u32) -> u64

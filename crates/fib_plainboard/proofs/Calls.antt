@@ -3,7 +3,7 @@ use Rattle.std.proofs.Common.{◌≡◌, ℕ, zero, suc, ◌+◌, ◌-◌, ◌*�
 use Rattle.std.specs.Prelude.{slice_index, slice_index_or, slice_set, replicate, Option, Some, None, option_map, is_some, IsTrue, IfNone, IfSome}
 use Rattle.std.proofs.lemmas.Grind.{get_or_default_zero}
 use Rattle.std.proofs.lemmas.List.{set-set}
-use Rattle.std.proofs.lemmas.Bool.{false≢true}
+use Rattle.std.proofs.lemmas.Bool.{eq-eqb, false≢true}
 use mathlib.Core.Logic.{dite}
 use mathlib.Core.Option.{some}
 use native.Mathlib.Decide.{ℕ_discrete}
@@ -12,6 +12,7 @@ use Rattle.fib_resolve.specs.declared.types.Tables.{Tables}
 use Rattle.fib_results.specs.declared.record.Version.{Version}
 use Rattle.fib_results.specs.Trails.{version_at}
 use Rattle.fib_results.specs.Versions.{packed}
+use Rattle.fib_union.specs.Marks.{is_even}
 use Rattle.fib_core.specs.declared.word.Word.{Word}
 use Rattle.fib_core.specs.Words.{encoded}
 use Rattle.fib_core.specs.Walk.{Place, ended, end_at, root}
@@ -151,6 +152,14 @@ module _ (words : List ℕ) (p : Board) (s : IsPlain words p) (objects workers :
     subst (λ x. IsPlain words (looked_at p n x)) is (keep.looks words p s n),
     record { all = k.all; crew = k.crew; long = k.long; keeps = k.keeps },
   )
+
+  -- a worker that isn't out is at rest
+  pub rests_even : (n word : ℕ) → n < 8 → slice_index_or p.out n false ≡ false → slice_index words (n + 1) ≡ word → is_even word ≡ true
+  rests_even n word lt home is = by_pass (pass_of p n) refl
+    where
+      by_pass : (o : Option Pass) → pass_of p n ≡ o → is_even word ≡ true
+      by_pass None e = eq-eqb (word % 2) 0 (ap (λ x. x % 2) (sym is ∙ keep.rest_now words p s n lt e) ∙ s.even n)
+      by_pass (Some q) e = absurd (false≢true (sym home ∙ keep.out_now words p s n q e))
 
   -- how many passes are left
   pub left_now : (n : ℕ) → n < 8 → left_of (slice_index words (n + 1)) ≡ left_of (slice_index p.rests n)

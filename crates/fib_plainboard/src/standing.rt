@@ -6,8 +6,7 @@ ghost use Rattle.fib_plainboard.specs.inner.Fresh.{cell_at, last_cell as last_of
 use super::*;
 use fib_board::Board;
 use fib_core::Word;
-use std::alloc::Global;
-use std::test::Fail;
+use std::alloc::{AllocError, Global};
 
 // Where the ply in that object is linked.
 fn link_cell(object: u32) -> u32
@@ -99,17 +98,13 @@ fn store_one(board: &mut PlainBoard, store: u32)
 }
 
 /// A board of 64 objects and one worker whose cells stand for the fresh tables.
-pub fn filled_board(alloc: Global) -> Result<PlainBoard, Fail>
+pub fn filled_board(alloc: Global) -> Result<PlainBoard, AllocError>
     ensures { IfOk result (λ b. IsReady b) }
 {
     let mut board = PlainBoard::new(alloc, 64, 1)?;
     for store in 0..254 {
         store_one(&mut board, store);
     }
-    let word = board.scan(0);
-    if word % 2 == 0 {
-        Ok(board)
-    } else {
-        Err(Fail::from("a pass runs"))
-    }
+    board.scan(0);
+    Ok(board)
 }

@@ -26,7 +26,7 @@ pub hop-requires-3 : goal.hop-requires-3
 hop-requires-3 g c =
     let on = changing.none_of c.hop-2.result (IsOnItsWay c.hop-2.new.self 0 × FoundEdge (loads_in (pass_of c.hop-2.new.self 0))) (sym c.is_some-2.ensures ∙ c.if-is_some-2.false) c.hop-2.ensures.on in
     let stored = subst (λ (b : Board). IsOnItsWay b 0) (sym c.store-2.ensures) on.0 in
-    subst (λ (b : Board). IsOnItsWay b 0) (sym c.scan.ensures) stored
+    subst (λ (b : Board). IsOnItsWay b 0) (sym c.scan.ensures.board) stored
 
 pub settle_version-requires : goal.settle_version-requires
 settle_version-requires g c =
@@ -36,7 +36,7 @@ settle_version-requires g c =
     let with_number = changing.numbered c.hop.new.self c.store.new.self hopped c.store.ensures in
     let then = changing.still_numbered c.store.new.self c.hop-2.new.self with_number (ap (λ (b : Board). b.union) c.hop-2.ensures.pass) (ap (λ (b : Board). b.log) c.hop-2.ensures.pass) (ap (λ (b : Board). b.objects) c.hop-2.ensures.pass) in
     let cleared = changing.cleared c.hop-2.new.self then c.store-2.new.self c.store-2.ensures in
-    let looked = changing.still_changing c.store-2.new.self c.scan.new.self cleared (ap (λ (b : Board). b.union) c.scan.ensures ∙ changing.looked_same c.store-2.new.self.union 0 c.scan.result cleared.quiet) (ap (λ (b : Board). b.log) c.scan.ensures) (ap (λ (b : Board). b.objects) c.scan.ensures) in
+    let looked = changing.still_changing c.store-2.new.self c.scan.new.self cleared (ap (λ (b : Board). b.union) c.scan.ensures.board ∙ changing.looked_same c.store-2.new.self.union 0 c.scan.result cleared.quiet) (ap (λ (b : Board). b.log) c.scan.ensures.board) (ap (λ (b : Board). b.objects) c.scan.ensures.board) in
     let last = changing.still_changing c.scan.new.self c.hop-3.new.self looked (ap (λ (b : Board). b.union) c.hop-3.ensures.pass) (ap (λ (b : Board). b.log) c.hop-3.ensures.pass) (ap (λ (b : Board). b.objects) c.hop-3.ensures.pass) in
     let ended = changing.still_changing c.hop-3.new.self c.end-record.new.self last (ap (λ (b : Board). b.union) c.end-record.ensures.pass) (ap (λ (b : Board). b.log) c.end-record.ensures.pass) (ap (λ (b : Board). b.objects) c.end-record.ensures.pass) in
     changing.changing_settles c.end-record.new.self ended
