@@ -1,18 +1,23 @@
 -- What a table that stands for a set answers, and which plies it has.
-use Rattle.std.proofs.Common.{◌≡◌, ℕ, zero, suc, ◌+◌, ◌*◌, ◌/◌, ◌%◌, ◌^◌, ◌<◌, ◌≤◌, true, Some, refl, sym, ap, ◌∙◌, subst, arith}
-use Rattle.std.proofs.lemmas.Nat.{mod_below}
-use Rattle.std.proofs.Math.Nat.{div-eq_of_lt}
+use Rattle.std.proofs.Common.{◌≡◌, ℕ, zero, suc, ◌+◌, ◌*◌, ◌-◌, ◌/◌, ◌%◌, ◌^◌, ◌<◌, ◌≤◌, ◌↔◌, ⊎_elim, Bool, true, false, List, [], ◌∷◌, None, Some, refl, sym, ap, ap₂, ◌∙◌, subst, arith}
+use Rattle.std.specs.Prelude.{if◌then◌else◌}
+use Rattle.std.proofs.lemmas.Bool.{cases_lt}
+use Rattle.std.proofs.lemmas.Nat.{mod_below, mul-le, pow-add}
+use Rattle.std.proofs.Math.Nat.{div-eq_of_lt, div-mul-le_self}
+use Rattle.fib_addr.specs.Prefixes.{Prefix, IsPrefix, same_prefix}
+use Rattle.fib_addr.proofs.PrefixLaws.{same_prefix-Decides}
 use Rattle.fib_core.specs.declared.word.Word.{Word}
 use Rattle.fib_core.specs.declared.word.Word.TheVariants.{Drop, ToPly, ToBalance, Plain, Receive, Glean, ToAdjacency}
 use Rattle.fib_joined.specs.View.{View}
-use Rattle.fib_ply.specs.Prefixes.{Look}
-use Rattle.fib_ply.specs.inner.Change.{Mixed, Has, StandsFor}
+use Rattle.fib_ply.specs.Prefixes.{Look, Needs}
+use Rattle.fib_ply.specs.inner.Change.{Mixed, Has, IsOne, StandsFor}
 use Rattle.fib_ply.specs.inner.Served.{Paths, Watch, IsIn}
 use Rattle.fib_ply.specs.inner.Trie.{IsFilled, Fits, next_of, walk}
 use Rattle.fib_serving.specs.Matches.{best_block, look_of}
 use Rattle.fib_ply.proofs.Longest.{best_longest}
 use Rattle.fib_joined.specs.Promise.{Promise}
-use Rattle.fib_ply.specs.Rows.{held}
+use Rattle.fib_ply.specs.Rows.{ArePrefixes, held}
+use Rattle.fib_ply.specs.declared.rows.Row.{Row}
 use Rattle.fib_ply.specs.Tables.{Table, Stands, LeadsAll, watch_of}
 use Rattle.fib_steady.specs.Names.{IsBelow}
 use Rattle.fib_ply.proofs.Blocks.{below_next}
@@ -77,3 +82,45 @@ pub leads_all : (p : Promise) (t : Table) (u : View) → Stands p t u → LeadsA
 leads_all p t u s a lt =
     let r = table_answers (watch_of p t) (look_of (held t.rows.members)) u a lt (s.0, s.1, s.2) in
     (r.0, r.1, best_longest (look_of (held t.rows.members)) 32 a r.0 r.2)
+
+held_prefix : (rows : List Row) → ArePrefixes rows → (q : Prefix) (o : ℕ) → held rows q ≡ Some o → IsPrefix q
+held_prefix [] h q o e = absurd (none_not e)
+  where
+    none_not : None ≡ Some o → ⊥
+    none_not e = cc
+held_prefix (r ∷ rs) h q o e = by_test (same_prefix r.prefix q) refl e (held_prefix rs h.1 q o)
+  where
+    by_test : (b : Bool) → same_prefix r.prefix q ≡ b → (if b then Some r.object else held rs q) ≡ Some o → (held rs q ≡ Some o → IsPrefix q) → IsPrefix q
+    by_test true t e rest = subst IsPrefix ((same_prefix-Decides r.prefix q).0 t) h.0
+    by_test false t e rest = rest e
+
+-- the blocks of depth 1 are sixteen
+first_needed : (rows : List Row) → ArePrefixes rows → (w : ℕ) → Needs (look_of (held rows)) 1 w → w < 16
+first_needed rows are w (j, b, o, some, block, is) =
+    let l : ℕ = 4 * 1 + j + 1 in
+    let prefix : IsPrefix (record { bits = b * 2 ^ (32 - l); len = l }) = held_prefix rows are (record { bits = b * 2 ^ (32 - l); len = l }) o is in
+    let below : b * 2 ^ (32 - l) < 4294967296 = prefix.fits in
+    ⊎_elim (λ (less : w < 16). less) (λ (more : 16 ≤ w). absurd (
+    let at : w * 2 ^ (j + 1) ≤ b = subst (λ (i : ℕ). i * 2 ^ (j + 1) ≤ b) block (div-mul-le_self b (2 ^ (j + 1))) in
+    let at16 : 16 * 2 ^ (j + 1) ≤ w * 2 ^ (j + 1) = mul-le 16 (2 ^ (j + 1)) w (2 ^ (j + 1)) more (omega arith) in
+    let up : 16 * 2 ^ (j + 1) * 2 ^ (32 - l) ≤ b * 2 ^ (32 - l) = mul-le (16 * 2 ^ (j + 1)) (2 ^ (32 - l)) b (2 ^ (32 - l)) (omega (arith, at, at16)) (omega arith) in
+    let four : 2 ^ (4 + (j + 1)) ≡ 16 * 2 ^ (j + 1) = pow-add 2 4 (j + 1) in
+    let shifts : 4 + (j + 1) + (32 - l) ≡ 32 = omega (arith, some) in
+    let all : 16 * 2 ^ (j + 1) * 2 ^ (32 - l) ≡ 4294967296 = ap (λ i. i * 2 ^ (32 - l)) (sym four) ∙ sym (pow-add 2 (4 + (j + 1)) (32 - l)) ∙ ap (λ i. 2 ^ i) shifts in
+    omega (arith, up, all, below))) (cases_lt w 16)
+
+-- besides the root, the plies are those that the set needs, one for each place
+pub plies_exact : (p : Promise) (t : Table) (u : View) → ArePrefixes t.rows.members → (s : Stands p t u) → (d w : ℕ)
+    → Needs (look_of (held t.rows.members)) (d + 1) w ↔ ((c : ℕ) × IsOne s.1.all c × (s.1.depth c ≡ d + 1) × (s.1.value c ≡ w))
+plies_exact p t u are s d w = (there, back)
+  where
+    there : Needs (look_of (held t.rows.members)) (d + 1) w → (c : ℕ) × IsOne s.1.all c × (s.1.depth c ≡ d + 1) × (s.1.value c ≡ w)
+    there h =
+        let r = ply_there (Mixed (look_of (held t.rows.members)) (look_of (held t.rows.members)) 0) (Has s.0) s.1 u s.2.at.fits d w (λ v k. first_needed t.rows.members are v (s.2.exact 0 v k)) (s.2.at.wider d w h) in
+        (r.0, s.2.at.list.each r.0 r.1, r.2, r.3)
+
+    back : (c : ℕ) × IsOne s.1.all c × (s.1.depth c ≡ d + 1) × (s.1.value c ≡ w) → Needs (look_of (held t.rows.members)) (d + 1) w
+    back (c, one, dep, val) = ⊎_elim
+        (λ (z : c ≡ 0). absurd (let r = s.2.at.fits.root.1 in let e : s.1.depth 0 ≡ d + 1 = subst (λ (i : ℕ). s.1.depth i ≡ d + 1) z dep in omega (arith, r, e)))
+        (λ (k : s.0 (s.1.depth c) (s.1.value c) ≡ true). s.2.exact d w (ap₂ s.0 (sym dep) (sym val) ∙ k))
+        (s.2.at.fits.needed c (s.2.at.list.only c one)).1

@@ -19,3 +19,4 @@ pub mod Needing
 pub mod Rewatching
 pub mod Tables
 pub mod Laws
+pub mod Quiet

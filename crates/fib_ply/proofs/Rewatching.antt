@@ -25,7 +25,7 @@ use Rattle.fib_ply.proofs.Rowing.{not_true}
 
 -- less is promised
 module _ (W V : ℕ → ℕ → Type 0) (fewer : (a p : ℕ) → V a p → W a p) (n : Paths) where
-  right_fewer : (x s : ℕ) (w : Word) → IsRight W n x s w → IsRight V n x s w
+  pub right_fewer : (x s : ℕ) (w : Word) → IsRight W n x s w → IsRight V n x s w
   right_fewer x s (ToPly c) h = h
   right_fewer x s (ToBalance o) h = λ a p i v. h a p i (fewer a p v)
   right_fewer x s Drop h = h
