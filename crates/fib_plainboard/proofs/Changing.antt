@@ -1,12 +1,11 @@
 -- Beneath a pass a number is stored into an object that no pass can reach, and cleared again: the stores of a change that touches nothing.
-use Rattle.std.proofs.Common.{◌≡◌, ◌≢◌, ◌⊎◌, inl, inr, ⊎_elim, ℕ, zero, suc, ◌+◌, ◌*◌, ◌/◌, ◌%◌, ◌<◌, ◌≤◌, true, false, List, [], ◌∷◌, length, refl, sym, ap, ◌∙◌, subst, arith, length-set}
+use Rattle.std.proofs.Common.{◌≡◌, inl, inr, ⊎_elim, ℕ, ◌+◌, ◌*◌, ◌/◌, ◌<◌, true, false, List, [], ◌∷◌, length, refl, sym, ap, ◌∙◌, subst, arith, length-set}
 use Rattle.std.specs.Prelude.{Bool, IfNone, None, Option, Some, is_some, if◌then◌else◌, slice_get, slice_index, slice_set, ◌&&◌}
 use mathlib.Core.Logic.{dite}
 use native.Mathlib.Decide.{ℕ_discrete}
 use Rattle.std.specs.Set.{is_member}
 use Rattle.std.proofs.lemmas.Bool.{false≢true}
 use Rattle.std.proofs.lemmas.Map.Made.{is_member-Decides}
-use Rattle.fib_list.proofs.Lists.{either}
 use Rattle.fib_addr.specs.Prefixes.{Prefix, same_prefix}
 use Rattle.fib_addr.proofs.PrefixLaws.{same_prefix-Decides}
 use Rattle.fib_resolve.specs.Pairs.{entries}
@@ -18,7 +17,7 @@ use Rattle.fib_union.specs.Unions as edges
 use Rattle.fib_union.specs.Unions.{owner}
 use Rattle.fib_core.specs.declared.word.Word.{Word}
 use Rattle.fib_core.specs.declared.word.Word.TheVariants as words
-use Rattle.fib_core.specs.Words.{decoded, encoded, goes, is_edge, target}
+use Rattle.fib_core.specs.Words.{decoded, encoded, goes, target}
 use Rattle.fib_core.specs.StandsFor.{IsCounted, StandsFor, Thing, balance_of}
 use Rattle.fib_core.specs.Walk.{word_at}
 use Rattle.fib_core.specs.Union.{AreEdges, Goes, Retired, Union, edges_of, must_retire, retire_if, scan_retired, scanned}

@@ -1,25 +1,24 @@
 -- What may be stored while a board is filled.
-use Rattle.std.proofs.Common.{◌≡◌, ◌≢◌, ◌⊎◌, inl, inr, ⊎_elim, ℕ, zero, suc, ◌+◌, ◌*◌, ◌/◌, ◌%◌, ◌^◌, ◌<◌, ◌≤◌, true, false, List, [], ◌∷◌, length, refl, sym, ap, ◌∙◌, subst, arith, get_or-set_same, get_or-set_other, length-set}
-use Rattle.std.specs.Prelude.{Bool, if◌then◌else◌, nat_lt, slice_index, slice_set, Some}
+use Rattle.std.proofs.Common.{◌≡◌, ◌≢◌, ◌⊎◌, inl, inr, ⊎_elim, ℕ, zero, suc, ◌+◌, ◌*◌, ◌/◌, ◌%◌, ◌^◌, ◌<◌, ◌≤◌, true, false, List, length, refl, sym, ap, ◌∙◌, subst, arith, get_or-set_same, get_or-set_other, length-set}
+use Rattle.std.specs.Prelude.{Bool, if◌then◌else◌, nat_lt, slice_index, slice_set}
 use Rattle.std.proofs.lemmas.Bool.{false≢true}
 use Rattle.std.proofs.lemmas.List.{get_or_past}
 use mathlib.Core.Logic.{dite}
 use native.Mathlib.Decide.{ℕ_discrete, dec_lt}
 use Rattle.fib_addr.specs.Prefixes.{nibble}
-use Rattle.fib_reach.specs.Walks.{Walk, Leads}
+use Rattle.fib_reach.specs.Walks.{Walk}
 use Rattle.fib_resolve.specs.declared.types.End.{End}
 use Rattle.fib_resolve.specs.declared.types.End.TheVariants as answers
 use Rattle.fib_union.specs.Unions as edges
 use Rattle.fib_union.specs.Unions.{owner}
 use Rattle.fib_core.specs.declared.word.Word.{Word}
 use Rattle.fib_core.specs.declared.word.Word.TheVariants as words
-use Rattle.fib_core.specs.Words.{IsRoomy, decoded, encoded, goes, is_edge, tag_of, target, value_of}
-use Rattle.fib_core.specs.Walk.{EndsIn, Place, adjacency, after, balance, deeper, end_at, ended, from_balance, from_ply, halved, ply, root, stepped, walk, word_at}
-use Rattle.fib_core.specs.Union.{AreEdges, Edge, Goes, HasForm, IsPlyWord, PlyEdge, Union, edge_in, edges_of}
+use Rattle.fib_core.specs.Words.{IsRoomy, decoded, encoded, is_edge, tag_of, target, value_of}
+use Rattle.fib_core.specs.Walk.{EndsIn, Place, adjacency, after, balance, end_at, ended, from_balance, from_ply, halved, ply, root, stepped, walk, word_at}
+use Rattle.fib_core.specs.Union.{Edge, Goes, HasForm, IsPlyWord, PlyEdge, Union, edges_of}
 use Rattle.fib_core.specs.Trails.{IsEndOf}
 use Rattle.fib_core.proofs.Numbers.{decoded_encoded, goes_of, target_of}
 use Rattle.fib_core.proofs.Edges.{edge_is, edge_words}
-use Rattle.fib_core.proofs.Stands.{going_or_ended}
 use Rattle.fib_lawful.specs.State.{Control}
 use Rattle.fib_steady.specs.Names.{LeadsNow}
 use Rattle.fib_rule.specs.Change.{MayChange, MayEnter, MayPlace}

@@ -1,34 +1,27 @@
 -- Each store of the filling may be made, and after the last, once the worker is seen at rest, the board stands for the fresh tables.
-use Rattle.std.proofs.Common.{◌≡◌, ◌≢◌, ◌⊎◌, inl, inr, ⊎_elim, ℕ, zero, suc, ◌+◌, ◌*◌, ◌/◌, ◌%◌, ◌^◌, ◌<◌, ◌≤◌, true, false, List, [], ◌∷◌, length, refl, sym, ap, ◌∙◌, subst, arith, length-set}
-use Rattle.std.specs.Prelude.{Bool, Some, if◌then◌else◌, nat_lt, not, replicate, slice_get, slice_index, slice_set, ◌==◌, ◌&&◌, ◌||◌}
+use Rattle.std.proofs.Common.{◌≡◌, ◌≢◌, inl, inr, ⊎_elim, ℕ, zero, suc, ◌+◌, ◌*◌, ◌<◌, ◌≤◌, true, false, List, [], ◌∷◌, length, refl, sym, ap, ◌∙◌, subst, arith, length-set}
+use Rattle.std.specs.Prelude.{Bool, if◌then◌else◌, nat_lt, not, replicate, slice_index, slice_set, ◌==◌, ◌&&◌, ◌||◌}
 use Rattle.std.specs.List.{AllByRecursion}
 use Rattle.std.proofs.lemmas.Bool.{eq-eqb, eqb-true, false≢true, ltb-true, ne_eqb}
 use mathlib.Core.Logic.{dite}
 use native.Mathlib.Decide.{ℕ_discrete}
 use Rattle.fib_list.proofs.Booleans.{and_both, or_cases}
 use Rattle.fib_list.proofs.Lists.{either}
-use Rattle.fib_addr.specs.Prefixes.{IsPrefix}
-use Rattle.fib_resolve.specs.Tables.{fresh}
-use Rattle.fib_resolve.specs.declared.types.Tables.{Tables}
-use Rattle.fib_resolve.proofs.Sound.{sound_fresh}
 use Rattle.fib_union.specs.Marks.{Mark, all_passed, is_even, looked, unseen}
 use Rattle.fib_union.specs.Unions.{owner}
 use Rattle.fib_core.specs.declared.word.Word.{Word}
 use Rattle.fib_core.specs.declared.word.Word.TheVariants as words
 use Rattle.fib_core.specs.Words.{decoded, encoded, goes, is_edge, tag_of, target, value_of}
 use Rattle.fib_core.specs.Walk.{word_at}
-use Rattle.fib_core.specs.StandsFor.{Stands}
-use Rattle.fib_core.specs.Union.{AnyOf, AreEdges, Goes, HasForm, IsBucketWord, IsPlyWord, Retired, Union, must_retire, retire_if, scan_retired, scanned, stored}
-use Rattle.fib_core.proofs.Numbers.{decoded_encoded, goes-zero, target_of}
+use Rattle.fib_core.specs.Union.{AnyOf, AreEdges, Goes, HasForm, IsBucketWord, IsPlyWord, Retired, must_retire, retire_if, scan_retired, scanned}
+use Rattle.fib_core.proofs.Numbers.{goes-zero, target_of}
 use Rattle.fib_core.proofs.Unions.{goes_stored}
-use Rattle.fib_lawful.specs.State.{Log, begun}
 use Rattle.fib_lawful.proofs.Begins.{drop_at, falses, length_zeros, no_goes}
 use Rattle.fib_steady.specs.Names.{LeadsNow}
-use Rattle.fib_rule.specs.May as events
-use Rattle.fib_board.specs.Boards.{Board, as_control, board_scanned, board_stored}
-use Rattle.fib_board.specs.May.{MayBegin, MaySettle, MayStore}
+use Rattle.fib_board.specs.Boards.{Board, board_scanned, board_stored}
+use Rattle.fib_board.specs.May.{MayStore}
 use Rattle.fib_plainboard.specs.Passes.{fresh_plain}
-use Rattle.fib_plainboard.specs.inner.Filled.{Fits, Forest, IsFilled, IsForest, IsStill}
+use Rattle.fib_plainboard.specs.inner.Filled.{Fits, IsForest, IsStill}
 use Rattle.fib_plainboard.specs.inner.Fresh.{after_stores, all_below, cell_at, depth_of, fits_by, forest, is_good, is_ply_word, link_cell, number_of, same_word, word_of_store}
 use Rattle.fib_plainboard.specs.inner.Filling.{IsFilling, IsReady}
 use Rattle.fib_plainboard.proofs.Filling as filling

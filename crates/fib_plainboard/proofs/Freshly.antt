@@ -1,5 +1,5 @@
 -- The stores that fill a board for the fresh tables: each is good, and after the last the cells stand for these tables.
-use Rattle.std.proofs.Common.{◌≡◌, ◌≢◌, ◌⊎◌, inl, inr, ℕ, zero, suc, ◌+◌, ◌*◌, ◌/◌, ◌%◌, ◌<◌, ◌≤◌, true, false, List, [], ◌∷◌, length, refl, sym, ap, ◌∙◌, subst, arith}
+use Rattle.std.proofs.Common.{◌≡◌, ◌⊎◌, inl, inr, ℕ, zero, suc, ◌+◌, ◌*◌, ◌/◌, ◌%◌, ◌<◌, true, false, List, [], ◌∷◌, length, refl, sym, ap, ◌∙◌, subst, arith}
 use Rattle.std.specs.Prelude.{Bool, Contains, not, slice_index, ◌==◌, ◌&&◌, nat_lt, if◌then◌else◌}
 use Rattle.std.specs.Set.{is_member}
 use Rattle.std.proofs.lemmas.Bool.{eq-eqb, eqb-true, false≢true, ltb-true}
@@ -11,7 +11,7 @@ use Rattle.fib_addr.specs.Prefixes.{IsPrefix, Prefix, same_prefix, size_of}
 use Rattle.fib_buckets.specs.Shares.{buckets}
 use Rattle.fib_addr.proofs.PrefixLaws.{same_prefix-Decides}
 use Rattle.fib_resolve.specs.Tables.{fresh}
-use Rattle.fib_resolve.specs.Pairs.{all_pairs, base_pairs, best_pair, chosen, entries, pairs, short_prefixes}
+use Rattle.fib_resolve.specs.Pairs.{all_pairs, base_pairs, best_pair, chosen, entries, pairs}
 use Rattle.fib_resolve.specs.Sizes.{adjacencies, plies}
 use Rattle.fib_resolve.specs.Buckets.{used, wanted}
 use Rattle.fib_resolve.specs.Forwarding.{usable}

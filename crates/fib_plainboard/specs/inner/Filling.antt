@@ -1,5 +1,5 @@
 -- A board of 64 objects and one worker, filled for the fresh tables.
-use Rattle.std.specs.Prelude.{◌≡◌, ℕ, ◌<◌, List, [], ◌∷◌, length, slice_index}
+use Rattle.std.specs.Prelude.{◌≡◌, ℕ, ◌<◌, [], ◌∷◌, length, slice_index}
 use Rattle.std.specs.List.{AllByRecursion}
 use Rattle.fib_resolve.specs.Tables.{fresh}
 use Rattle.fib_union.specs.Marks.{unseen}

@@ -12,7 +12,7 @@ use Rattle.fib_resolve.specs.Sizes.{plies}
 use Rattle.fib_union.specs.Unions.{owner}
 use Rattle.fib_core.specs.declared.word.Word.{Word}
 use Rattle.fib_core.specs.declared.word.Word.TheVariants as words
-use Rattle.fib_core.specs.Words.{tag_of, value_of, is_edge}
+use Rattle.fib_core.specs.Words.{tag_of, value_of}
 use Rattle.fib_core.specs.StandsFor.{Thing, ply_of, balance_of, adjacency_of, thing_word}
 use Rattle.fib_plainboard.specs.inner.Filled.{Forest}
 

@@ -1,8 +1,7 @@
-use Rattle.std.proofs.Common.{◌≡◌, ℕ, ◌+◌, ◌*◌, ◌/◌, ◌%◌, ap, sym, ◌∙◌, subst, arith}
+use Rattle.std.proofs.Common.{◌≡◌, ℕ, ◌+◌, ◌*◌, ◌/◌, ◌%◌, sym, ◌∙◌, subst, arith}
 use Rattle.fib_core.specs.declared.word.Word.{Word}
 use Rattle.fib_board.specs.Boards.{board_stored}
 use Rattle.fib_board.specs.May.{MayStore}
-use Rattle.fib_plainboard.specs.inner.Fresh.{cell_at, word_of_store}
 use Rattle.fib_plainboard.proofs.Fills.{may, stored_then}
 use Rattle.fib_plainboard.proofs.standing.store_one.Goals as goal
 

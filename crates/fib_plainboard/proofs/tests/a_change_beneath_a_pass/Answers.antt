@@ -1,8 +1,6 @@
 use Rattle.std.proofs.Common.{ap, sym, ◌∙◌, subst}
-use Rattle.fib_core.specs.Union.{scanned}
 use Rattle.fib_board.specs.Boards.{Board}
 use Rattle.fib_plainboard.specs.Passes.{FoundEdge, IsOnItsWay, loads_in, pass_of}
-use Rattle.fib_plainboard.specs.inner.Filling.{HasNumber, IsChanging}
 use Rattle.fib_plainboard.proofs.Changing as changing
 use Rattle.fib_plainboard.proofs.tests.a_change_beneath_a_pass.Goals as goal
 
