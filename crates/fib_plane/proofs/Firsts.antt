@@ -1,5 +1,5 @@
 -- What a put asks, on a board on which nothing has been changed yet.
-use Rattle.std.proofs.Common.{arith, ◌≡◌, ◌≢◌, ◌≤◌, ◌<◌, ◌⊎◌, inl, inr, ⊎_elim, ℕ, zero, suc, ◌+◌, ◌*◌, ◌/◌, ◌%◌, List, [], replicate, length, Option, Some, None, refl, sym, ap, ◌∙◌, subst, get_or-set_same, get_or-set_other, true≢false}
+use Rattle.std.proofs.Common.{arith, ◌≡◌, ◌≢◌, ◌≤◌, ◌<◌, inl, inr, ⊎_elim, ℕ, zero, suc, ◌+◌, ◌*◌, ◌/◌, ◌%◌, List, [], length, Option, Some, refl, sym, ap, ◌∙◌, subst, get_or-set_same, get_or-set_other, true≢false}
 use Rattle.std.specs.Prelude.{slice_index, slice_set}
 use native.Mathlib.Decide.{ℕ_discrete}
 use mathlib.Core.Logic.{dite}
@@ -12,14 +12,13 @@ use Rattle.fib_union.proofs.Stores.{some_none}
 use Rattle.fib_core.specs.declared.word.Word.{Word}
 use Rattle.fib_core.specs.declared.word.Word.TheVariants as words
 use Rattle.fib_core.specs.Words.{encoded, decoded, goes, target}
-use Rattle.fib_core.specs.Walk.{root, from_ply, after, end_at, walk, word_at, IsFlow, EndsIn}
+use Rattle.fib_core.specs.Walk.{root, from_ply, after, end_at, walk, word_at}
 use Rattle.fib_core.specs.Union as unions
 use Rattle.fib_core.specs.Union.{HasForm}
 use Rattle.fib_interned.specs.Interned.{Kept}
 use Rattle.fib_pool.specs.declared.object.Object.{Object}
 use Rattle.fib_pool.specs.declared.object.AdjacencyRecord.{AdjacencyRecord}
-use Rattle.fib_core.specs.Trails.{IsEndOf}
-use Rattle.fib_core.proofs.Numbers.{decoded_encoded, decoded-zero, goes-zero, target_of}
+use Rattle.fib_core.proofs.Numbers.{decoded_encoded, goes-zero, target_of}
 use Rattle.fib_core.proofs.Walks.{after_ended}
 use Rattle.fib_lawful.specs.State.{first_control}
 use Rattle.fib_lawful.specs.May.{IsFilling}
@@ -27,7 +26,7 @@ use Rattle.fib_lawful.proofs.Begins.{falses}
 use Rattle.fib_steady.proofs.Blocks.{nibble_small}
 use Rattle.fib_rule.specs.May as events
 use Rattle.fib_rule.proofs.Example.{first_store}
-use Rattle.fib_board.specs.Boards.{Board, Pass, board_of, edge_of, union_of, word_in}
+use Rattle.fib_board.specs.Boards.{Board, Pass, board_of, union_of, word_in}
 use Rattle.fib_board.specs.May.{Allows, MayChange}
 use Rattle.fib_board.proofs.Serving.{drop_zero, edge_drop, edge_some}
 use Rattle.fib_plane.specs.Planes.{Plane}

@@ -1,7 +1,10 @@
 -- Facts on the planes of the tests: over a fresh board of 64 objects and two workers.
-use Rattle.std.proofs.Common.{arith, ◌≡◌, ◌≢◌, ◌<◌, ◌≤◌, ◌+◌, inl, inr, ℕ, List, [], Option, Some, None, refl, sym, ap, ◌∙◌, subst, get_or-set_same}
+use Rattle.std.proofs.Common.{arith, ◌≡◌, ◌<◌, inr, ℕ, List, [], Option, None, refl, sym, ap, ◌∙◌, subst, get_or-set_same}
 use Rattle.fib_union.specs.Unions.{into}
 use Rattle.fib_lawful.proofs.Begins.{falses}
+use Rattle.fib_interned.specs.Interned.{Kept}
+use Rattle.fib_pool.specs.declared.object.AdjacencyRecord.{AdjacencyRecord}
+use Rattle.fib_pool.specs.Records.{IsUsedLess}
 use Rattle.fib_pool.specs.declared.object.Kind.{Kind}
 use Rattle.fib_pool.specs.declared.object.Object.{Object}
 use Rattle.fib_pool.specs.Objects.{at, count_in, count_of, as_new, IsTaken}
@@ -32,3 +35,6 @@ held b xs ys o kind is taken =
     let new : at ys o ≡ as_new kind = ap (λ (zs : List (Option Object)). at zs o) taken.taken ∙ get_or-set_same xs o (as_new kind) None taken.inside in
     let one : count_of ys o ≡ 1 = ap count_in new in
     omega arith
+
+pub none_used : (rows : List (Kept AdjacencyRecord)) (r : AdjacencyRecord) (most : ℕ) → rows ≡ [] → IsUsedLess rows r most
+none_used rows r most is = subst (λ (q : List (Kept AdjacencyRecord)). IsUsedLess q r most) (sym is) (λ k there same. absurd (let lt = there.1 in let bad : ⊥ = omega arith in bad))

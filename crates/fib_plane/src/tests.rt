@@ -4,7 +4,7 @@ ghost use Rattle.fib_pool.specs.Objects.{fresh_objects};
 ghost use Rattle.fib_plainboard.specs.Passes.{fresh_plain};
 
 use super::*;
-use fib_addr::Addr;
+use fib_addr::{Addr, Mac};
 use fib_core::{Version, Word};
 use fib_plainboard::PlainBoard;
 use fib_pool::Kind;
@@ -70,5 +70,16 @@ fn a_pass_over_a_fresh_plane(rt: HostRuntime) -> Result<(), Fail> {
     let record = plane.end(1);
     assert_eq!(rt; record.end, End::Drop);
     assert_eq!(rt; record.addr, Addr(7));
+    Ok(())
+}
+
+#[test]
+fn a_record_takes_an_object(rt: HostRuntime) -> Result<(), Fail> {
+    let mut plane = fresh(rt.alloc())?;
+    let mac = Mac::new(5).ok_or("no address")?;
+    let taken = plane.take_adj(3, Addr(7), Some(mac))?;
+    assert_eq!(rt; taken, Some(1));
+    assert_eq!(rt; plane.used(), 2);
+    assert_eq!(rt; plane.stored(), 3);
     Ok(())
 }

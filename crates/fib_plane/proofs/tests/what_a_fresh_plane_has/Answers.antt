@@ -1,4 +1,4 @@
-use Rattle.std.proofs.Common.{arith, ◌≡◌, ◌<◌, ◌∙◌, ap}
+use Rattle.std.proofs.Common.{arith, ◌∙◌, ap}
 use Rattle.fib_board.specs.Boards.{Board}
 use Rattle.fib_plane.proofs.tests.what_a_fresh_plane_has.Goals as goal
 
