@@ -20,3 +20,5 @@ pub mod Rewatching
 pub mod Tables
 pub mod Laws
 pub mod Quiet
+pub mod Blanks
+pub mod Ready

@@ -1,6 +1,7 @@
 //! The prefix table: plies of sixteen cells by which a worker finds the balance of an address in at most eight loads.
 #![tactic(auto)]
 
+mod beginning;
 mod calls;
 mod growing;
 mod places;
@@ -11,6 +12,7 @@ mod rows;
 mod set;
 mod table;
 
+pub use beginning::begin;
 pub use calls::{let_go, put, take};
 pub use growing::{fill, grow, sprout};
 pub use places::{Leaf, Place, find, find_leaf};

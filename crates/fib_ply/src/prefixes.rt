@@ -6,11 +6,14 @@ ghost use Rattle.fib_joined.specs.Promise.{IsBegun};
 ghost use Rattle.fib_joined.specs.View.{IsBalance};
 ghost use Rattle.fib_serving.specs.Matches.{FitsVersions, IsSometime, added, removed};
 ghost use Rattle.fib_steady.specs.Aims.{IsLasting};
+ghost use Rattle.fib_addr.specs.Longest.{everything};
+ghost use Rattle.fib_ply.specs.inner.Blank.{IsBlank};
 ghost use Rattle.fib_ply.specs.Tables.{LeadsAll, Stands, object_in};
 
+use crate::beginning::begin;
 use crate::rows::Rows;
 use crate::table::{add, remove};
-use fib_addr::Prefix;
+use fib_addr::{Addr, Prefix};
 use fib_joined::Objects;
 use std::alloc::{AllocError, Global};
 use std::marker::Model;
@@ -23,6 +26,8 @@ pub struct PrefixTable {
 }
 
 impl Model for PrefixTable {
+    ghost use Rattle.fib_addr.specs.Longest.{everything};
+    ghost use Rattle.fib_ply.specs.inner.Blank.{IsBlank};
     ghost use Rattle.fib_ply.specs.Tables.{Table};
 
     ghost Value = { Table };
@@ -50,6 +55,24 @@ impl PrefixTable {
         ensures spare { self.old.rows.spare ≤ self.new.rows.spare }
     {
         self.rows.reserve(alloc, more)
+    }
+
+    /// Begins with 0.0.0.0/0, which leads to that balance, before the first change. Every bucket of the balance drops.
+    pub fn ready<P: Objects>(&mut self, on: &mut P, object: u32)
+        requires blank { IsBlank (P.promise on.old) (P.view on.old) object 0 }
+        requires none { self.old.rows.members ≡ [] }
+        requires room { 0 < self.old.rows.spare }
+        ensures object { object_in self.new ≡ added (λ e. None) everything object }
+        ensures plies { self.new.plies ≡ 1 }
+        ensures room { self.old.rows.spare ≤ self.new.rows.spare + 1 }
+        ensures stands { Stands (P.promise on.new) self.new (P.view on.new) }
+        ensures leads { LeadsAll self.new (P.view on.new) }
+        ensures promise { P.promise on.new ≡ P.promise on.old }
+        ensures beside { Beside (P.view on.old) (P.view on.new) }
+    {
+        begin(on, object);
+        self.rows.take_in(Prefix::masked(Addr(0), 0), object);
+        self.plies = 1;
     }
 
     /// How many plies stand for the prefixes, the root too.

@@ -1,0 +1,11 @@
+use Rattle.std.proofs.Common.{◌≡◌}
+use Rattle.fib_joined.specs.Frames.{Beside}
+use Rattle.fib_ply.specs.inner.Blank.{IsBlank}
+use Rattle.fib_ply.proofs.beginning.begin.Given as goal
+
+abbrev pub invariant-loop-slot : goal.invariant-loop-slot
+invariant-loop-slot g l = record {
+  blank : IsBlank (g.P.Objects.promise l.on) (g.P.Objects.view l.on) l.object l.slot;
+  promise : g.P.Objects.promise l.on ≡ g.P.Objects.promise l.initial.on;
+  beside : Beside (g.P.Objects.view l.initial.on) (g.P.Objects.view l.on);
+}

@@ -1,0 +1,20 @@
+// The root's first cells.
+ghost use Rattle.std.specs.Prelude.{◌≡◌};
+ghost use Rattle.fib_joined.specs.Frames.{Beside};
+ghost use Rattle.fib_ply.specs.inner.Blank.{IsBlank};
+
+use crate::calls::put;
+use fib_core::Word;
+use fib_joined::Objects;
+
+/// Points every cell of the root at one balance.
+pub fn begin<P: Objects>(on: &mut P, object: u32)
+    requires blank { IsBlank (P.promise on.old) (P.view on.old) object 0 }
+    ensures begun { IsBlank (P.promise on.new) (P.view on.new) object 16 }
+    ensures promise { P.promise on.new ≡ P.promise on.old }
+    ensures beside { Beside (P.view on.old) (P.view on.new) }
+{
+    for slot in 0..16 {
+        put(on, 0, slot, Word::ToBalance(object));
+    }
+}
