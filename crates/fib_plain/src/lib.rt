@@ -22,8 +22,8 @@ mod view;
 mod ways;
 
 pub use answers::{ends, resolve, size, touched, usable};
-pub use repeats::distinct;
 pub use paths::{add_adjacencies, adjacency_of, is_same_list, recursive_hop, recursive_hops};
+pub use repeats::distinct;
 pub use snapshot::Snapshot;
 
 #[cfg(test)]

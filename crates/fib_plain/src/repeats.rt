@@ -7,7 +7,10 @@ use std::collections::HashSet;
 use std::hash::Hash;
 
 /// The items, each once: of those that are equal the last stays. Costs one look-up an item.
-pub fn distinct<T: Copy + Eq + Hash + Drop>(alloc: Global, items: &[T]) -> Result<Vec<T>, AllocError>
+pub fn distinct<T: Copy + Eq + Hash + Drop>(
+    alloc: Global,
+    items: &[T],
+) -> Result<Vec<T>, AllocError>
     ensures { IfOk result (λ v. v.items ≡ unique_keys T.eq items.now) }
 {
     let mut seen = HashSet::new(alloc);

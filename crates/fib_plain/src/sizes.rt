@@ -7,9 +7,9 @@ ghost use Rattle.fib_resolve.specs.Pairs.{entries, chosen};
 ghost use Rattle.fib_resolve.specs.Sizes.{plies_of, plies, kind_adjacency, same_adjacency, adjacencies_of, adjacencies, size};
 ghost use Rattle.fib_plain.specs.inner.Rows.{IsKnown};
 
-use crate::repeats::distinct;
 use crate::known::{self, Known};
 use crate::paths;
+use crate::repeats::distinct;
 use fib_addr::{Addr, Prefix};
 use fib_resolve::Adjacency;
 use std::alloc::{AllocError, Global};
