@@ -22,3 +22,4 @@ pub mod Laws
 pub mod Quiet
 pub mod Blanks
 pub mod Ready
+pub mod Rooms

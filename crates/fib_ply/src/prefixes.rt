@@ -3,7 +3,7 @@ ghost use Rattle.std.specs.Prelude.{◌≡◌, ℕ, ◌+◌, ◌-◌, ◌*◌, �
 ghost use Rattle.fib_core.specs.declared.word.Word.TheVariants.{Drop};
 ghost use Rattle.fib_joined.specs.Frames.{Beside};
 ghost use Rattle.fib_joined.specs.Promise.{IsBegun};
-ghost use Rattle.fib_joined.specs.View.{IsBalance};
+ghost use Rattle.fib_joined.specs.View.{HasRoom, IsBalance};
 ghost use Rattle.fib_serving.specs.Matches.{FitsVersions, IsSometime, added, removed};
 ghost use Rattle.fib_steady.specs.Aims.{IsLasting};
 ghost use Rattle.fib_addr.specs.Longest.{everything};
@@ -55,6 +55,18 @@ impl PrefixTable {
         ensures spare { self.old.rows.spare ≤ self.new.rows.spare }
     {
         self.rows.reserve(alloc, more)
+    }
+
+    /// Room in the plane for the edges that one more call replaces.
+    pub fn room<P: Objects>(&self, on: &mut P) -> Result<(), AllocError>
+        requires stands { Stands (P.promise on.old) self.now (P.view on.old) }
+        requires few { self.now.plies ≤ 131072 }
+        ensures stands { Stands (P.promise on.new) self.now (P.view on.new) }
+        ensures room { OnOk result (16 * (self.now.plies + 7) ≤ (P.view on.new).spare) }
+        ensures same { HasRoom (P.view on.old) (P.view on.new) }
+        ensures promise { P.promise on.new ≡ P.promise on.old }
+    {
+        on.room(16 * (self.plies + 7))
     }
 
     /// Begins with 0.0.0.0/0, which leads to that balance, before the first change. Every bucket of the balance drops.
