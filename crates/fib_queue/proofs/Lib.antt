@@ -1,0 +1,3 @@
+pub mod Keys
+pub mod Looks
+pub mod Changes
