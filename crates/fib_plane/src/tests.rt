@@ -1,7 +1,10 @@
 // Each public call, with ample memory, over a plain board.
-ghost use Rattle.std.specs.Prelude.{IfOk, [], ◌≡◌};
+ghost use Rattle.std.specs.Prelude.{IfOk, [], ◌+◌, ◌<◌, ◌≡◌, ◌≤◌};
 ghost use Rattle.fib_pool.specs.Objects.{fresh_objects};
 ghost use Rattle.fib_plainboard.specs.Passes.{fresh_plain};
+ghost use Rattle.fib_plane.specs.declared.put.Put.TheVariants as puts;
+ghost use Rattle.fib_plane.specs.Planes.{Holds};
+ghost use Rattle.fib_plane.specs.inner.Young.{IsLinked, IsYoung};
 
 use super::*;
 use fib_addr::{Addr, Mac};
@@ -81,5 +84,73 @@ fn a_record_takes_an_object(rt: HostRuntime) -> Result<(), Fail> {
     assert_eq!(rt; taken, Some(1));
     assert_eq!(rt; plane.used(), 2);
     assert_eq!(rt; plane.stored(), 3);
+    Ok(())
+}
+
+// An edge from the root to object 1.
+fn link(plane: &mut Plane<PlainBoard>) -> Put
+    requires board { plane.old.board ≡ fresh_plain 64 2 }
+    requires records { plane.old.records ≡ [] }
+    requires held { Holds plane.old 1 }
+    ensures linked { result ≡ puts.Stored → IsLinked plane.new }
+    ensures held { result ≡ puts.Stored → Holds plane.new 1 }
+    ensures spare { result ≡ puts.Stored → plane.old.spare ≤ plane.new.spare + 1 }
+{
+    plane.tells();
+    plane.put(0, 0, Word::ToBalance(1))
+}
+
+// The hold of object 1 ends.
+fn leave(plane: &mut Plane<PlainBoard>)
+    requires linked { IsLinked plane.old }
+    requires held { Holds plane.old 1 }
+    ensures linked { IsLinked plane.new }
+    ensures spare { plane.old.spare ≤ plane.new.spare }
+{
+    plane.let_go(1);
+    plane.tells();
+}
+
+// The edge is replaced.
+fn empty(plane: &mut Plane<PlainBoard>) -> Put
+    requires linked { IsLinked plane.old }
+    requires spare { 0 < plane.old.spare }
+    ensures young { result ≡ puts.Stored → IsYoung plane.new }
+{
+    plane.tells();
+    plane.put(0, 0, Word::Drop)
+}
+
+// A plane whose root leads to object 1, which is not held.
+fn linked(alloc: Global) -> Result<Plane<PlainBoard>, Fail>
+    ensures { IfOk result (λ p. IsLinked p × (0 < p.spare)) }
+{
+    let mut plane = fresh(alloc)?;
+    plane.room(2)?;
+    let Some(object) = plane.take(Kind::Balance) else {
+        return Err(Fail::from("no object"));
+    };
+    if object != 1 {
+        return Err(Fail::from("another object"));
+    }
+    let Put::Stored = link(&mut plane) else {
+        return Err(Fail::from("the edge isn't stored"));
+    };
+    leave(&mut plane);
+    Ok(plane)
+}
+
+#[test]
+fn a_scan_frees_what_a_replaced_edge_led_to(rt: HostRuntime) -> Result<(), Fail> {
+    let mut plane = linked(rt.alloc())?;
+    assert_eq!(rt; plane.used(), 2);
+    let Put::Stored = empty(&mut plane) else {
+        return Err(Fail::from("the edge isn't replaced"));
+    };
+    assert_eq!(rt; plane.retired(), 1);
+    assert_eq!(rt; plane.used(), 2);
+    assert_eq!(rt; plane.scan(), 0);
+    assert_eq!(rt; plane.used(), 1);
+    assert_eq!(rt; plane.stored(), 2);
     Ok(())
 }
