@@ -1,3 +1,6 @@
 pub mod Seeing
 pub mod Paying
 pub mod Sounding
+pub mod Sweeping
+pub mod Promising
+pub mod Taking
