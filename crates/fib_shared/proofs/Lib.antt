@@ -4,3 +4,4 @@ pub mod Sounding
 pub mod Sweeping
 pub mod Promising
 pub mod Taking
+pub mod Beginning

@@ -161,8 +161,8 @@ module _ (p q : Plane) (c : ℕ) (told : sound.IsPlane p) (after : sound.IsPlane
       let n : count_of mid.objects y ≡ count_of p.objects y = ap count_in (at_other p.objects c (count_of p.objects c - 1) there.0 there.1 y ne) in
       held_same p.board p.board p.objects mid.objects y (λ h. omega arith) (λ h. omega arith) (λ h. adjacency_kept p.objects mid.objects mid_size mid_none mid_kinds y)
 
-  held_else : (y : ℕ) → y ≢ c → (view_of q).is_held y ≡ (view_of p).is_held y
-  held_else y ne = swept_held mid q s after size long drops y ∙ held_mid y ne
+  else_held : (y : ℕ) → y ≢ c → (view_of q).is_held y ≡ (view_of p).is_held y
+  else_held y ne = swept_held mid q s after size long drops y ∙ held_mid y ne
 
   gone : (view_of q).is_held c ≡ false
   gone = not_held ((view_of q).is_held c) (λ h.
@@ -186,12 +186,12 @@ module _ (p q : Plane) (c : ℕ) (told : sound.IsPlane p) (after : sound.IsPlane
           spare = w.spare;
         };
         gone = gone;
-        held = held_else;
+        held = else_held;
         records = record { record_of = ap record_in records; users = ap users_of_record records };
         stores = (let a = t.more in let b = t.few in record { more = a; few = omega arith });
       }
 
   pub gone_sound : IsPlane (view_of p) → IsPlane (view_of q)
   gone_sound was = sound_swept (view_of p) q after was gone_seen.swept
-      (λ y h. elim (cases_eq y c) [ inl same ↦ ap (λ (i : ℕ). (view_of p).is_held i) same ∙ held | inr ne ↦ sym (held_else y ne) ∙ h ])
+      (λ y h. elim (cases_eq y c) [ inl same ↦ ap (λ (i : ℕ). (view_of p).is_held i) same ∙ held | inr ne ↦ sym (else_held y ne) ∙ h ])
       (λ m x e. ap (λ (f : AdjacencyRecord → Option ℕ). f m) (sym (ap record_in records)) ∙ e)

@@ -1,9 +1,12 @@
 //! A plane of objects as the prefix table and the stack of buckets see it.
 //!
-//! `specs/Shares.antt` gives the view and the promise of a plane; `laws` says what of a plane's contracts becomes what of theirs.
+//! `specs/Shares.antt` gives the view and the promise of a plane; `Shared` is a plane of which all that they rest on holds.
 #![tactic(auto)]
 
 pub mod laws;
+mod shared;
+
+pub use shared::Shared;
 
 #[cfg(test)]
 mod tests;
