@@ -5,3 +5,4 @@ pub mod Sweeping
 pub mod Promising
 pub mod Taking
 pub mod Beginning
+pub mod Scanning

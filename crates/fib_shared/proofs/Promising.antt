@@ -89,6 +89,8 @@ pub serves_down : (p : Plane) (n : Names) → Serves (promise_of p.board) n (vie
     → (0 < p.board.log.version.applied → (e : Prefix) (o : ℕ) → IsLasting (versions p.board.log) e → n.balance e ≡ Some o → (view_of p).is_held o ≡ true → Held o)
     → may.Serves p.board Held
 serves_down p n s Held held begun =
-    let h = s.promised begun in
-    (n, promised_down p.board (view_of p) (λ x t lt. cell_is p.board x t lt) (goes_up p) (versions p.board.log) n s.paths h,
-      λ e o lasting is. held begun e o lasting is (h.buckets.held e o lasting is).0)
+    let h = s.promised begun in (
+      n,
+      promised_down p.board (view_of p) (λ x t lt. cell_is p.board x t lt) (goes_up p) (versions p.board.log) n s.paths h,
+      λ e o lasting is. held begun e o lasting is (h.buckets.held e o lasting is).0,
+    )

@@ -118,8 +118,7 @@ not_true false e = refl
 pub held_down : (b : Board) (xs : List (Option Object)) (x : ℕ) → is_held_in b xs x ≡ true → (x ≢ 0) × IsHeld b xs x × (is_adjacency_at (at xs x) ≡ false)
 held_down b xs x h =
     let a = and_both (not (eqb x 0)) (ltb (into (union_of b) x) (count_of xs x) && not (is_adjacency_at (at xs x))) h in
-    let c = and_both (ltb (into (union_of b) x) (count_of xs x)) (not (is_adjacency_at (at xs x))) a.1 in
-    (
+    let c = and_both (ltb (into (union_of b) x) (count_of xs x)) (not (is_adjacency_at (at xs x))) a.1 in (
       (λ z. false≢true (sym (not_true (eqb x 0) a.0) ∙ eq-eqb x 0 z)),
       ltb-true (into (union_of b) x) (count_of xs x) c.0,
       not_true (is_adjacency_at (at xs x)) c.1,
@@ -175,8 +174,7 @@ module _ (rows : List (Kept AdjacencyRecord)) (one : AreInterned rows) where
   -- a record that is kept is found under its number, and by its contents
   pub kept_down : (m : AdjacencyRecord) (k : Kept AdjacencyRecord) → kept_as rows m ≡ Some k → (kept_of rows k.id ≡ Some k) × (k.content ≡ m)
   kept_down m k e =
-      let f = find_place (λ k. same_record k.content m) rows k e in
-      (
+      let f = find_place (λ k. same_record k.content m) rows k e in (
         find_only (λ l. eqb l.id k.id) rows f.0 k f.1 (eq-eqb k.id k.id refl) (λ j l at is. one.numbers_apart j f.0 l k at f.1 (eqb-true l.id k.id is)),
         same_record_is k.content m f.2,
       )

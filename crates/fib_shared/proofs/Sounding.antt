@@ -54,8 +54,7 @@ module _ (p : Plane) (told : plane.IsPlane p) where
   record_apart m x e =
       let k = record_down p.records told.interned m x e in
       let a = told.records.adjacencies x k.0 k.1 in
-      let other = told.records.other x k.0 k.1 in
-      (
+      let other = told.records.other x k.0 k.1 in (
         adjacency_not_held (eqb x 0) _ (is_adjacency_at (at p.objects x)) (ap is_adjacency_at a.taken),
         or_false (eqb x 0) (is_ply_at (at p.objects x)) (eqb_not x other) (ap is_ply_at a.taken),
       )
@@ -80,14 +79,14 @@ module _ (p : Plane) (told : plane.IsPlane p) where
     recorded = λ m lt. used m (kept_as p.records m) refl lt;
     forgotten = λ m z. unused m (kept_as p.records m) refl z;
     apart = λ m n x e f. (
-      let k = record_down p.records told.interned m x e in
-      let l = record_down p.records told.interned n x f in
-      let same : k.0 ≡ l.0 = some_is k.0 l.0 (sym k.1 ∙ l.1) in
-      sym k.2 ∙ (ap (λ (j : Kept AdjacencyRecord). j.content) same ∙ l.2));
+        let k = record_down p.records told.interned m x e in
+        let l = record_down p.records told.interned n x f in
+        let same : k.0 ≡ l.0 = some_is k.0 l.0 (sym k.1 ∙ l.1) in
+        sym k.2 ∙ (ap (λ (j : Kept AdjacencyRecord). j.content) same ∙ l.2));
     records = record_apart;
     plain = λ m x s y e l. (
-      let k = record_down p.records told.interned m x e in
-      let c = cell_down p.board x s (u.cell x s) y l refl in
-      record_no_edge k.0.content s y (subst (λ (w : Word). leads w y) (sym c.1 ∙ told.records.words x s k.0 k.1 c.0) l));
+        let k = record_down p.records told.interned m x e in
+        let c = cell_down p.board x s (u.cell x s) y l refl in
+        record_no_edge k.0.content s y (subst (λ (w : Word). leads w y) (sym c.1 ∙ told.records.words x s k.0 k.1 c.0) l));
     few = (let f = free_few p.objects in let s = told.size in let m = told.board.limits.most in omega arith);
   }

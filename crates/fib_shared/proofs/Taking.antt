@@ -1,5 +1,6 @@
 -- Objects that are taken and let go.
 use Rattle.std.proofs.Common.{arith, ◌≡◌, ◌≢◌, ℕ, zero, suc, ◌+◌, ◌*◌, ◌-◌, ◌%◌, ◌<◌, ◌≤◌, ◌⊎◌, inl, inr, Bool, true, false, not, ◌&&◌, ◌||◌, ltb, eqb, ne_eqb, List, length, set, Option, Some, None, refl, sym, ◌∙◌, ap, subst, get_or-set_same, get_or-set_other, length-set}
+use Rattle.std.specs.Prelude.{IfSome, IfNone}
 use Rattle.std.proofs.lemmas.Bool.{false≢true, true≢false, cases_eq, lt-ltb}
 use Rattle.fib_list.proofs.Lists.{either}
 use Rattle.fib_interned.specs.Interned.{Kept, kept_of}
@@ -66,8 +67,8 @@ module _ (p q : Plane) (kind : Kind) (c : ℕ) (other : kind ≡ kinds.Adjacency
 
   below : (s y : ℕ) → Goes u c s (words.ToPly y) → ⊥
   below s y g = (let d = goes_down p c s (words.ToPly y) y refl g in
-    let none = subst (λ (b : Board). HasNoPly b c) board plies in
-    (none (16 * c + s) d.1 y d.3 d.2).0 (owner_of c s d.0))
+      let none = subst (λ (b : Board). HasNoPly b c) board plies in
+      (none (16 * c + s) d.1 y d.3 d.2).0 (owner_of c s d.0))
 
   held_new : v.is_held c ≡ true
   held_new =
@@ -166,11 +167,11 @@ module _ (p q : Plane) (c : ℕ) (told : sound.IsPlane p) (after : sound.IsPlane
 
   gone : (view_of q).is_held c ≡ false
   gone = not_held ((view_of q).is_held c) (λ h.
-    let d = (held_down q.board q.objects c h).1 in
-    let e = s.holds c in
-    let n : count_of mid.objects c ≡ count_of p.objects c - 1 = count_same p.objects c (count_of p.objects c - 1) there.0 there.1 in
-    let m = (told.counted c).most in
-    absurd (let bad : ⊥ = omega arith in bad))
+      let d = (held_down q.board q.objects c h).1 in
+      let e = s.holds c in
+      let n : count_of mid.objects c ≡ count_of p.objects c - 1 = count_same p.objects c (count_of p.objects c - 1) there.0 there.1 in
+      let m = (told.counted c).most in
+      absurd (let bad : ⊥ = omega arith in bad))
 
   pub gone_seen : IsLetGo (view_of p) (view_of q) c
   gone_seen =
@@ -195,3 +196,38 @@ module _ (p q : Plane) (c : ℕ) (told : sound.IsPlane p) (after : sound.IsPlane
   gone_sound was = sound_swept (view_of p) q after was gone_seen.swept
       (λ y h. elim (cases_eq y c) [ inl same ↦ ap (λ (i : ℕ). (view_of p).is_held i) same ∙ held | inr ne ↦ sym (else_held y ne) ∙ h ])
       (λ m x e. ap (λ (f : AdjacencyRecord → Option ℕ). f m) (sym (ap record_in records)) ∙ e)
+
+-- another object stays held, and what was taken as a ply or a balance has no record
+pub held_released : (p : Plane) (c : ℕ) → (view_of p).is_held c ≡ true → (o : ℕ) → (o ≡ c → ⊥) → (view_of p).is_held o ≡ true → IsHeld p.board (released p c) o
+held_released p c held o ne h =
+    let d : IsHeld p.board p.objects c = (held_down p.board p.objects c held).1 in
+    let x = live_at p.objects c (omega arith) in
+    let e : IsHeld p.board p.objects o = (held_down p.board p.objects o h).1 in
+    let n : count_of (released p c) o ≡ count_of p.objects o = ap count_in (at_other p.objects c (count_of p.objects c - 1) x.0 x.1 o ne) in
+    omega arith
+
+pub unrecorded : (p : Plane) → sound.IsPlane p → (c : ℕ) → (view_of p).is_held c ≡ true → kept_of p.records c ≡ None
+unrecorded p told c held = by_kept (kept_of p.records c) refl
+  where
+    by_kept : (o : Option (Kept AdjacencyRecord)) → kept_of p.records c ≡ o → kept_of p.records c ≡ None
+    by_kept None is = is
+    by_kept (Some k) is =
+        let a = told.records.adjacencies c k is in
+        let n = (held_down p.board p.objects c held).2 in
+        absurd (true≢false (sym (ap is_adjacency_at a.taken) ∙ n))
+
+-- the same of what a take answers
+module _ (p q : Plane) (kind : Kind) (r : Option ℕ) (other : kind ≡ kinds.Adjacency → ⊥) (told : sound.IsPlane p) (after : sound.IsPlane q) (board : q.board ≡ p.board) (records : q.records ≡ p.records) (spare : q.spare ≡ p.spare) where
+  pub take_seen : IfSome r (λ c. pool.IsTaken p.objects q.objects c kind) → IfSome r (λ c. free_in q.objects + 1 ≡ free_in p.objects) → IfSome r (λ c. HasNoPly q.board c) → IfSome r (λ c. IsTaken (view_of p) (view_of q) kind c)
+  take_seen taken free plies = by_answer r taken free plies
+    where
+      by_answer : (o : Option ℕ) → IfSome o (λ c. pool.IsTaken p.objects q.objects c kind) → IfSome o (λ c. free_in q.objects + 1 ≡ free_in p.objects) → IfSome o (λ c. HasNoPly q.board c) → IfSome o (λ c. IsTaken (view_of p) (view_of q) kind c)
+      by_answer None t f n = tt
+      by_answer (Some c) t f n = taken_seen p q kind c other told after board records spare t f n
+
+  pub take_sound : IfSome r (λ c. pool.IsTaken p.objects q.objects c kind) → IfSome r (λ c. free_in q.objects + 1 ≡ free_in p.objects) → IfSome r (λ c. HasNoPly q.board c) → IfNone r (q ≡ p) → IsPlane (view_of p) → IsPlane (view_of q)
+  take_sound taken free plies same was = by_answer r taken free plies same
+    where
+      by_answer : (o : Option ℕ) → IfSome o (λ c. pool.IsTaken p.objects q.objects c kind) → IfSome o (λ c. free_in q.objects + 1 ≡ free_in p.objects) → IfSome o (λ c. HasNoPly q.board c) → IfNone o (q ≡ p) → IsPlane (view_of q)
+      by_answer None t f n e = subst (λ (x : Plane). IsPlane (view_of x)) (sym e) was
+      by_answer (Some c) t f n e = taken_sound p q kind c other told after board records spare t f n was

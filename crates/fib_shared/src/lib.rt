@@ -3,6 +3,7 @@
 //! `specs/Shares.antt` gives the view and the promise of a plane; `Shared` is a plane of which all that they rest on holds.
 #![tactic(auto)]
 
+pub mod calls;
 pub mod laws;
 mod shared;
 
