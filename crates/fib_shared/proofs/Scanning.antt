@@ -15,7 +15,7 @@ use Rattle.fib_plane.specs.Planes.{Plane, IsHeld}
 use Rattle.fib_plane.specs.Planes as plane
 use Rattle.fib_plane.specs.Sound as sound
 use Rattle.fib_joined.specs.View.{View, Retired, Goes, IsPlane, IsScanned}
-use Rattle.fib_shared.specs.Shares.{copy_seen, record_in, users_of_record, view_of}
+use Rattle.fib_shared.specs.Shares.{copy_seen, promise_of, record_in, users_of_record, view_of}
 use Rattle.fib_shared.proofs.Seeing.{held_same}
 use Rattle.fib_shared.proofs.Sweeping.{ply_kept, adjacency_kept, free_kept, sound_swept, swept_seen, swept_held, swept_stores}
 
@@ -108,3 +108,6 @@ module _ (p q : Plane) (told : sound.IsPlane p) (after : sound.IsPlane q) (s : p
   scanned_sound was = sound_swept (view_of p) q after was (scanned_seen (length q.board.union.retired) refl).swept
       (λ y h. sym (held_eq y) ∙ h)
       (λ m x e. ap (λ (f : AdjacencyRecord → Option ℕ). f m) (sym (ap record_in s.records)) ∙ e)
+
+  pub scanned_promise : promise_of q.board ≡ promise_of p.board
+  scanned_promise = ap promise_of s.swept.frame ∙ ap promise_of frame

@@ -1,8 +1,8 @@
 //! Calls of a plane by the view: what they ask and do is what the prefix table and the stack say, and what holds of every plane stays.
 ghost use Rattle.std.specs.Prelude.{IfNone, IfSome, OnOk, true, ◌<◌, ◌≡◌, ◌≢◌, ◌≤◌};
 ghost use Rattle.fib_pool.specs.declared.object.Kind.TheVariants as kinds;
-ghost use Rattle.fib_joined.specs.Promise.{MayLetGo};
-ghost use Rattle.fib_joined.specs.View.{HasRoom, IsLetGo, IsLive, IsPlane, IsTaken};
+ghost use Rattle.fib_joined.specs.Promise.{MayClear, MayLetGo};
+ghost use Rattle.fib_joined.specs.View.{HasRoom, IsLetGo, IsLive, IsPlane, IsScanned, IsTaken};
 ghost use Rattle.fib_shared.specs.Shares.{promise_of, view_of};
 
 use fib_board::Board;
@@ -58,4 +58,18 @@ pub fn let_go<B: Board>(plane: &mut Plane<B>, object: u32)
     plane.tells();
     plane.let_go(object);
     plane.tells();
+}
+
+/// Lets retired edges go that every worker has passed. Answers how many are left.
+pub fn scan<B: Board>(plane: &mut Plane<B>) -> u32
+    requires sound { IsPlane (view_of plane.old) }
+    requires promise { MayClear (promise_of plane.old.board) (view_of plane.old) }
+    ensures scanned { IsScanned (view_of plane.old) (view_of plane.new) result }
+    ensures sound { IsPlane (view_of plane.new) }
+    ensures promise { promise_of plane.new.board ≡ promise_of plane.old.board }
+{
+    plane.tells();
+    let left = plane.scan();
+    plane.tells();
+    left
 }
