@@ -1,5 +1,5 @@
 -- For those who keep the rule: what a board's calls ask is what the rule's events ask, and the rule tells what holds of a board.
-use Rattle.std.proofs.Common.{◌≡◌, ℕ, List, Option, arith, refl}
+use Rattle.std.proofs.Common.{◌≡◌, ℕ, List, Option, arith, refl, sym, subst}
 use Rattle.fib_core.specs.declared.word.Word.{Word}
 use Rattle.fib_core.specs.Words.{encoded}
 use Rattle.fib_core.specs.Trails.{Trail, AreLawful}
@@ -10,7 +10,7 @@ use Rattle.fib_lawful.specs.Frame.{HasView}
 use Rattle.fib_rule.specs.Rule.{IsLawful}
 use Rattle.fib_rule.specs.Change as rule
 use Rattle.fib_rule.specs.May as events
-use Rattle.fib_rule.specs.Steady.{AreSteady}
+use Rattle.fib_rule.specs.Steady.{AreSteady, MayStoreSteadily}
 use Rattle.fib_rule.proofs.Keeping.{here}
 use Rattle.fib_rule.proofs.Changing.{store_gives}
 use Rattle.fib_rule.proofs.Tells.{gathered_all}
@@ -38,7 +38,7 @@ module _ (id : List ℕ) (trails : List Trail) (passes : List (Option Pass)) (c 
       let place = may.place in
       store_gives objects numbers views s seat c mine k w
       (record { inside = place.inside; other = place.other; target = place.target; allowed = place.allowed })
-      (λ is away. may.aside is away)
+      (λ is away. subst (λ (v : Word). MayStoreSteadily c k (encoded v)) (sym is) (may.aside is away))
       (λ reached. change_is k w (may.seen reached))
 
   -- so is the beginning of a version

@@ -1,5 +1,5 @@
 -- Steady traffic and plies on boards: what the rule keeps, in the words of a board.
-use Rattle.std.proofs.Common.{◌≡◌, ◌≢◌, ℕ, Some, None, sym, ap, ◌∙◌, subst, refl, if◌then◌else◌, Bool, true, false}
+use Rattle.std.proofs.Common.{inl, inr, ◌≡◌, ◌≢◌, ℕ, Some, None, sym, ap, ◌∙◌, subst, refl, if◌then◌else◌, Bool, true, false}
 use Rattle.fib_union.specs.Unions as edges
 use Rattle.fib_union.specs.Unions.{owner, into}
 use Rattle.fib_core.specs.declared.word.Word.{Word}
@@ -7,15 +7,16 @@ use Rattle.fib_core.specs.declared.word.Word.TheVariants as words
 use Rattle.fib_core.specs.Words.{IsRoomy, encoded, decoded, goes, target, is_edge, value_of}
 use Rattle.fib_core.specs.Union.{edge_in}
 use Rattle.fib_core.proofs.Numbers.{decoded_encoded, goes_of, target_of}
-use Rattle.fib_core.proofs.Unions.{none_counted}
+use Rattle.fib_core.proofs.Unions.{none_counted, goes_edges}
 use Rattle.fib_core.proofs.Edges.{edges_stored, edges_scanned}
 use Rattle.fib_steady.specs.Rooted.{PliesHang}
 use Rattle.fib_steady.proofs.Hanging.{none_leaves_aside}
 use Rattle.fib_lawful.specs.State.{put}
 use Rattle.fib_rule.specs.Serving.{Serves as serving_of}
+use Rattle.fib_rule.specs.Steady.{MayStoreSteadily}
 use Rattle.fib_rule.proofs.Serving as serving
 use Rattle.fib_board.specs.Boards.{Board, as_control, edge_of, union_of, board_stored, board_scanned, HasNoPly}
-use Rattle.fib_board.specs.May.{MayClear, Serves}
+use Rattle.fib_board.specs.May.{IsReached, MayClear, MayEmpty, Serves}
 
 -- a board's store and look are those of its union between objects
 pub union_stored : (b : Board) (k : ℕ) (w : Word) → union_of (board_stored b k w) ≡ edges.stored b.workers (union_of b) k (edge_of w)
@@ -48,6 +49,12 @@ edge_at_drop n is = edge_by n false (goes_of n words.Drop is)
 -- what isn't held may be cleared
 pub serves_clear : (b : Board) (Held : ℕ → Type 0) (o : ℕ) → (Held o → ⊥) → Serves b Held → MayClear b o
 serves_clear b Held o free ok = serving.serves_clear (as_control b) Held o free ok
+
+-- what may be cleared may be emptied
+pub clear_empties : (b : Board) (k : ℕ) → (IsReached b (owner k) → ⊥) → MayClear b (owner k) → MayEmpty b k
+clear_empties b k far clear =
+    subst (MayStoreSteadily (as_control b) k) (sym drop_zero)
+    (serving.clear_steadily (as_control b) k (λ z. far (inl z)) (λ j v g to. far (inr (j, subst (edges.Goes (union_of b) j) to (goes_edges b.union j v g)))) clear)
 
 -- a Drop where nothing leads and that isn't held, a look, a change of holds
 pub serves_cleared : (b : Board) (Held : ℕ → Type 0) (k : ℕ) → owner k ≢ 0 → into (union_of b) (owner k) ≡ 0 → (Held (owner k) → ⊥) → Serves b Held → Serves (board_stored b k words.Drop) Held

@@ -4,10 +4,12 @@ use Rattle.fib_union.specs.Unions.{owner}
 use Rattle.fib_resolve.specs.declared.types.Tables.{Tables}
 use Rattle.fib_core.specs.declared.word.Word.{Word}
 use Rattle.fib_core.specs.declared.word.Word.TheVariants as words
+use Rattle.fib_core.specs.Words.{encoded}
 use Rattle.fib_rule.specs.Change as rule
 use Rattle.fib_rule.specs.Change.{MayPlace}
 use Rattle.fib_rule.specs.May as events
 use Rattle.fib_rule.specs.Serving as serving
+use Rattle.fib_rule.specs.Steady.{MayStoreSteadily}
 use Rattle.fib_lawful.specs.May as lawfully
 use Rattle.fib_board.specs.Boards.{Board, as_control}
 
@@ -29,11 +31,16 @@ MayChange b k w = rule.MayChange (as_control b) k w
 abbrev pub MayClear : Board → ℕ → Type 0
 MayClear b o = serving.MayClear (as_control b) o
 
--- a store of w into the cell k. A Drop in an object that no pass can reach asks nothing of what workers may see
+-- a Drop in the cell k keeps the promise of steady traffic, for the same names
+abbrev pub MayEmpty : Board → ℕ → Type 0
+MayEmpty b k = MayStoreSteadily (as_control b) k (encoded words.Drop)
+
+-- a store of w into the cell k. A Drop in an object that no pass can reach asks nothing of what workers may see but steady traffic: the object may
+-- be the balance of an entry of all versions, of which a bucket is wanted otherwise now
 pub record MayStore (b : Board) (k : ℕ) (w : Word) : Type 0 where
   pub place : MayPlace (as_control b) k w
   pub seen : (w ≡ words.Drop → IsReached b (owner k)) → MayChange b k w
-  pub aside : w ≡ words.Drop → (IsReached b (owner k) → ⊥) → MayClear b (owner k)
+  pub aside : w ≡ words.Drop → (IsReached b (owner k) → ⊥) → MayEmpty b k
 
 -- steady traffic through what is cleared: for some names the promise holds, and the balance of each entry of all versions is held
 abbrev pub Serves : Board → (ℕ → Type 0) → Type 0

@@ -34,6 +34,7 @@ use Rattle.fib_rule.specs.Change.{MayChange, MayPlace}
 use Rattle.fib_rule.proofs.Named.{names_of}
 use Rattle.fib_rule.proofs.Settled.{stands_since}
 use Rattle.fib_board.specs.Boards.{Board, as_control, board_begun, board_stored}
+use Rattle.fib_board.proofs.Serving.{clear_empties}
 use Rattle.fib_board.specs.May.{IsReached, MayClear, MaySettle, MayStore}
 use Rattle.fib_plainboard.specs.Passes.{fresh_plain}
 use Rattle.fib_plainboard.specs.inner.Fresh.{number_of}
@@ -229,7 +230,7 @@ module _ (b : Board) (h : HasNumber b) where
       allowed = inl (subst (λ (l : Log). l.version.settled < l.version.applied) (sym log_is) (omega arith));
     };
     seen = λ reached. absurd (not_seen (reached refl));
-    aside = λ is far. clear;
+    aside = λ is far. clear_empties b 320 far clear;
   }
 
   -- then all is as it was

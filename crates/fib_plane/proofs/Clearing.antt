@@ -20,7 +20,7 @@ use Rattle.fib_plane.specs.Planes.{IsSwept, leads_from, uncounted}
 use Rattle.fib_plane.specs.inner.Joined.{IsJoined, AreDying}
 use Rattle.fib_core.specs.Words.{encoded}
 use Rattle.fib_pool.proofs.Pools.{at_in, live_at}
-use Rattle.fib_board.proofs.Serving.{edge_drop, union_stored}
+use Rattle.fib_board.proofs.Serving.{edge_drop, union_stored, clear_empties}
 use Rattle.fib_plane.proofs.Boarding.{into_stored, leaves, left_is, not_reached, retired_same, word_same, word_other, filled_less, dying_count, at_same, at_other, count_same, none_same, kind_same, count_less}
 
 module _ (b : Board) (u : Kept) (xs : List (Option Object)) (h : IsJoined b u xs) (o slot : ℕ) (small : slot < 16) (dying : IsDying xs o) where
@@ -54,7 +54,7 @@ module _ (b : Board) (u : Kept) (xs : List (Option Object)) (h : IsJoined b u xs
       allowed = allowed;
     };
     seen = λ f. absurd (not_reached b cell not_root no_edge (f refl));
-    aside = λ is none. clears;
+    aside = λ is none. clear_empties b cell none clears;
   }
 
   pub clears_at_once : must_retire (union_of b) cell ≡ false

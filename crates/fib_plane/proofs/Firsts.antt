@@ -95,7 +95,8 @@ module _ (id : List ℕ) (passes : List (Option Pass)) (objects workers : ℕ) (
   fresh_put : (objs : List (Option Object)) (rows : List (Kept AdjacencyRecord)) (spare : ℕ) → MayPut (record { board = Fresh; objects = objs; records = rows; spare = spare }) 0 (words.ToBalance 1)
   fresh_put objs rows spare = record {
     allowed = inr (refl, falses 8);
-    seen = λ f. first_change;
+    roomy = omega arith;
+    seen = λ far f. first_change;
     dropped = λ closes. absurd (none_closes closes);
     aside = λ either. absurd (⊎_elim (λ (e : words.ToBalance 1 ≡ words.Drop). no_drop 1 e) none_closes either);
     serves = λ z puts other begun. absurd (not_before 0 refl begun);
@@ -158,7 +159,8 @@ module _ (p : Plane) (o : ℕ) (told : IsPlane p) (allowed : Allows p.board) (no
   pub empty_put : MayPut p 0 words.Drop
   empty_put = record {
     allowed = allowed;
-    seen = λ f. empty_change;
+    roomy = tt;
+    seen = λ far f. empty_change;
     dropped = λ closes. absurd (no_cycle closes);
     aside = λ either away. absurd (away (inl refl));
     serves = λ z puts other begun. absurd (not_before p.board.log.version.applied none begun);

@@ -1,12 +1,12 @@
-mod Boarding
-mod Clearing
-mod Sweeping
-mod Storing
-mod Resting
-mod Beginning
-mod Scanning
-mod Holding
-mod Recording
-mod Filling
-mod Firsts
-mod Trying
+pub mod Boarding
+pub mod Clearing
+pub mod Sweeping
+pub mod Storing
+pub mod Resting
+pub mod Beginning
+pub mod Scanning
+pub mod Holding
+pub mod Recording
+pub mod Filling
+pub mod Firsts
+pub mod Trying

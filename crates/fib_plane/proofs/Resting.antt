@@ -157,7 +157,7 @@ module _ (p : Plane) (o s : ℕ) (w : Word) (small : s < 16) (inside : o < p.boa
       target = λ y e. (target y e, λ l. far (y, e, l));
       allowed = may.allowed;
     };
-    seen = may.seen;
+    seen = may.seen far;
     aside = λ is none. may.aside (inl is) none;
   }
 
@@ -175,16 +175,7 @@ module _ (p : Plane) (o s : ℕ) (w : Word) (small : s < 16) (inside : o < p.boa
 
   -- a word that may be put is one of a cell
   pub put_roomy : IsRoomy w
-  put_roomy = by_word w refl
-    where
-      by_word : (v : Word) → w ≡ v → IsRoomy v
-      by_word words.Drop e = tt
-      by_word words.Receive e = tt
-      by_word (words.Glean i) e = subst IsRoomy e (may.seen (λ d. absurd (let bad : ⊥ = cc in bad))).roomy
-      by_word (words.ToPly y) e = subst IsRoomy e (may.seen (λ d. absurd (let bad : ⊥ = cc in bad))).roomy
-      by_word (words.ToBalance y) e = subst IsRoomy e (may.seen (λ d. absurd (let bad : ⊥ = cc in bad))).roomy
-      by_word (words.ToAdjacency y) e = subst IsRoomy e (may.seen (λ d. absurd (let bad : ⊥ = cc in bad))).roomy
-      by_word (words.Plain n) e = subst IsRoomy e (may.seen (λ d. absurd (let bad : ⊥ = cc in bad))).roomy
+  put_roomy = may.roomy
 
 module _ (b : Board) (u : Kept) (xs : List (Option Object)) (h : IsJoined b u xs) where
   pub live_in : (y : ℕ) → IsLive xs y → y < b.objects

@@ -1,6 +1,8 @@
 -- A look at a worker's word, on the plane.
-use Rattle.std.proofs.Common.{arith, ◌≡◌, ◌≢◌, ℕ, zero, suc, ◌+◌, ◌-◌, ◌<◌, ◌≤◌, Bool, true, false, cond, eqb, eq-eqb, ne_eqb, List, [], ◌∷◌, ◌++◌, length, get_or, Option, Some, None, refl, sym, ◌∙◌, ap, subst, length-set}
-use Rattle.std.specs.Prelude.{Contains, replicate, slice_index}
+use Rattle.std.proofs.Common.{arith, inl, inr, ◌≡◌, ◌≢◌, ℕ, zero, suc, ◌+◌, ◌-◌, ◌<◌, ◌≤◌, Bool, true, false, cond, eqb, eq-eqb, ne_eqb, List, [], ◌∷◌, ◌++◌, length, get_or, Option, Some, None, refl, sym, ◌∙◌, ap, subst, length-set}
+use Rattle.std.specs.Prelude.{Contains, replicate, slice_index, slice_index_or}
+use Rattle.std.proofs.lemmas.Bool.{cases_lt}
+use Rattle.fib_union.specs.Marks.{is_even}
 use Rattle.fib_reach.specs.Walks.{IsAcyclic}
 use Rattle.fib_plane.proofs.Sweeping.{swept_none}
 use Rattle.std.specs.List.{list_any}
@@ -8,7 +10,7 @@ use Rattle.std.proofs.lemmas.Bool.Decides.{Decides-eqb}
 use Rattle.std.proofs.lemmas.Map.Keys.{IsDistinct-from_apart}
 use Rattle.std.proofs.lemmas.Map.Steps.{length-le_from_distinct_below}
 use Rattle.std.proofs.lemmas.Map.Views.{Contains-from_any}
-use Rattle.std.proofs.lemmas.List.{append-nil, length-map, length-replicate, get_or_default}
+use Rattle.std.proofs.lemmas.List.{append-nil, length-map, length-replicate, length_push, get_or_default, get_or_append_left, get_or_push, get_or-replicate}
 use Rattle.std.proofs.lemmas.List.Sums.{sum_by-append, sum_by_push}
 use Rattle.fib_union.specs.Unions.{Union, owner, Edge, one, into, scanned, gone_to, Kept}
 use Rattle.fib_pool.specs.declared.object.Object.{Object}
@@ -16,7 +18,7 @@ use Rattle.fib_pool.specs.Objects.{at, count_of, with_count, IsLive}
 use Rattle.fib_board.specs.Boards.{Board, union_of, board_scanned, board_scans}
 use Rattle.fib_board.specs.May.{Allows}
 use Rattle.fib_plane.specs.Planes.{with_cells}
-use Rattle.fib_plane.specs.Planes.{IsUncounted, IsSwept, IsScanned, Plane}
+use Rattle.fib_plane.specs.Planes.{AreAtRest, IsUncounted, IsSwept, IsScanned, Plane}
 use Rattle.fib_plane.specs.inner.Joined.{IsJoined, IsLoose, IsDropped, AreDying}
 use Rattle.fib_union.specs.Unions.{times}
 use Rattle.fib_union.proofs.Scans.{into-scanned, acyclic-scanned}
@@ -114,6 +116,19 @@ scans_push n (v ∷ ws) w b = (let e : (n + 1) + length ws ≡ n + suc (length w
 
 pub scans_more : (ws : List ℕ) (w worker : ℕ) (b m c : Board) → length ws ≡ worker → m ≡ board_scans 0 ws b → c ≡ board_scanned worker w m → c ≡ board_scans 0 (ws ++ w ∷ []) b
 scans_more ws w worker b m c len is e = e ∙ (ap (λ (q : Board). board_scanned worker w q) is ∙ (ap (λ (k : ℕ). board_scanned k w (board_scans 0 ws b)) (let z : worker ≡ 0 + length ws = omega arith in z) ∙ sym (scans_push 0 ws w b)))
+
+-- a look changes nothing of who is out
+pub scans_out : (n : ℕ) (ws : List ℕ) (b : Board) (worker : ℕ) → slice_index_or (board_scans n ws b).out worker false ≡ slice_index_or b.out worker false
+scans_out n [] b worker = refl
+scans_out n (w ∷ ws) b worker = scans_out (n + 1) ws (board_scanned n w b) worker
+
+pub rests_more : (b : Board) (ws : List ℕ) (w : ℕ) → (slice_index_or b.out (length ws) false ≡ false → is_even w ≡ true) → AreAtRest b ws → AreAtRest b (ws ++ w ∷ [])
+rests_more b ws w even rests n lt home = elim (cases_lt n (length ws)) [
+  | inl old ↦ ap is_even (get_or_append_left ws (w ∷ []) 0 n old) ∙ rests n old home
+  | inr ge ↦ (let l = length_push ws w in
+      let is : n ≡ length ws = omega arith in
+      ap is_even (get_or_push ws w 0 n (sym is)) ∙ even (subst (λ (i : ℕ). slice_index_or b.out i false ≡ false) is home))
+]
 
 -- how a look moves the counts
 pub look_counts : (b c : Board) (u v : Kept) (n w o : ℕ) → u.union ≡ union_of b → c ≡ board_scanned n w b → v.left ≡ u.left ++ gone_to n w u.union → into (union_of c) o + times o v.left ≡ into (union_of b) o + times o u.left
@@ -216,6 +231,7 @@ scanned_nothing p e =
     record {
       words = ws;
       each = length-replicate p.board.workers 0;
+      rests = λ n lt home. ap is_even (get_or-replicate p.board.workers n 0 0 (let l : length (replicate {A = ℕ} p.board.workers 0) ≡ p.board.workers = length-replicate p.board.workers 0 in omega (arith, lt, l)));
       mid = p.objects;
       counted = subst (λ (q : Board). IsUncounted p.board q p.objects p.objects) (sym same) (record { size = refl; counts = λ o. refl; none = λ o q. q; kinds = λ o y q. (y, q, refl) });
       swept = subst (λ (q : Board). IsSwept q p.board p.objects p.objects) (sym same) (swept_none p.board p.objects);

@@ -1,6 +1,7 @@
 -- A board joined with the pool of its objects and the adjacency records: what contracts see, and what clearing does.
-use Rattle.std.specs.Prelude.{◌≡◌, ℕ, ◌+◌, ◌-◌, ◌<◌, ◌≤◌, ◌⊎◌, Bool, true, false, List, Option, Some, None, length, count_by, slice_index}
+use Rattle.std.specs.Prelude.{◌≡◌, ℕ, ◌+◌, ◌-◌, ◌<◌, ◌≤◌, ◌⊎◌, Bool, true, false, List, Option, Some, None, length, count_by, slice_index, slice_index_or}
 use Rattle.fib_interned.specs.Interned.{Kept}
+use Rattle.fib_union.specs.Marks.{is_even}
 use Rattle.fib_union.specs.Unions.{owner, into}
 use Rattle.fib_core.specs.declared.word.Word.{Word}
 use Rattle.fib_core.specs.declared.word.Word.TheVariants as words
@@ -81,10 +82,15 @@ pub record IsUncounted (b c : Board) (xs ys : List (Option Object)) : Type 0 whe
   pub none : (o : ℕ) → at ys o ≡ None → at xs o ≡ None
   pub kinds : (o : ℕ) (y : Object) → at ys o ≡ Some y → (x : Object) × (at xs o ≡ Some x) × (x.kind ≡ y.kind)
 
+-- of a worker that isn't out the word found is even
+abbrev pub AreAtRest : Board → List ℕ → Type 0
+AreAtRest b words = (n : ℕ) → n < length words → slice_index_or b.out n false ≡ false → is_even (slice_index words n) ≡ true
+
 -- the workers' pass words were looked at, the edges that left were counted no more, and what that freed was cleared and given back
 pub record IsScanned (p q : Plane) : Type 0 where
   pub words : List ℕ
   pub each : length words ≡ p.board.workers
+  pub rests : AreAtRest p.board words
   pub mid : List (Option Object)
   pub counted : IsUncounted p.board (board_scans 0 words p.board) p.objects mid
   pub swept : IsSwept (board_scans 0 words p.board) q.board mid q.objects

@@ -1,12 +1,13 @@
 -- What a put does, and what it asks.
-use Rattle.std.specs.Prelude.{◌≡◌, ◌≢◌, ℕ, ◌+◌, ◌≤◌, ◌⊎◌, List, Option, Some}
+use Rattle.std.specs.Prelude.{◌≡◌, ◌≢◌, false, ℕ, ◌+◌, ◌≤◌, ◌⊎◌, List, Option, Some}
 use Rattle.fib_reach.specs.Walks.{Leads}
-use Rattle.fib_union.specs.Unions.{owner, Edge, left_at_once}
+use Rattle.fib_union.specs.Unions.{owner, Edge, left_at_once, must_retire}
 use Rattle.fib_core.specs.declared.word.Word.{Word}
 use Rattle.fib_core.specs.declared.word.Word.TheVariants as words
+use Rattle.fib_core.specs.Words.{IsRoomy}
 use Rattle.fib_pool.specs.declared.object.Object.{Object}
 use Rattle.fib_board.specs.Boards.{Board, edge_of, union_of, word_in, board_stored}
-use Rattle.fib_board.specs.May.{Allows, IsReached, MayChange, MayClear, Serves}
+use Rattle.fib_board.specs.May.{Allows, IsReached, MayChange, MayEmpty, Serves}
 use Rattle.fib_plane.specs.declared.put.Put.{Put}
 use Rattle.fib_plane.specs.declared.put.Put.TheVariants as puts
 use Rattle.fib_plane.specs.Planes.{Plane, Holds, IsSwept, counted_more, uncounted}
@@ -24,6 +25,8 @@ pub record IsStored (p q : Plane) (k : ℕ) (w : Word) : Type 0 where
   pub swept : IsSwept (board_stored p.board k w) q.board (stored_objects p k w) q.objects
   pub records : q.records ≡ p.records
   pub spare : p.spare ≤ q.spare + 1
+  -- where no pass can come nothing is retired
+  pub spared : must_retire (union_of p.board) k ≡ false → p.spare ≤ q.spare
 
 abbrev pub IsPut : Plane → Plane → ℕ → Word → Put → Type 0
 IsPut p q k w puts.Same = (word_in p.board k ≡ w) × (q ≡ p)
@@ -46,8 +49,9 @@ Puts b k w z = ((z ≡ w) × (Closes b k w → ⊥)) ⊎ ((z ≡ words.Drop) × 
 -- what it asks beside live objects and room: the store's conditions, but for those on cycles and on another word
 pub record MayPut (p : Plane) (k : ℕ) (w : Word) : Type 0 where
   pub allowed : Allows p.board
-  pub seen : (w ≡ words.Drop → IsReached p.board (owner k)) → MayChange p.board k w
+  pub roomy : IsRoomy w
+  pub seen : (Closes p.board k w → ⊥) → (w ≡ words.Drop → IsReached p.board (owner k)) → MayChange p.board k w
   pub dropped : Closes p.board k w → IsReached p.board (owner k) → MayChange p.board k words.Drop
-  pub aside : (w ≡ words.Drop) ⊎ Closes p.board k w → (IsReached p.board (owner k) → ⊥) → MayClear p.board (owner k)
+  pub aside : (w ≡ words.Drop) ⊎ Closes p.board k w → (IsReached p.board (owner k) → ⊥) → MayEmpty p.board k
   -- the promise of steady traffic holds after the store too, for names whose balances are held
   pub serves : (z : Word) → Puts p.board k w z → word_in p.board k ≢ z → Serves (board_stored p.board k z) (Holds p)

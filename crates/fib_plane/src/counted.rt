@@ -1,5 +1,6 @@
 // A board that counts its stores.
-ghost use Rattle.std.specs.Prelude.{IsTrue, ℕ, slice_index, ◌%◌, ◌*◌, ◌+◌, ◌<◌, ◌^◌, ◌↔◌, ◌≡◌};
+ghost use Rattle.std.specs.Prelude.{IsTrue, ℕ, false, true, slice_index, slice_index_or, ◌%◌, ◌*◌, ◌+◌, ◌<◌, ◌^◌, ◌↔◌, ◌≡◌};
+ghost use Rattle.fib_union.specs.Marks.{is_even};
 ghost use Rattle.fib_lawful.specs.State.{left_of};
 ghost use Rattle.fib_board.specs.Boards.{board_begun, board_scanned, board_settled, board_stored, word_in};
 ghost use Rattle.fib_board.specs.Crews.{IsOut, MaySend, board_joined, board_sent, new_seat};
@@ -114,7 +115,8 @@ impl<B: Board> Counted<B> {
 
     pub(crate) fn scan(&mut self, worker: u32) -> u64
         requires { worker < self.old.workers }
-        ensures { self.new ≡ board_scanned worker result self.old }
+        ensures board { self.new ≡ board_scanned worker result self.old }
+        ensures rests { slice_index_or self.old.out worker false ≡ false → is_even result ≡ true }
     {
         self.board.scan(worker)
     }

@@ -1,7 +1,7 @@
 // A store of the plane.
-ghost use Rattle.std.specs.Prelude.{IsTrue, None, Some, length, vec_capacity, ℕ, [], ◌*◌, ◌+◌, ◌-◌, ◌<◌, ◌^◌, ◌↔◌, ◌≡◌, ◌≤◌};
+ghost use Rattle.std.specs.Prelude.{false, IsTrue, None, Some, length, vec_capacity, ℕ, [], ◌*◌, ◌+◌, ◌-◌, ◌<◌, ◌^◌, ◌↔◌, ◌≡◌, ◌≤◌};
 ghost use Rattle.fib_reach.specs.Walks.{IsAcyclic, Leads};
-ghost use Rattle.fib_union.specs.Unions.{Edge, left_at_once};
+ghost use Rattle.fib_union.specs.Unions.{Edge, left_at_once, must_retire};
 ghost use Rattle.fib_core.specs.Words.{IsRoomy};
 ghost use Rattle.fib_pool.specs.Objects.{IsLive, count_of};
 ghost use Rattle.fib_board.specs.Boards.{board_stored, edge_of, union_of};
@@ -61,6 +61,7 @@ pub(crate) fn replace<B: Board>(
     ensures serves { Serves board.new (IsHeld board.new pool.new) }
     ensures swept { IsSwept (board_stored board.old (16 * cell.object + cell.slot) word) board.new (uncounted (left_at_once (union_of board.old) (16 * cell.object + cell.slot)) (counted_more (edge_of word) pool.old)) pool.new }
     ensures spare { union.old.spare ≤ union.new.spare + 1 }
+    ensures spared { must_retire (union_of board.old) (16 * cell.object + cell.slot) ≡ false → union.old.spare ≤ union.new.spare }
 {
     board.store(cell, word);
     let to = target(word);

@@ -19,7 +19,7 @@ use Rattle.fib_lawful.specs.Frame.{HasView}
 use Rattle.fib_lawful.specs.May.{MayLead}
 use Rattle.fib_rule.specs.Rule.{IsLawful}
 use Rattle.fib_rule.specs.May.{MayStore}
-use Rattle.fib_rule.specs.Serving.{MayClear}
+use Rattle.fib_rule.specs.Steady.{MayStoreSteadily}
 use Rattle.fib_rule.specs.Change.{IsReached, MayPlace, MayChange}
 use Rattle.fib_rule.proofs.Steps.{zero_version}
 use Rattle.fib_rule.proofs.Keeping.{here}
@@ -83,13 +83,13 @@ none_or_some zero = inl refl
 none_or_some (suc n) = inr (omega arith)
 
 module _ (objects : ℕ) (numbers : List ℕ) (views : List View) (s : IsLawful objects numbers views) (seat : ℕ) (c : Control) (mine : HasView views seat (control c)) (k : ℕ) (w : Word) (plane : MayPlace c k w)
-    (clear : w ≡ words.Drop → (IsReached c (owner k) → ⊥) → MayClear c (owner k)) (seen : (w ≡ words.Drop → IsReached c (owner k)) → MayChange c k w) where
+    (steadily : w ≡ words.Drop → (IsReached c (owner k) → ⊥) → MayStoreSteadily c k (encoded w)) (seen : (w ≡ words.Drop → IsReached c (owner k)) → MayChange c k w) where
   with_seen : (w ≡ words.Drop → IsReached c (owner k)) → MayStore c k (encoded w)
   with_seen reached = halves_give c k w (here objects numbers views seat s c mine).0.0.log.order plane (seen reached)
 
   unreached : w ≡ words.Drop → owner k ≢ 0 → edges.into (edges_of c.union) (owner k) ≡ 0 → MayStore c k (encoded w)
   unreached is other none = subst (MayStore c k) (sym (ap encoded is ∙ encoded_drop))
-      (drop_aside objects numbers views s seat c mine k plane.inside (λ z. plane.other (ap decoded z ∙ decoded_zero ∙ sym is)) other none plane.allowed (clear is not_reached))
+      (drop_aside objects numbers views s seat c mine k plane.inside (λ z. plane.other (ap decoded z ∙ decoded_zero ∙ sym is)) other none plane.allowed (subst (MayStoreSteadily c k) (ap encoded is ∙ encoded_drop) (steadily is not_reached)))
     where
       not_reached : IsReached c (owner k) → ⊥
       not_reached (inl z) = other z

@@ -24,13 +24,11 @@ use Rattle.fib_lawful.proofs.Tells as lawfully
 use Rattle.fib_lawful.proofs.Moves as moves
 use Rattle.fib_lawful.proofs.Sockets.{rule_below}
 use Rattle.fib_steady.proofs.Hanging.{none_leaves_aside, aside_rooted}
-use Rattle.fib_rule.specs.Steady.{AreSteady, SteadyWorker}
+use Rattle.fib_rule.specs.Steady.{AreSteady, MayStoreSteadily, SteadyWorker}
 use Rattle.fib_rule.specs.Rule.{parts, IsLawful}
 use Rattle.fib_rule.specs.May.{MayStore}
-use Rattle.fib_rule.specs.Serving.{MayClear}
 use Rattle.fib_rule.proofs.Keeping.{here, lawful_rule}
 use Rattle.fib_rule.proofs.Aside.{aside_lawful}
-use Rattle.fib_rule.proofs.Serving.{clear_steadily}
 
 module _ (objects : ℕ) (numbers : List ℕ) (views : List View) (s : IsLawful objects numbers views) where
   -- a pass, whatever the control plane does
@@ -112,12 +110,12 @@ module _ (objects : ℕ) (numbers : List ℕ) (views : List View) (s : IsLawful 
 pub drop_aside : (objects : ℕ) (numbers : List ℕ) (views : List View) (s : IsLawful objects numbers views) (seat : ℕ) (c : Control) → HasView views seat (control c) → (k : ℕ)
     → k < 16 * c.objects → slice_index c.union.cells k ≢ 0 → owner k ≢ 0 → edges.into (edges_of c.union) (owner k) ≡ 0
     → (c.log.version.settled < c.log.version.applied) ⊎ ((c.log.version.applied ≡ 0) × ((n : ℕ) → slice_index_or c.desk.out n false ≡ false))
-    → MayClear c (owner k) → MayStore c k 0
-drop_aside objects numbers views s seat c mine k inside filled other none allowed clear =
+    → MayStoreSteadily c k 0 → MayStore c k 0
+drop_aside objects numbers views s seat c mine k inside filled other none allowed steadily =
     let h = here objects numbers views seat s c mine in
     let aside = none_counted c.union (owner k) none in
     record {
       lawful = aside_lawful objects numbers c h.0.0 k other aside inside filled allowed;
-      steady = clear_steadily c k other aside clear;
+      steady = steadily;
       rooted = aside_rooted c.union k h.1.rooted other aside;
     }

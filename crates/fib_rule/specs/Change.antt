@@ -1,5 +1,5 @@
 -- A store in two halves: what a plane of objects knows by edges and counts alone, and what speaks of what workers may see and of plies. Together they
--- are all that a store asks. A Drop in an object that no edge reaches has neither half but its place and time; see `MayClear`.
+-- are all that a store asks. A Drop in an object that no edge reaches has its place and time, and of the second half steady traffic alone.
 use Rattle.std.specs.Prelude.{◌≡◌, ◌≢◌, ◌⊎◌, ℕ, ◌+◌, ◌*◌, ◌%◌, ◌≤◌, ◌<◌, true, false, Some, slice_index, slice_index_or, slice_set}
 use Rattle.fib_reach.specs.Walks.{Walk, Leads}
 use Rattle.fib_resolve.specs.declared.types.End.TheVariants as answers

@@ -17,7 +17,7 @@ ghost use Rattle.fib_lawful.specs.State.{Control, View, Worker, control, first_c
 ghost use Rattle.fib_lawful.specs.Frame.{HasView};
 ghost use Rattle.fib_lawful.specs.Lawful.{AnswersAt, IsTold};
 ghost use Rattle.fib_lawful.specs.Claims.{times};
-ghost use Rattle.fib_rule.specs.Steady.{AreSteady};
+ghost use Rattle.fib_rule.specs.Steady.{AreSteady, MayStoreSteadily};
 ghost use Rattle.fib_rule.specs.Rule.{IsLawful};
 ghost use Rattle.fib_rule.specs.May.{MayStore};
 ghost use Rattle.fib_rule.specs.Serving.{MayClear, Serves};
@@ -153,11 +153,11 @@ pub fn a_drop_where_nothing_leads_may_be_stored()
 
 /// What a plane knows of a store by edges and counts alone, and what speaks of what workers may see and of plies, are
 /// all that the store asks. The second half is asked where passes may reach the object, or the word is no Drop; else
-/// steady traffic must not rest on the object.
+/// the promise of steady traffic holds before it and after it, for the same names.
 pub fn two_halves_are_all_that_a_store_asks()
     ensures { (objects seat k : ℕ) (w : Word) (words : List ℕ) (views : List View) (c : Control)
         → IsLawful objects words views → HasView views seat (control c) → MayPlace c k w
-        → (w ≡ said.Drop → (IsReached c (owner k) → ⊥) → MayClear c (owner k))
+        → (w ≡ said.Drop → (IsReached c (owner k) → ⊥) → MayStoreSteadily c k (encoded w))
         → ((w ≡ said.Drop → IsReached c (owner k)) → MayChange c k w)
         → MayStore c k (encoded w) }
 {}

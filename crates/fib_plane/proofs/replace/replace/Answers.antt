@@ -1,6 +1,6 @@
 use Rattle.std.proofs.Common.{arith, ◌≡◌, ◌<◌, ◌+◌, ◌*◌, ◌∙◌, ℕ, List, [], Option, Some, sym, ap, subst, length}
 use Rattle.fib_reach.specs.Walks.{IsAcyclic}
-use Rattle.fib_union.specs.Unions.{Edge, Union, owner, stored, left_at_once}
+use Rattle.fib_union.specs.Unions.{Edge, Union, owner, stored, left_at_once, must_retire}
 use Rattle.fib_pool.specs.declared.object.Object.{Object}
 use Rattle.fib_pool.specs.Objects.{IsLive}
 use Rattle.fib_board.specs.Boards.{Board, edge_of, board_stored, union_of}
@@ -70,3 +70,9 @@ sweep-requires-clause-serves g c =
     let m : Board = board_stored b k c.args.word in
     let after = serves_held m (IsHeld b xs) (IsHeld m ys) (hold_stored b u xs c.requires.joined k c.args.word here source c.requires.target) c.requires.serves in
     subst (λ (l : List (Option Object)). Serves n (IsHeld n l)) (sym pool) (subst (λ (q : Board). Serves q (IsHeld q ys)) (sym c.store.ensures) after)
+
+pub returns-clause-spared : goal.returns-clause-spared
+returns-clause-spared g c = λ none.
+    let k : ℕ = 16 * c.args.cell.object + c.args.cell.slot in
+    let more = c.set-left.ensures.spared (ap (λ (v : Union). must_retire v k) c.requires.joined.same ∙ none) in
+    omega (arith, more, c.sweep.ensures.spare)

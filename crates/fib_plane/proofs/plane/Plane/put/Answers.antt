@@ -1,8 +1,8 @@
-use Rattle.std.proofs.Common.{◌≡◌, ◌≢◌, ◌≤◌, ◌+◌, ◌*◌, ◌∙◌, inl, inr, ℕ, Some, None, sym, subst, refl, vec_capacity}
+use Rattle.std.proofs.Common.{false, ◌≡◌, ◌≢◌, ◌≤◌, ◌+◌, ◌*◌, ◌∙◌, inl, inr, ℕ, Some, None, sym, subst, refl, vec_capacity}
 use Rattle.std.proofs.lemmas.Bool.{false≢true}
 use Rattle.fib_interned.specs.Interned.{kept_of}
 use Rattle.fib_reach.specs.Walks.{IsAcyclic}
-use Rattle.fib_union.specs.Unions.{Edge, Kept}
+use Rattle.fib_union.specs.Unions.{Edge, Kept, must_retire}
 use Rattle.fib_union.proofs.Stores.{some_none}
 use Rattle.fib_pool.specs.Objects.{IsLive}
 use Rattle.fib_core.specs.declared.word.Word.TheVariants as words
@@ -135,10 +135,11 @@ returns-clause-put g c =
     let source : IsLive xs o = subst (λ (v : Plane). IsLive v.objects o) (sym c.self.view_is) c.requires.source in
     let far : Closes b k c.args.word → ⊥ = λ q. false≢true (c.if-closes.ensures.closes.1 (here_closes b u xs c.self.invariant.joined o c.args.slot c.args.word c.requires.slot q)) in
     let spare = subst (λ (v : Kept). v.spare ≤ c.replace-2.new.union.spare + 1) c.closes.ensures.unchanged c.replace-2.ensures.spare in
+    let spared = subst (λ (v : Kept). must_retire (union_of b) k ≡ false → v.spare ≤ c.replace-2.new.union.spare) c.closes.ensures.unchanged c.replace-2.ensures.spared in
     let q : Plane = record { board = c.replace-2.new.board; objects = c.replace-2.new.pool; records = c.self.inside.table; spare = c.replace-2.new.union.spare } in
     let other : word_in b k ≢ c.args.word = λ e. false≢true (c.if-same.ensures.1 (c.load-found.ensures ∙ e)) in
     subst (λ (v : Plane). (word_in v.board k ≢ c.args.word) × (Closes v.board k c.args.word → ⊥) × IsStored v q k c.args.word) c.self.view_is
-    (other, far, record { swept = c.replace-2.ensures.swept; records = refl; spare = spare })
+    (other, far, record { swept = c.replace-2.ensures.swept; records = refl; spare = spare; spared = spared })
 
 pub returns-clause-holds : goal.returns-clause-holds
 returns-clause-holds g c = λ holds.

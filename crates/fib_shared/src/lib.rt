@@ -1,0 +1,13 @@
+//! A plane of objects as the prefix table and the stack of buckets see it.
+//!
+//! `specs/Shares.antt` gives the view and the promise of a plane; `Shared` is a plane of which all that they rest on holds.
+#![tactic(auto)]
+
+pub mod calls;
+pub mod laws;
+mod shared;
+
+pub use shared::Shared;
+
+#[cfg(test)]
+mod tests;
