@@ -1,0 +1,6 @@
+pub mod Aiming
+pub mod Keeping
+pub mod Settling
+pub mod Ordering
+pub mod Leaving
+pub mod Promising

@@ -1,0 +1,5 @@
+pub mod States
+pub mod Steps
+pub mod Steadiness
+pub mod Orders
+pub mod Buckets
