@@ -4,3 +4,5 @@ pub mod Settling
 pub mod Ordering
 pub mod Leaving
 pub mod Promising
+pub mod Clearing
+pub mod Listing

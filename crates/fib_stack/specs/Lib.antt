@@ -3,3 +3,4 @@ pub mod Steps
 pub mod Steadiness
 pub mod Orders
 pub mod Buckets
+pub mod Records

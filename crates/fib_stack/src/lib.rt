@@ -6,6 +6,10 @@
 #![tactic(auto)]
 
 pub mod laws;
+mod records;
 pub mod stores;
+
+pub use records::{Want, give_all, take_all};
+
 #[cfg(test)]
 mod tests;

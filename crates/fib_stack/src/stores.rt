@@ -8,10 +8,11 @@ ghost use Rattle.fib_resolve.specs.declared.types.Tables.{Tables};
 ghost use Rattle.fib_core.specs.declared.word.Word.{Word};
 ghost use Rattle.fib_pool.specs.declared.object.AdjacencyRecord.{AdjacencyRecord};
 ghost use Rattle.fib_pool.specs.declared.object.Kind.TheVariants as kinds;
+ghost use Rattle.fib_steady.specs.Aims.{IsLasting};
 ghost use Rattle.fib_steady.specs.Names.{Names};
 ghost use Rattle.fib_serving.specs.Stack.{Objects, aim_word, is_some};
 ghost use Rattle.fib_joined.specs.declared.put.Put.{Put};
-ghost use Rattle.fib_joined.specs.View.{GaveRecord, HasKind, IsBalance, IsLetGo, IsPlane, IsPut, IsScanned, IsTaken, TookOne, View};
+ghost use Rattle.fib_joined.specs.View.{GaveRecord, HasKind, IsBalance, IsLetGo, IsPlane, IsPut, IsScanned, IsTaken, TookOne, TookRecord, View};
 ghost use Rattle.fib_joined.specs.Frames.{IsAmong, IsQuiet};
 ghost use Rattle.fib_joined.specs.Promise.{Allows, EndsIn, IsBegun, MayPut, Promise, Serves};
 ghost use Rattle.fib_stack.specs.States.{State};
@@ -86,4 +87,31 @@ pub fn what_is_deferred_is_loose()
 pub fn what_is_new_is_loose()
     ensures { (J : List Tables) (balances : Prefix → Option ℕ) (o k : ℕ) → ((d : Prefix) → balances d ≡ Some o → ⊥)
         → IsLooseBucket J balances o k }
+{}
+
+/// Taking an adjacency record keeps what workers are promised, for the same names.
+pub fn taking_a_record_keeps_the_promise()
+    ensures { (p : Promise) (n : Names) (u v : View) (m : AdjacencyRecord) (o : ℕ) → TookRecord u v m o → Serves p n u
+        → Serves p n v }
+{}
+
+/// So does giving one back.
+pub fn giving_one_back_keeps_it()
+    ensures { (p : Promise) (n : Names) (u v : View) (m : AdjacencyRecord) → GaveRecord u v m → Serves p n u → Serves p n v }
+{}
+
+/// So does a scan.
+pub fn a_scan_keeps_it()
+    ensures { (p : Promise) (n : Names) (u v : View) (left : ℕ) → IsScanned u v left → Serves p n u → Serves p n v }
+{}
+
+/// So does letting an object go that is no balance of an entry of all versions.
+pub fn letting_an_object_go_keeps_it()
+    ensures { (p : Promise) (n : Names) (u v : View) (o : ℕ) → IsLetGo u v o
+        → (IsBegun p → (e : Prefix) → IsLasting p.versions e → n.balance e ≡ Some o → ⊥) → Serves p n u → Serves p n v }
+{}
+
+/// So does taking a balance.
+pub fn taking_a_balance_keeps_it()
+    ensures { (p : Promise) (n : Names) (u v : View) (o : ℕ) → IsTaken u v kinds.Balance o → Serves p n u → Serves p n v }
 {}

@@ -28,4 +28,9 @@ fn each_law() {
     stores::what_a_turn_stores_is_loose();
     stores::what_is_deferred_is_loose();
     stores::what_is_new_is_loose();
+    stores::taking_a_record_keeps_the_promise();
+    stores::giving_one_back_keeps_it();
+    stores::a_scan_keeps_it();
+    stores::letting_an_object_go_keeps_it();
+    stores::taking_a_balance_keeps_it();
 }
