@@ -6,3 +6,4 @@ pub mod Leaving
 pub mod Promising
 pub mod Clearing
 pub mod Listing
+pub mod Filling

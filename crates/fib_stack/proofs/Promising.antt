@@ -121,6 +121,14 @@ module _ (J : List Tables) (n : Names) (u v : View) (o k : ℕ) (w : Word) (a : 
   pub promised_still : IsPromised J n u → IsPromised J n v
   promised_still h = record { buckets = buckets_still h.buckets; plies = plies_still h.plies }
 
+pub put_serves : (p : Promise) (n : Names) (u v : View) (o k : ℕ) (w : Word) (a : Put) → IsBegun p → Serves p n u → IsPlane u → IsBalance u o → k < 16 → HasKind u o w
+    → (u.cell o k ≡ w) ⊎ IsLooseBucket p.versions n.balance o k → IsPut u v o k w a → Serves p n v
+put_serves p n u v o k w a begun serves plane mine lt kind loose put = record {
+  paths = paths_still p.versions n u v o k w a plane mine lt kind put loose serves.paths;
+  promised = λ b. promised_still p.versions n u v o k w a plane mine lt kind put loose (serves.promised b);
+  still = λ z. absurd (let b : 0 < p.applied = begun in omega (arith, z, b));
+}
+
 -- so the plane's condition of a put is met
 pub may_put : (p : Promise) (n : Names) (u : View) (o k : ℕ) (w : Word) → Allows p → IsBegun p → Serves p n u → IsPlane u → IsBalance u o → k < 16 → HasKind u o w → EndsIn p u w
     → (u.cell o k ≡ w) ⊎ IsLooseBucket p.versions n.balance o k → MayPut p u o k w
@@ -128,11 +136,7 @@ may_put p n u o k w allowed begun serves plane mine lt kind ends loose = record 
   allowed = allowed;
   names = n;
   before = serves;
-  after = λ v a put. record {
-    paths = paths_still p.versions n u v o k w a plane mine lt kind put loose serves.paths;
-    promised = λ b. promised_still p.versions n u v o k w a plane mine lt kind put loose (serves.promised b);
-    still = λ z. absurd (let b : 0 < p.applied = begun in omega (arith, z, b));
-  };
+  after = λ v a put. put_serves p n u v o k w a begun serves plane mine lt kind loose put;
   rooted = record {
     links = λ c e _. absurd (let h : HasKind u o (words.ToPly c) = subst (HasKind u o) e kind in true≢false (sym h.0 ∙ mine.1));
     unlinks = λ c t d e _. subst IsBucketWord e (plane.buckets o k mine lt);

@@ -4,3 +4,4 @@ pub mod Steadiness
 pub mod Orders
 pub mod Buckets
 pub mod Records
+pub mod Runs
