@@ -7,3 +7,4 @@ pub mod Promising
 pub mod Clearing
 pub mod Listing
 pub mod Filling
+pub mod Cycling

@@ -1,8 +1,8 @@
 // Laws on the plane's calls as a turn and a retry make them, each the contract of a function that does nothing.
-ghost use Rattle.std.specs.Prelude.{◌≡◌, ◌≢◌, ◌⊎◌, ℕ, ◌<◌, List, None, Option, Some, true, Contains, Result};
+ghost use Rattle.std.specs.Prelude.{◌≡◌, ◌≢◌, ◌⊎◌, ℕ, ◌<◌, [], Bool, List, None, Option, Some, true, false, Contains, Result};
 ghost use Rattle.std.specs.declared.alloc.AllocError.{AllocError};
 ghost use Rattle.fib_addr.specs.Prefixes.{Prefix};
-ghost use Rattle.fib_resolve.specs.Aims.{aim};
+ghost use Rattle.fib_resolve.specs.Aims.{aim, marked_list};
 ghost use Rattle.fib_resolve.specs.declared.types.End.{End};
 ghost use Rattle.fib_resolve.specs.declared.types.Tables.{Tables};
 ghost use Rattle.fib_core.specs.declared.word.Word.{Word};
@@ -12,12 +12,14 @@ ghost use Rattle.fib_steady.specs.Aims.{IsLasting};
 ghost use Rattle.fib_steady.specs.Names.{Names};
 ghost use Rattle.fib_serving.specs.Stack.{Objects, aim_word, is_some};
 ghost use Rattle.fib_joined.specs.declared.put.Put.{Put};
-ghost use Rattle.fib_joined.specs.View.{GaveRecord, HasKind, IsBalance, IsLetGo, IsPlane, IsPut, IsScanned, IsTaken, TookOne, TookRecord, View};
+ghost use Rattle.fib_joined.specs.View.{Closes, GaveRecord, HasKind, IsBalance, IsLetGo, IsPlane, IsPut, IsScanned, IsTaken, TookOne, TookRecord, View};
 ghost use Rattle.fib_joined.specs.Frames.{IsAmong, IsQuiet};
 ghost use Rattle.fib_joined.specs.Promise.{Allows, EndsIn, IsBegun, MayPut, Promise, Serves};
-ghost use Rattle.fib_stack.specs.States.{State};
+ghost use Rattle.fib_changes.specs.Ranks.{IsRanked};
+ghost use Rattle.fib_changes.specs.Wanted.{aim_by};
+ghost use Rattle.fib_stack.specs.States.{Kept, State};
 ghost use Rattle.fib_stack.specs.Steadiness.{IsSteady};
-ghost use Rattle.fib_stack.specs.Buckets.{IsLooseBucket};
+ghost use Rattle.fib_stack.specs.Buckets.{IsLooseBucket, recorded, state_of};
 
 /// A put into a bucket leaves the prefix table its plies and its objects.
 pub fn a_put_into_a_bucket_leaves_the_table()
@@ -114,4 +116,14 @@ pub fn letting_an_object_go_keeps_it()
 /// So does taking a balance.
 pub fn taking_a_balance_keeps_it()
     ensures { (p : Promise) (n : Names) (u v : View) (o : ℕ) → IsTaken u v kinds.Balance o → Serves p n u → Serves p n v }
+{}
+
+/// Where nothing is queued and nothing is retired, no word that a bucket wants closes a cycle: a retry then leaves nothing deferred.
+pub fn where_all_is_calm_nothing_closes_a_cycle()
+    ensures { (S : Tables) (rank : Prefix → ℕ) (v : View) (balances : Prefix → Option ℕ) (was : Prefix → Bool)
+        (late : Prefix → ℕ → Option Word) (holds : Prefix → End → Bool) (queued : Prefix → Bool) → IsRanked S rank
+        → Kept S (state_of v balances was late holds queued) → IsPlane v
+        → ((e : Prefix) (o : ℕ) → balances e ≡ Some o → IsBalance v o)
+        → ((e : Prefix) → queued e ≡ false) → v.retired ≡ [] → (e : Prefix) (o k : ℕ) → balances e ≡ Some o
+        → Closes v o (aim_word (record { balance = balances; record_of = recorded v }) (aim_by was (marked_list S e) k)) → ⊥ }
 {}

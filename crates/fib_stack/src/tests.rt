@@ -33,4 +33,5 @@ fn each_law() {
     stores::a_scan_keeps_it();
     stores::letting_an_object_go_keeps_it();
     stores::taking_a_balance_keeps_it();
+    stores::where_all_is_calm_nothing_closes_a_cycle();
 }
