@@ -1,0 +1,16 @@
+use Rattle.std.proofs.Common.{◌≡◌, ℕ, take}
+use Rattle.std.specs.Prelude.{Option}
+use Rattle.fib_addr.specs.Prefixes.{Prefix}
+use Rattle.fib_steady.specs.Names.{Names}
+use Rattle.fib_joined.specs.Frames.{IsQuiet}
+use Rattle.fib_joined.specs.Promise.{Serves}
+use Rattle.fib_stack.specs.Records.{GaveAll}
+use Rattle.fib_stack.proofs.records.give_all.Given as goal
+
+abbrev pub invariant-loop-adjacency : goal.invariant-loop-adjacency
+invariant-loop-adjacency g l = record {
+  gave : GaveAll (g.P.Objects.view l.initial.on) (g.P.Objects.view l.on) (take l.adjacency-index l.records);
+  quiet : (look : Prefix → Option ℕ) → IsQuiet look (g.P.Objects.view l.initial.on) (g.P.Objects.view l.on);
+  serves : (n : Names) → Serves (g.P.Objects.promise l.initial.on) n (g.P.Objects.view l.initial.on) → Serves (g.P.Objects.promise l.initial.on) n (g.P.Objects.view l.on);
+  promise : g.P.Objects.promise l.on ≡ g.P.Objects.promise l.initial.on;
+}

@@ -1,0 +1,32 @@
+-- The sixteen puts of a turn: what each of them answered, and what they ask.
+use Rattle.std.specs.Prelude.{◌≡◌, ◌⊎◌, ℕ, suc, ◌<◌, ◌≤◌, List, [], ◌∷◌, Option, slice_index_or}
+use Rattle.fib_addr.specs.Prefixes.{Prefix}
+use Rattle.fib_core.specs.declared.word.Word.{Word}
+use Rattle.fib_core.specs.declared.word.Word.TheVariants as words
+use Rattle.fib_steady.specs.Names.{Names}
+use Rattle.fib_joined.specs.declared.put.Put.{Put}
+use Rattle.fib_joined.specs.Promise.{Promise, Serves, EndsIn}
+use Rattle.fib_joined.specs.View.{View, HasKind, IsPut}
+use Rattle.fib_stack.specs.Buckets.{IsLooseBucket}
+
+abbrev pub word_in : List Word → ℕ → Word
+word_in ws k = slice_index_or ws k words.Drop
+
+-- these words were put into the object's cells from slot k on, one after another, with these answers: each over the plane that it met
+abbrev pub Puts : View → ℕ → ℕ → List Word → List Put → View → Type 0
+Puts u o k [] [] v = v ≡ u
+Puts u o k [] (a ∷ gave) v = ⊥
+Puts u o k (w ∷ ws) [] v = ⊥
+Puts u o k (w ∷ ws) (a ∷ gave) v = (m : View) × IsPut u m o k w a × Puts m o (suc k) ws gave v
+
+-- the word may be put into the bucket: it has the kind of buckets' words, ends packets at ends of the versions, and is there already, or the
+-- bucket is loose
+pub record IsReady (p : Promise) (balances : Prefix → Option ℕ) (u : View) (o k : ℕ) (w : Word) : Type 0 where
+  pub kind : HasKind u o w
+  pub ends : EndsIn p u w
+  pub loose : (u.cell o k ≡ w) ⊎ IsLooseBucket p.versions balances o k
+
+-- the promise holds, for these names, and each bucket from that one on is ready for its word
+pub record AreReady (p : Promise) (n : Names) (u : View) (o start : ℕ) (ws : List Word) : Type 0 where
+  pub serves : Serves p n u
+  pub ready : (k : ℕ) → start ≤ k → k < 16 → IsReady p n.balance u o k (word_in ws k)

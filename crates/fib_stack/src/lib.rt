@@ -1,0 +1,18 @@
+//! The stack: what a turn, a retry and a change of the tables do to the buckets of entries, and what they keep.
+//!
+//! `specs/States.antt` says what stands of each prefix, `specs/Steps.antt` what a step does, `specs/Steadiness.antt` which buckets keep their
+//! word while the versions change, `specs/Orders.antt` in which order prefixes are restacked, `specs/Buckets.antt` how the plane
+//! is read, `specs/Records.antt` and `specs/Runs.antt` what taking records and filling an object do. `laws` are over values, `stores` over the
+//! plane's calls.
+#![tactic(auto)]
+
+pub mod laws;
+mod records;
+mod sixteen;
+pub mod stores;
+
+pub use records::{Want, give_all, take_all};
+pub use sixteen::fill;
+
+#[cfg(test)]
+mod tests;
