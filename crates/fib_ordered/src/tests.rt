@@ -24,6 +24,20 @@ fn numbered(number: u32) -> Entry {
     }
 }
 
+/// Takes the member in, or fails where there is no room or where its key is there already.
+fn take_in(set: &mut Ordered<Entry>, entry: Entry) -> Result<(), Fail> {
+    if set.spare() == 0 {
+        return Err("no room".into());
+    }
+    match set.find(entry.key) {
+        Some(_) => Err("a key that is there".into()),
+        None => {
+            set.insert(entry);
+            Ok(())
+        }
+    }
+}
+
 #[test]
 fn members_come_and_go(rt: HostRuntime) -> Result<(), Fail> {
     let mut set: Ordered<Entry> = Ordered::new(rt.alloc());
@@ -33,14 +47,13 @@ fn members_come_and_go(rt: HostRuntime) -> Result<(), Fail> {
     assert_eq!(rt; set.remove(9), None);
     for number in 0..1_000 {
         set.reserve(rt.alloc(), 1)?;
-        assert!(rt; set.spare() >= 1);
-        set.insert(numbered(number));
+        take_in(&mut set, numbered(number))?;
     }
     for number in 0..1_000 {
         let one = numbered(number);
         assert_eq!(rt; set.find(one.key), Some(one));
         assert_eq!(rt; set.first_from(one.key), Some(one));
-        assert_eq!(rt; set.last_below(one.key + 1), Some(one));
+        assert_eq!(rt; set.last_below(one.key.saturating_add(1)), Some(one));
     }
     for number in 0..500 {
         assert_eq!(rt; set.remove(numbered(number).key), Some(numbered(number)));
@@ -55,7 +68,7 @@ fn neighbours(rt: HostRuntime) -> Result<(), Fail> {
     let mut set: Ordered<Entry> = Ordered::new(rt.alloc());
     set.reserve(rt.alloc(), 3)?;
     for key in [30, 10, 20] {
-        set.insert(Entry { key, number: 0 });
+        take_in(&mut set, Entry { key, number: 0 })?;
     }
     let rows = [
         (0, Some(10), None),
