@@ -1,3 +1,4 @@
 pub mod Inside
 pub mod Matches
 pub mod Order
+pub mod Sets

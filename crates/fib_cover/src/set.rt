@@ -40,6 +40,17 @@ impl PrefixSet {
         }
     }
 
+    /// The set of these prefixes.
+    pub fn of(alloc: Global, prefixes: &[Prefix]) -> Result<PrefixSet, AllocError>
+        ensures { IfOk result (λ v. (q : PrefixValue) → Contains v q ↔ Contains prefixes.now q) }
+    {
+        let mut set = PrefixSet::new(alloc);
+        for p in prefixes {
+            set.insert(*p)?;
+        }
+        Ok(set)
+    }
+
     /// Takes the prefix in; true exactly where it was no member. Where no memory is left the set stays as it was.
     pub fn insert(&mut self, prefix: Prefix) -> Result<bool, AllocError>
         ensures changed { IfOk result (λ added. IsTrue added ↔ (Contains self.old prefix → ⊥)) }

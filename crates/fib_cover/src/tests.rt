@@ -36,6 +36,8 @@ fn longest_matches(rt: HostRuntime) -> Result<(), Fail> {
     }
     let inside = set.inside(rt.alloc(), middle)?;
     assert_eq!(rt; inside.as_slice(), [middle, narrow, host].as_slice());
+    let again = PrefixSet::of(rt.alloc(), inside.as_slice())?;
+    assert_eq!(rt; again.len(), 3);
     assert!(rt; set.remove(host));
     assert!(rt; !set.remove(host));
     assert_eq!(rt; set.best(Addr(0x0a01_0001)), Some(narrow));

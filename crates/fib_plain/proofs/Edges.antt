@@ -26,38 +26,6 @@ use Rattle.fib_plain.specs.inner.Rows.{number_in, goal_of, goal_number, next_num
 use Rattle.fib_plain.proofs.Numbers.{numbered, one_number, number_of_entry, unnumbered}
 use Rattle.fib_plain.proofs.Members.{filter_map_in, filter_map_from, flat_map_from, option_in, option_from, some_or_none}
 
--- one edge more in a row
-pub row_more : (g : List (List ℕ)) (x k d : ℕ) (row : List ℕ) → x < length g → k < length row →
-    with_edge (set g x (next_of g x ++ take k row)) x (get_or row k d) ≡ set g x (next_of g x ++ take (k + 1) row)
-row_more g x k d row h l =
-    let r = next_of g x ++ take k row in
-    let same : next_of (set g x r) x ≡ r = get_or-set_same g x r [] h in
-    set-set g x r (next_of (set g x r) x ++ get_or row k d ∷ [])
-    ∙ ap (set g x) (ap (λ (s : List ℕ). s ++ get_or row k d ∷ []) same ∙ (append_assoc (next_of g x) (take k row) (get_or row k d ∷ []) ∙ ap (λ (s : List ℕ). next_of g x ++ s) (sym (take_more row k d l))))
-
-replicate_more : {X : Type 0} (n m : ℕ) (x : X) → n ≡ suc m → replicate n x ≡ x ∷ replicate m x
-replicate_more n m x e = rw e refl
-
--- the row of one entry more
-pub graph_more : (f : Prefix → List ℕ) (es : List Prefix) (i : ℕ) (d : Prefix) (g : List (List ℕ)) → i < length es → g ≡ map f (take i es) ++ replicate (length es - i) [] →
-    set g i (next_of g i ++ f (get_or es i d)) ≡ map f (take (i + 1) es) ++ replicate (length es - (i + 1)) []
-graph_more f es i d g h is =
-    let front = map f (take i es) in
-    let back = replicate (length es - (i + 1)) [] in
-    let n : length front ≡ i = length-map (take i es) f ∙ omega (arith, length-take i es, h) in
-    let whole : g ≡ front ++ [] ∷ back = is ∙ ap (λ (r : List (List ℕ)). front ++ r) (replicate_more (length es - i) (length es - (i + 1)) [] (omega (arith, h))) in
-    let none : next_of g i ≡ [] = ap (λ (r : List (List ℕ)). get_or r i []) whole ∙ (ap (λ (k : ℕ). get_or (front ++ [] ∷ back) k []) (sym n) ∙ get_or-append_seam front [] back []) in
-    ap (λ (r : List ℕ). set g i (r ++ f (get_or es i d))) none
-    ∙ (ap (λ (r : List (List ℕ)). set r i (f (get_or es i d))) whole
-    ∙ (ap (λ (k : ℕ). set (front ++ [] ∷ back) k (f (get_or es i d))) (sym n)
-    ∙ (set-append_seam front [] back (f (get_or es i d))
-    ∙ (sym (append_assoc front (f (get_or es i d) ∷ []) back)
-    ∙ ap (λ (r : List (List ℕ)). r ++ back) (sym (ap (map f) (take_more es i d h) ∙ map-append f (take i es) (get_or es i d ∷ [])))))))
-
-pub length_rows : (f : Prefix → List ℕ) (es : List Prefix) (i : ℕ) → i ≤ length es → length (map f (take i es) ++ replicate (length es - i) []) ≡ length es
-length_rows f es i h =
-    omega (arith, length-append (map f (take i es)) (replicate {A = List ℕ} (length es - i) []), length-map (take i es) f, length-take i es, length-replicate {A = List ℕ} (length es - i) [], h)
-
 goal_targets : (S : Tables) (e : Prefix) (kind : PathKind) → kind_targets S e kind ≡ option_to_list (goal_of S e kind)
 goal_targets S e kinds.Drop = refl
 goal_targets S e kinds.Local = refl
@@ -82,13 +50,12 @@ each-filter_map P h f (x ∷ xs) =
       | inr some ↦ rw some.1 (f x some.0 some.1, each-filter_map P h f xs)
     ]
 
-pub next_below : (S : Tables) (e : Prefix) → All (λ k. k < length (entries S)) (next_numbers S e)
+pub next_below : (S : Tables) (e : Prefix) → AllByRecursion (λ k. k < length (entries S)) (next_numbers S e)
 unfolding next_numbers
 next_below S e =
-    All-from_recursion (λ k. k < length (entries S)) (filter_map (λ p. goal_number S e p.kind) (chosen S e))
-    (each-filter_map (λ k. k < length (entries S)) (λ p. goal_number S e p.kind) (λ p j h.
+    each-filter_map (λ k. k < length (entries S)) (λ p. goal_number S e p.kind) (λ p j h.
     let g = some_goal S e p.kind j h in
-    (numbered S g.0 j g.2).0) (chosen S e))
+    (numbered S g.0 j g.2).0) (chosen S e)
 
 edge_target : (S : Tables) (x : Prefix) (j : ℕ) → Contains (next_numbers S x) j → (y : Prefix) × Next (targets S) x y × (number_in S y ≡ Some j)
 unfolding next_numbers targets
@@ -104,7 +71,7 @@ target_edge S x y j c n =
     let goal : goal_of S x r.0.kind ≡ Some y = option_from (goal_of S x r.0.kind) y (rw (goal_targets S x r.0.kind) at r.2) in
     filter_map_in (λ p. option_and_then (number_in S) (goal_of S x p.kind)) (chosen S x) r.0 j r.1 (rw goal n)
 
-row_is : (S : Tables) (x : Prefix) (i : ℕ) → number_in S x ≡ Some i → next_of (graph_of S) i ≡ next_numbers S x
+pub row_is : (S : Tables) (x : Prefix) (i : ℕ) → number_in S x ≡ Some i → next_of (graph_of S) i ≡ next_numbers S x
 unfolding graph_of
 row_is S x i n =
     let at = numbered S x i n in
@@ -164,7 +131,3 @@ looped_none S e a k h n =
           absurd (false≢true (sym (unnumbered S (host a) h) ∙ first_is_entry S w.0 (host a) e (numbered_entry S e k n) w.1)))
       | inr isnt ↦ isnt
     ]
-
-pub length-graph : (S : Tables) → length (graph_of S) ≡ length (entries S)
-unfolding graph_of
-length-graph S = length-map (entries S) (next_numbers S)

@@ -8,3 +8,6 @@ pub mod Leading
 pub mod Stability
 pub mod Viewing
 pub mod Following
+pub mod Placing
+pub mod Covering
+pub mod Cycles

@@ -91,3 +91,11 @@ length_from_maps f g (x ∷ xs) (y ∷ ys) h = ap suc (length_from_maps f g xs y
   where
     tails : {W : Type 0} {a b : W} {as' bs : List W} → a ∷ as' ≡ b ∷ bs → as' ≡ bs
     tails e = cc
+
+pub number_of_below : (S : Tables) (p : Prefix) (o : Option ℕ) → o ≡ number_in S p → IfSome o (λ k. k < length (entries S))
+unfolding number_in
+number_of_below S p o h = number_below (entries S) p o h
+
+pub number_known : (S : Tables) (p : Prefix) (es : List Prefix) → es ≡ entries S → position (same_prefix p) es ≡ number_in S p
+unfolding number_in
+number_known S p es h = ap (position (same_prefix p)) h

@@ -6,6 +6,8 @@ ghost use Rattle.fib_resolve.specs.Touched.{touched};
 ghost use Rattle.fib_resolve.specs.Sizes.{size};
 ghost use Rattle.fib_resolve.specs.Tables.{IsSound};
 
+use crate::known::Known;
+use crate::sizes;
 use crate::snapshot::Snapshot;
 use fib_addr::{Addr, Prefix};
 use fib_resolve::{End, Tables};
@@ -25,8 +27,7 @@ pub fn size(alloc: Global, tables: &Tables) -> Result<u32, AllocError>
     requires { IsSound tables.now }
     ensures { IfOk result (λ n. n ≡ min (size tables.now) (2 ^ 32 - 1)) }
 {
-    let snapshot = Snapshot::new(alloc, tables)?;
-    snapshot.size(alloc)
+    sizes::size(alloc, &Known::of(alloc, tables)?)
 }
 
 /// Whether the path at that place of the prefix's chosen list is usable; false where there is none.

@@ -1,13 +1,16 @@
 // The pairs that depend on no cover.
-ghost use Rattle.std.specs.Prelude.{◌≡◌, ◌≤◌, ◌<◌, ◌++◌, ◌∷◌, [], OnOk, IfOk, map, flat_map, length};
+ghost use Rattle.std.specs.Prelude.{List, ◌≡◌, ◌≤◌, ◌<◌, ◌++◌, ◌∷◌, [], OnOk, IfOk, map, flat_map, length};
 ghost use Rattle.std.specs.List.{list_any, AllByRecursion, All};
-ghost use Rattle.fib_resolve.specs.Pairs.{plain, one, fixed_pairs, connected_pairs, edge_pairs, edge_pair, edge_addresses, is_address, route_pair, base_pairs};
-ghost use Rattle.fib_resolve.specs.Tables.{IsSoundAddress, IsSound};
+ghost use Rattle.fib_resolve.specs.Pairs.{plain, one, fixed_pairs, connected_pairs, edge_pairs, edge_pair, edge_addresses, route_pair, base_pairs};
+ghost use Rattle.fib_resolve.specs.Tables.{IsSound};
+ghost use Rattle.fib_resolve.specs.declared.types.Address.{Address as AddressValue};
+ghost use Rattle.fib_plain.specs.inner.Places.{AreOwn};
 
 use fib_addr::{Addr, Prefix};
 use fib_list::{Duplicate, List};
 use fib_resolve::{Address, FibSource, Need, Pair, Path, PathKind, Route, Tables};
 use std::alloc::{AllocError, Global};
+use std::collections::HashSet;
 
 fn plain(kind: PathKind) -> Path
     ensures { result ≡ plain kind }
@@ -115,27 +118,32 @@ fn add_connected(out: &mut Vec<Pair>, alloc: Global, a: &Address) -> Result<(), 
     )
 }
 
-fn is_address(addresses: &[Address], x: Addr) -> bool
-    ensures { result ≡ is_address addresses.now x }
+/// The addresses of interfaces.
+fn own_addresses(alloc: Global, addresses: &[Address]) -> Result<HashSet<Addr>, AllocError>
+    ensures { IfOk result (λ s. AreOwn addresses.now s.keys) }
 {
-    addresses.iter().any(|b| b.addr == x)
+    let mut set = HashSet::new(alloc);
+    for a in addresses {
+        set.insert(a.addr)?;
+    }
+    Ok(set)
 }
 
 fn add_edges(
     out: &mut Vec<Pair>,
     alloc: Global,
-    addresses: &[Address],
+    own: &HashSet<Addr>,
     a: &Address,
 ) -> Result<(), AllocError>
     requires { a.now.len ≤ 32 }
-    ensures { OnOk result (out.new.items ≡ out.old.items ++ edge_pairs addresses.now a.now) }
+    ensures { OnOk result ((xs : List AddressValue) → AreOwn xs own.now.keys → out.new.items ≡ out.old.items ++ edge_pairs xs a.now) }
 {
     if a.len <= 30 {
         let prefix = Prefix::masked(a.addr, a.len);
         let low = prefix.bits();
         let high = prefix.last();
-        add_edge(out, alloc, addresses, low)?;
-        add_edge(out, alloc, addresses, high)?;
+        add_edge(out, alloc, own, low)?;
+        add_edge(out, alloc, own, high)?;
     }
     Ok(())
 }
@@ -143,12 +151,12 @@ fn add_edges(
 fn add_edge(
     out: &mut Vec<Pair>,
     alloc: Global,
-    addresses: &[Address],
+    own: &HashSet<Addr>,
     x: Addr,
 ) -> Result<(), AllocError>
-    ensures { OnOk result (out.new.items ≡ out.old.items ++ edge_pair addresses.now x) }
+    ensures { OnOk result ((xs : List AddressValue) → AreOwn xs own.now.keys → out.new.items ≡ out.old.items ++ edge_pair xs x) }
 {
-    if !is_address(addresses, x) {
+    if !own.contains(&x) {
         add(
             out,
             alloc,
@@ -182,8 +190,9 @@ fn add_all_edges(
     requires { All (λ a. a.len ≤ 32) addresses.now }
     ensures { OnOk result (out.new.items ≡ out.old.items ++ flat_map (edge_pairs addresses.now) addresses.now) }
 {
+    let own = own_addresses(alloc, addresses)?;
     for a in addresses {
-        add_edges(out, alloc, addresses, a)?;
+        add_edges(out, alloc, &own, a)?;
     }
     Ok(())
 }

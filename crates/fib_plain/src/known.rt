@@ -1,116 +1,144 @@
 // The entries by their numbers.
-ghost use Rattle.std.specs.Prelude.{◌≡◌, ◌<◌, ◌^◌, ℕ, IfOk, IfSome, Some, map, position, length, option_to_list, slice_get, option_copied};
-ghost use Rattle.std.specs.Set.{is_member};
-ghost use Rattle.fib_addr.specs.Prefixes.{Prefix as PrefixValue, same_prefix};
-ghost use Rattle.fib_resolve.specs.Pairs.{pairs, entries, chosen, best_pair, paths_of, is_derived, is_derived_pair};
-ghost use Rattle.fib_resolve.specs.Loops.{targets, kind_targets};
-ghost use Rattle.fib_plain.specs.inner.Places.{pair_at};
-ghost use Rattle.fib_plain.specs.inner.Rows.{IsKnown, number_in, goal_of};
+ghost use Rattle.std.specs.Prelude.{◌≡◌, ◌<◌, ◌^◌, IfOk, IfSome, length, option_copied};
+ghost use Rattle.fib_resolve.specs.Pairs.{pairs, entries, chosen, best_pair, is_derived, cover};
+ghost use Rattle.fib_resolve.specs.Loops.{kind_targets};
+ghost use Rattle.fib_resolve.specs.Tables.{IsSound};
+ghost use Rattle.fib_plain.specs.inner.Rows.{number_in, goal_of};
 
-use crate::{effective, search};
-use fib_addr::Prefix;
+use crate::covers::Covers;
+use crate::ranked::Ranked;
+use crate::repeats::distinct;
+use crate::{effective, places};
+use fib_addr::{Addr, Prefix};
 use fib_resolve::{Pair, Path, PathKind, Tables};
 use std::alloc::{AllocError, Global};
+use std::collections::HashMap;
+use std::marker::Model;
 
-/// Tables with their pairs, entries and covers, and the place of each entry's best pair.
-#[derive(Clone, Copy)]
+/// Tables with their covers, pairs and entries. Contracts see the tables.
+#[derive(Drop)]
 pub struct Known<'a> {
-    pub tables: &'a Tables,
-    pub short: &'a [Prefix],
-    pub pairs: &'a [Pair],
-    pub entries: &'a [Prefix],
-    pub best: &'a [Option<usize>],
+    covers: Covers<'a>,
+    pairs: Ranked,
+    entries: Vec<Prefix>,
+    numbers: HashMap<Prefix, usize>,
 }
 
-/// The place of each entry's best pair.
-pub fn best_places(
-    alloc: Global,
-    pairs: &[Pair],
-    entries: &[Prefix],
-) -> Result<Vec<Option<usize>>, AllocError>
-    ensures { IfOk result (λ v. map (pair_at pairs.now) v.items ≡ map (λ e. best_pair e pairs.now) entries.now) }
+impl<'a> Model for Known<'a> {
+    ghost use Rattle.fib_resolve.specs.declared.types.Tables.{Tables as TablesValue};
+    ghost use Rattle.fib_plain.specs.inner.Snapshots.{IsKnown};
+
+    ghost Value = { TablesValue };
+
+    ghost view = { λ s. s.covers };
+
+    ghost invariant = { λ s. IsKnown s.covers s.pairs s.entries.items s.numbers };
+}
+
+/// The effective prefixes, each once.
+#[tactic(auto, unfolding(fib_resolve::specs::Pairs::entries))]
+fn entries_of(alloc: Global, tables: &Tables, all: &[Pair]) -> Result<Vec<Prefix>, AllocError>
+    requires { all.now ≡ pairs tables.now }
+    ensures { IfOk result (λ v. v.items ≡ entries tables.now) }
 {
-    let mut out = Vec::new(alloc);
-    for e in entries {
-        out.push(search::best_place(*e, pairs))?;
+    let prefixes = effective::prefixes_of(alloc, all)?;
+    distinct(alloc, prefixes.as_slice())
+}
+
+impl<'a> Known<'a> {
+    /// What is known of these tables. Tables with 2^32 entries or more want more memory than there is.
+    pub fn of(alloc: Global, tables: &'a Tables) -> Result<Known<'a>, AllocError>
+        requires { IsSound tables.now }
+        ensures { IfOk result (λ s. s ≡ tables.now) }
+    {
+        let covers = Covers::of(alloc, tables)?;
+        let pairs = effective::pairs(alloc, &covers)?;
+        let pairs = Ranked::of(alloc, pairs)?;
+        let entries = entries_of(alloc, tables, pairs.pairs())?;
+        if entries.len() > u32::MAX as usize {
+            return Err(AllocError);
+        }
+        let numbers = places::first_places(alloc, entries.as_slice())?;
+        Ok(Known {
+            covers,
+            pairs,
+            entries,
+            numbers,
+        })
     }
-    Ok(out)
-}
 
-fn place_of(entries: &[Prefix], p: Prefix) -> Option<usize>
-    ensures { result ≡ position (same_prefix p) entries.now }
-{
-    entries.iter().position(|q| search::is_same_prefix(p, *q))
-}
-
-/// The number of an entry.
-#[tactic(auto, using(crate::proofs::Numbers::number_below), unfolding(crate::specs::inner::Rows::number_in))]
-pub fn number_of(known: Known<'_>, p: Prefix) -> Option<usize>
-    requires { IsKnown known }
-    ensures value { result ≡ number_in known.entry.tables.now p }
-    ensures below { IfSome result (λ k. k < length known.entry.entries.now) }
-{
-    place_of(known.entries, p)
-}
-
-fn pair_at<'a>(pairs: &'a [Pair], place: Option<usize>) -> Option<&'a Pair>
-    ensures { option_copied result ≡ pair_at pairs.now place }
-{
-    match place {
-        Some(k) => pairs.get(k),
-        None => None,
+    /// The tables.
+    pub fn tables(&self) -> &'a Tables
+        ensures tables { result.now ≡ self.now }
+        ensures sound { IsSound self.now }
+    {
+        self.covers.tables()
     }
-}
 
-/// The pair of the best source.
-pub fn best_pair<'a>(known: Known<'a>, p: Prefix) -> Option<&'a Pair>
-    requires { IsKnown known }
-    ensures { option_copied result ≡ best_pair p (pairs known.entry.tables.now) }
-{
-    match number_of(known, p) {
-        Some(k) => pair_at(known.pairs, known.best[k]),
-        None => None,
+    /// The effective pairs, each once.
+    pub fn pairs(&self) -> &[Pair]
+        ensures { result.now ≡ pairs self.now }
+    {
+        self.pairs.pairs()
     }
-}
 
-fn paths_of<'a>(pair: Option<&'a Pair>) -> &'a [Path]
-    ensures { result.now ≡ paths_of (option_copied pair.entry) }
-{
-    match pair {
-        Some(x) => x.paths.as_slice(),
-        None => &[],
+    /// The effective entries, each once.
+    pub fn entries(&self) -> &[Prefix]
+        ensures entries { result.now ≡ entries self.now }
+        ensures few { length result.now < 2 ^ 32 }
+    {
+        self.entries.as_slice()
     }
-}
 
-/// The chosen list, empty where the prefix is no entry.
-#[tactic(auto, unfolding(fib_resolve::specs::Pairs::chosen))]
-pub fn chosen<'a>(known: Known<'a>, e: Prefix) -> &'a [Path]
-    requires { IsKnown known }
-    ensures { result.now ≡ chosen known.entry.tables.now e }
-{
-    paths_of(best_pair(known, e))
-}
-
-/// Whether the best source is recursive resolution.
-#[tactic(auto, unfolding(fib_resolve::specs::Pairs::is_derived))]
-pub fn is_derived(known: Known<'_>, e: Prefix) -> bool
-    requires { IsKnown known }
-    ensures { result ≡ is_derived known.entry.tables.now e }
-{
-    match best_pair(known, e) {
-        Some(x) => x.source.is_derived(),
-        None => false,
+    /// The number of an entry.
+    pub fn number(&self, prefix: Prefix) -> Option<usize>
+        ensures value { result ≡ number_in self.now prefix }
+        ensures below { IfSome result (λ k. k < length (entries self.now)) }
+    {
+        self.numbers.get(&prefix).copied()
     }
-}
 
-/// The entry to which a path leads.
-pub fn goal_of(known: Known<'_>, e: Prefix, kind: PathKind) -> Option<Prefix>
-    requires { IsKnown known }
-    ensures { result ≡ goal_of known.entry.tables.now e kind }
-{
-    match kind {
-        PathKind::Recursive(a) => Some(Prefix::host(a)),
-        PathKind::Cover => Some(effective::cover(known.tables, known.short, e.bits())),
-        _ => None,
+    /// The pair of the best source.
+    pub fn best_pair(&self, prefix: Prefix) -> Option<&Pair>
+        ensures { option_copied result ≡ best_pair prefix (pairs self.now) }
+    {
+        self.pairs.best(prefix)
+    }
+
+    /// The chosen list, empty where the prefix is no entry.
+    #[tactic(auto, unfolding(fib_resolve::specs::Pairs::chosen))]
+    pub fn chosen(&self, e: Prefix) -> &[Path]
+        ensures { result.now ≡ chosen self.now e }
+    {
+        self.pairs.best_paths(e)
+    }
+
+    /// Whether the best source is recursive resolution.
+    #[tactic(auto, unfolding(fib_resolve::specs::Pairs::is_derived))]
+    pub fn is_derived(&self, e: Prefix) -> bool
+        ensures { result ≡ is_derived self.now e }
+    {
+        match self.best_pair(e) {
+            Some(x) => x.source.is_derived(),
+            None => false,
+        }
+    }
+
+    /// The longest prefix below 32 that contains the address.
+    pub fn cover(&self, addr: Addr) -> Prefix
+        ensures { result ≡ cover self.now addr }
+    {
+        self.covers.cover(addr)
+    }
+
+    /// The entry to which a path leads.
+    pub fn goal(&self, e: Prefix, kind: PathKind) -> Option<Prefix>
+        ensures { result ≡ goal_of self.now e kind }
+    {
+        match kind {
+            PathKind::Recursive(a) => Some(Prefix::host(a)),
+            PathKind::Cover => Some(self.cover(e.bits())),
+            _ => None,
+        }
     }
 }

@@ -6,15 +6,18 @@
 
 mod answers;
 mod base;
+mod covers;
 mod effective;
 mod facts;
+mod keyed;
 mod known;
 mod loops;
 mod paths;
+mod places;
 mod possible;
+mod ranked;
 mod repeats;
 mod rounds;
-mod search;
 mod sizes;
 mod snapshot;
 mod touching;

@@ -1,78 +1,138 @@
-// The edges of recursion as a graph over the entries' numbers, and looped paths.
-ghost use Rattle.std.specs.Prelude.{◌≡◌, ◌<◌, ◌^◌, ◌++◌, ℕ, Some, IfOk, IfSome, OnOk, All, map, length, filter_map, slice_set, option_and_then};
-ghost use Rattle.fib_reach.specs.Graphs.{next_of, with_edge};
-ghost use Rattle.fib_resolve.specs.Pairs.{chosen};
-ghost use Rattle.fib_resolve.specs.Loops.{looped, looped_kind};
-ghost use Rattle.fib_plain.specs.inner.Rows.{IsKnown, number_in, goal_of, goal_number, next_numbers, graph_of};
+// The edges of recursion, by the entries' numbers, and those that lie on cycles.
+ghost use Rattle.std.specs.Prelude.{◌≡◌, ◌<◌, ◌↔◌, ◌++◌, ◌||◌, ◌&&◌, ℕ, Some, IfOk, IfSome, IsTrue, OnOk, Contains, length, map};
+ghost use Rattle.std.specs.Set.{is_member};
+ghost use Rattle.fib_loops.specs.Loops.{AreEdges, IsLooped};
+ghost use Rattle.fib_resolve.specs.Pairs.{chosen, entries};
+ghost use Rattle.fib_resolve.specs.Loops.{looped};
+ghost use Rattle.fib_resolve.specs.declared.types.Path.{Path as PathValue};
+ghost use Rattle.fib_resolve.specs.declared.types.PathKind.TheVariants as kinds;
+ghost use Rattle.fib_plain.specs.inner.Rows.{number_in, goal_number, next_numbers, edges_from, edges_of, same_edge, has_edge, AreLooped, AreMarked};
 
-use crate::known::{self, Known};
+use crate::known::Known;
 use fib_addr::{Addr, Prefix};
-use fib_reach::Graph;
+use fib_loops::Marks;
 use fib_resolve::PathKind;
 use std::alloc::{AllocError, Global};
+use std::collections::HashSet;
 
 /// The number of the entry to which a path leads.
 #[tactic(auto, unfolding(crate::specs::inner::Rows::goal_number))]
-pub fn goal_number(known: Known<'_>, e: Prefix, kind: PathKind) -> Option<u32>
-    requires { IsKnown known }
-    ensures value { result ≡ goal_number known.entry.tables.now e kind }
-    ensures below { IfSome result (λ k. k < length known.entry.entries.now) }
+pub fn goal_number(known: &Known<'_>, e: Prefix, kind: PathKind) -> Option<u32>
+    ensures value { result ≡ goal_number known.now e kind }
+    ensures below { IfSome result (λ k. k < length (entries known.now)) }
 {
-    let goal = known::goal_of(known, e, kind)?;
-    let number = known::number_of(known, goal)?;
+    let goal = known.goal(e, kind)?;
+    let number = known.number(goal)?;
+    let _few = known.entries();
     Some(number as u32)
 }
 
 /// The numbers of the entries to which an entry has an edge.
 #[tactic(auto, unfolding(crate::specs::inner::Rows::next_numbers))]
-fn next_numbers(alloc: Global, known: Known<'_>, e: Prefix) -> Result<Vec<u32>, AllocError>
-    requires { IsKnown known }
-    ensures { IfOk result (λ v. v.items ≡ next_numbers known.entry.tables.now e) }
+fn next_numbers(alloc: Global, known: &Known<'_>, e: Prefix) -> Result<Vec<u32>, AllocError>
+    ensures { IfOk result (λ v. v.items ≡ next_numbers known.now e) }
 {
-    known::chosen(known, e)
+    known
+        .chosen(e)
         .iter()
         .filter_map(|p| goal_number(known, e, p.kind))
         .collect(alloc)
 }
 
-/// Adds an edge to each of these nodes.
-fn add_row(graph: &mut Graph, from: u32, row: &[u32]) -> Result<(), AllocError>
-    requires from_in { from < length graph.old }
-    requires row_in { All (λ to. to < length graph.old) row.now }
-    ensures { OnOk result (graph.new ≡ slice_set graph.old from (next_of graph.old from ++ row.now)) }
+/// Appends an edge to each of these nodes.
+fn add_row(out: &mut Vec<(u32, u32)>, from: u32, row: &[u32]) -> Result<(), AllocError>
+    ensures { OnOk result (out.new.items ≡ out.old.items ++ map (λ to. (from, to)) row.now) }
 {
     for to in row {
-        graph.add(from, *to)?;
+        out.push((from, *to))?;
     }
     Ok(())
 }
 
-/// The graph of all edges.
-#[tactic(auto, unfolding(crate::specs::inner::Rows::graph_of))]
-pub fn graph(alloc: Global, known: Known<'_>) -> Result<Graph, AllocError>
-    requires { IsKnown known }
-    ensures { IfOk result (λ g. g ≡ graph_of known.entry.tables.now) }
+/// All edges, in the order of entries and of their paths.
+#[tactic(auto, unfolding(crate::specs::inner::Rows::edges_of))]
+fn edges(alloc: Global, known: &Known<'_>) -> Result<Vec<(u32, u32)>, AllocError>
+    ensures { IfOk result (λ v. v.items ≡ edges_of known.now) }
 {
-    let mut graph = Graph::new(alloc, known.entries.len() as u32)?;
-    for (i, e) in known.entries.iter().enumerate() {
+    let mut out = Vec::new(alloc);
+    for (i, e) in known.entries().iter().enumerate() {
         let row = next_numbers(alloc, known, *e)?;
-        add_row(&mut graph, i as u32, row.as_slice())?;
+        add_row(&mut out, i as u32, row.as_slice())?;
     }
-    Ok(graph)
+    Ok(out)
 }
 
-/// Whether the entry's recursive path to that next hop is looped.
-pub fn is_looped(graph: &mut Graph, known: Known<'_>, e: Prefix, number: u32, a: Addr) -> bool
-    requires known { IsKnown known }
-    requires graph { graph.old ≡ graph_of known.tables.now }
-    requires number { number_in known.tables.now e ≡ Some number }
-    ensures unchanged { graph.new ≡ graph.old }
-    ensures value { result ≡ looped known.entry.tables.now e a }
+fn add_if(looped: &mut HashSet<(u32, u32)>, test: bool, edge: (u32, u32)) -> Result<(), AllocError>
+    ensures { OnOk result ((d : ℕ × ℕ) → has_edge looped.new.keys d ≡ has_edge looped.old.keys d || (test && same_edge edge d)) }
 {
-    match known::number_of(known, Prefix::host(a)) {
+    if !test {
+        return Ok(());
+    }
+    looped.insert(edge)?;
+    Ok(())
+}
+
+/// Those of the edges that are marked.
+fn marked(
+    alloc: Global,
+    edges: &[(u32, u32)],
+    marks: &Marks,
+    count: u32,
+) -> Result<HashSet<(u32, u32)>, AllocError>
+    requires edges { length edges.now ≡ count }
+    requires marks { length marks.now.looped ≡ count }
+    ensures { IfOk result (λ s. AreMarked edges.now marks.now.looped count s.keys) }
+{
+    let mut looped = HashSet::new(alloc);
+    for k in 0..count {
+        let edge = edges[k as usize];
+        add_if(&mut looped, marks.looped(k), edge)?;
+    }
+    Ok(looped)
+}
+
+/// Those of the edges that lie on cycles.
+fn on_cycles(
+    alloc: Global,
+    nodes: u32,
+    edges: &[(u32, u32)],
+) -> Result<HashSet<(u32, u32)>, AllocError>
+    requires { AreEdges nodes edges.now }
+    ensures { IfOk result (λ s. AreLooped edges.now s.keys) }
+{
+    let Ok(count) = u32::try_from(edges.len()) else {
+        return Err(AllocError);
+    };
+    let marks = fib_loops::mark(alloc, nodes, edges)?;
+    marked(alloc, edges, &marks, count)
+}
+
+/// The edges that lie on cycles, in two walks over all.
+pub fn looped_edges(alloc: Global, known: &Known<'_>) -> Result<HashSet<(u32, u32)>, AllocError>
+    ensures { IfOk result (λ s. AreLooped (edges_of known.now) s.keys) }
+{
+    let nodes = known.entries().len() as u32;
+    let edges = edges(alloc, known)?;
+    on_cycles(alloc, nodes, edges.as_slice())
+}
+
+/// Whether a recursive path of the entry's chosen list to that next hop is looped.
+pub fn is_looped(
+    on_cycles: &HashSet<(u32, u32)>,
+    known: &Known<'_>,
+    e: Prefix,
+    number: u32,
+    a: Addr,
+) -> bool
+    requires cycles { AreLooped (edges_of known.now) on_cycles.now.keys }
+    requires number { number_in known.now e ≡ Some number }
+    requires there { (p : PathValue) × Contains (chosen known.now e) p × (p.kind ≡ kinds.Recursive a) }
+    ensures { result ≡ looped known.now e a }
+{
+    match known.number(Prefix::host(a)) {
         Some(k) => {
-            let from = k as u32;
-            from == number || graph.reaches(from, number)
+            let _few = known.entries();
+            on_cycles.contains(&(number, k as u32))
         }
         None => false,
     }

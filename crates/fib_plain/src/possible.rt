@@ -3,13 +3,12 @@ ghost use Rattle.std.specs.Prelude.{◌≡◌, ◌++◌, ◌∷◌, [], OnOk, If
 ghost use Rattle.fib_resolve.specs.Pairs.{chosen, entries};
 ghost use Rattle.fib_resolve.specs.Forwarding.{usable};
 ghost use Rattle.fib_resolve.specs.Resolution.{ends};
-ghost use Rattle.fib_plain.specs.inner.Views.{IsView};
 ghost use Rattle.fib_plain.specs.inner.Exits.{exit_of, exits_of, exits, end_of, exit_end};
 
-use crate::view::{self, View};
-use crate::ways;
+use crate::snapshot::Snapshot;
+use crate::{view, ways};
 use fib_addr::Prefix;
-use fib_resolve::{End, Path, PathKind, Tables};
+use fib_resolve::{End, Path, PathKind};
 use std::alloc::{AllocError, Global};
 
 /// A usable path: its entry and its kind.
@@ -20,17 +19,17 @@ pub struct Exit {
 }
 
 /// The end of the path, where it goes on nowhere.
-fn exit_end(tables: &Tables, exit: &Exit) -> Option<End>
-    ensures { result ≡ exit_end tables.now exit.now }
+fn exit_end(view: &Snapshot<'_>, exit: &Exit) -> Option<End>
+    ensures { result ≡ exit_end view.now exit.now }
 {
     let e = exit.entry;
     match exit.kind {
         PathKind::Local => Some(End::Receive),
-        PathKind::Attached(i) => Some(ways::attached_end(tables, e, i)),
+        PathKind::Attached(i) => Some(ways::attached_end(view, e, i)),
         PathKind::Hop {
             next_hop,
             interface,
-        } => Some(ways::hop_end(tables, interface, next_hop)),
+        } => Some(ways::hop_end(view, interface, next_hop)),
         _ => None,
     }
 }
@@ -50,42 +49,37 @@ fn add_exits(out: &mut Vec<Exit>, entry: Prefix, paths: &[Path]) -> Result<(), A
 fn add_entry(
     out: &mut Vec<Exit>,
     alloc: Global,
-    view: View<'_>,
+    view: &Snapshot<'_>,
     e: Prefix,
 ) -> Result<(), AllocError>
-    requires { IsView view }
-    ensures { OnOk result (out.new.items ≡ out.old.items ++ exits_of view.entry.known.tables.now e) }
+    ensures { OnOk result (out.new.items ≡ out.old.items ++ exits_of view.now e) }
 {
     let usable = view::usable_paths(alloc, view, e)?;
     add_exits(out, e, usable.as_slice())
 }
 
-fn exits(alloc: Global, view: View<'_>) -> Result<Vec<Exit>, AllocError>
-    requires { IsView view }
-    ensures { IfOk result (λ v. v.items ≡ exits view.entry.known.tables.now) }
+fn exits(alloc: Global, view: &Snapshot<'_>) -> Result<Vec<Exit>, AllocError>
+    ensures { IfOk result (λ v. v.items ≡ exits view.now) }
 {
     let mut out = Vec::new(alloc);
-    for e in view.known.entries {
+    for e in view.known().entries() {
         add_entry(&mut out, alloc, view, *e)?;
     }
     Ok(out)
 }
 
-fn ends_of(alloc: Global, tables: &Tables, all: &[Exit]) -> Result<Vec<End>, AllocError>
-    ensures { IfOk result (λ v. v.items ≡ filter_map (exit_end tables.now) all.now) }
+fn ends_of(alloc: Global, view: &Snapshot<'_>, all: &[Exit]) -> Result<Vec<End>, AllocError>
+    ensures { IfOk result (λ v. v.items ≡ filter_map (exit_end view.now) all.now) }
 {
-    all.iter()
-        .filter_map(|x| exit_end(tables, x))
-        .collect(alloc)
+    all.iter().filter_map(|x| exit_end(view, x)).collect(alloc)
 }
 
 /// Drop, and the ends of all usable paths that go on nowhere, with repeats.
-pub fn ends(alloc: Global, view: View<'_>) -> Result<Vec<End>, AllocError>
-    requires { IsView view }
-    ensures { IfOk result (λ v. v.items ≡ ends view.entry.known.tables.now) }
+pub fn ends(alloc: Global, view: &Snapshot<'_>) -> Result<Vec<End>, AllocError>
+    ensures { IfOk result (λ v. v.items ≡ ends view.now) }
 {
     let all = exits(alloc, view)?;
-    let found = ends_of(alloc, view.known.tables, all.as_slice())?;
+    let found = ends_of(alloc, view, all.as_slice())?;
     let mut out = Vec::new(alloc);
     out.push(End::Drop)?;
     out.extend_from_slice(found.as_slice())?;

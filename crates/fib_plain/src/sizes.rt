@@ -5,9 +5,8 @@ ghost use Rattle.fib_addr.specs.Prefixes.{same_prefix};
 ghost use Rattle.fib_addr.specs.Longest.{everything};
 ghost use Rattle.fib_resolve.specs.Pairs.{entries, chosen};
 ghost use Rattle.fib_resolve.specs.Sizes.{plies_of, plies, kind_adjacency, same_adjacency, adjacencies_of, adjacencies, size};
-ghost use Rattle.fib_plain.specs.inner.Rows.{IsKnown};
 
-use crate::known::{self, Known};
+use crate::known::Known;
 use crate::paths;
 use crate::repeats::distinct;
 use fib_addr::{Addr, Prefix};
@@ -25,34 +24,31 @@ fn add_plies(out: &mut Vec<Prefix>, p: Prefix) -> Result<(), AllocError>
 
 /// The plies, each once: that of all addresses, and those of the entries.
 #[tactic(auto, unfolding(fib_resolve::specs::Sizes::plies))]
-fn plies(alloc: Global, known: Known<'_>) -> Result<Vec<Prefix>, AllocError>
-    requires { IsKnown known }
-    ensures { IfOk result (λ v. v.items ≡ plies known.entry.tables.now) }
+fn plies(alloc: Global, known: &Known<'_>) -> Result<Vec<Prefix>, AllocError>
+    ensures { IfOk result (λ v. v.items ≡ plies known.now) }
 {
     let mut out = Vec::new(alloc);
     out.push(Prefix::masked(Addr(0), 0))?;
-    for e in known.entries {
+    for e in known.entries() {
         add_plies(&mut out, *e)?;
     }
     distinct(alloc, out.as_slice())
 }
 
-fn all_adjacencies(alloc: Global, known: Known<'_>) -> Result<Vec<Adjacency>, AllocError>
-    requires { IsKnown known }
-    ensures { IfOk result (λ v. v.items ≡ flat_map (adjacencies_of known.entry.tables.now) (entries known.entry.tables.now)) }
+fn all_adjacencies(alloc: Global, known: &Known<'_>) -> Result<Vec<Adjacency>, AllocError>
+    ensures { IfOk result (λ v. v.items ≡ flat_map (adjacencies_of known.now) (entries known.now)) }
 {
     let mut out = Vec::new(alloc);
-    for e in known.entries {
-        paths::add_adjacencies(&mut out, *e, known::chosen(known, *e))?;
+    for e in known.entries() {
+        paths::add_adjacencies(&mut out, *e, known.chosen(*e))?;
     }
     Ok(out)
 }
 
 /// The Hop ends of all chosen lists, each once.
 #[tactic(auto, unfolding(fib_resolve::specs::Sizes::adjacencies))]
-pub fn adjacencies(alloc: Global, known: Known<'_>) -> Result<Vec<Adjacency>, AllocError>
-    requires { IsKnown known }
-    ensures { IfOk result (λ v. v.items ≡ adjacencies known.entry.tables.now) }
+pub fn adjacencies(alloc: Global, known: &Known<'_>) -> Result<Vec<Adjacency>, AllocError>
+    ensures { IfOk result (λ v. v.items ≡ adjacencies known.now) }
 {
     let all = all_adjacencies(alloc, known)?;
     distinct(alloc, all.as_slice())
@@ -60,14 +56,13 @@ pub fn adjacencies(alloc: Global, known: Known<'_>) -> Result<Vec<Adjacency>, Al
 
 /// The size of the tables, or 4,294,967,295 where it is greater.
 #[tactic(auto, unfolding(fib_resolve::specs::Sizes::size))]
-pub fn size(alloc: Global, known: Known<'_>) -> Result<u32, AllocError>
-    requires { IsKnown known }
-    ensures { IfOk result (λ n. n ≡ min (size known.entry.tables.now) (2 ^ 32 - 1)) }
+pub fn size(alloc: Global, known: &Known<'_>) -> Result<u32, AllocError>
+    ensures { IfOk result (λ n. n ≡ min (size known.now) (2 ^ 32 - 1)) }
 {
     let plies = plies(alloc, known)?.len();
     let adjacencies = adjacencies(alloc, known)?.len();
     let total = plies
-        .saturating_add(known.entries.len())
+        .saturating_add(known.entries().len())
         .saturating_add(adjacencies);
     Ok(total.min(u32::MAX as usize) as u32)
 }

@@ -1,6 +1,6 @@
 // All that tables mean, made once.
-ghost use Rattle.std.specs.Prelude.{◌≡◌, ◌<◌, ◌^◌, ◌-◌, IfOk, map, length, min};
-ghost use Rattle.fib_resolve.specs.Pairs.{pairs, entries, chosen, cover, best, base_pairs, short_prefixes};
+ghost use Rattle.std.specs.Prelude.{◌≡◌, ◌^◌, ◌-◌, IfOk, min};
+ghost use Rattle.fib_resolve.specs.Pairs.{pairs, entries, chosen, cover, best};
 ghost use Rattle.fib_resolve.specs.Loops.{looped_at};
 ghost use Rattle.fib_resolve.specs.Forwarding.{usable_at};
 ghost use Rattle.fib_resolve.specs.Buckets.{wanted};
@@ -8,33 +8,29 @@ ghost use Rattle.fib_resolve.specs.Resolution.{resolve, mac_of, ends};
 ghost use Rattle.fib_resolve.specs.Touched.{touched};
 ghost use Rattle.fib_resolve.specs.Sizes.{adjacencies, size};
 ghost use Rattle.fib_resolve.specs.Tables.{IsSound};
-ghost use Rattle.fib_plain.specs.inner.Rows.{IsKnown};
-ghost use Rattle.fib_plain.specs.inner.Views.{IsView};
 
-use crate::effective::{self, Base};
 use crate::facts::{self, PathFacts};
-use crate::known::{self, Known};
-use crate::view::{self, View};
-use crate::{base, possible, rounds, sizes, touching, ways};
+use crate::known::Known;
+use crate::{possible, rounds, sizes, touching, view, ways};
 use fib_addr::{Addr, Mac, Prefix};
+use fib_cover::PrefixSet;
 use fib_list::List;
 use fib_resolve::{Adjacency, End, Pair, Path, Tables};
 use std::alloc::{AllocError, Global};
+use std::collections::HashMap;
 use std::marker::Model;
 
 /// All that tables mean, made once, so that many answers share it. Contracts see the tables.
 ///
-/// Making it takes the time of a few comparisons for each two pairs, and of one search for each edge of recursion; an answer then
-/// looks each entry on its way up in a list.
+/// Making it takes a look-up or two for each pair, path and edge, and as many rounds over all paths as the longest chain of recursion
+/// has entries.
 #[derive(Drop)]
 pub struct Snapshot<'a> {
-    tables: &'a Tables,
-    short: Vec<Prefix>,
-    pairs: Vec<Pair>,
-    entries: Vec<Prefix>,
-    best: Vec<Option<usize>>,
-    rows: Vec<List<PathFacts>>,
-    marks: Vec<bool>,
+    known: Known<'a>,
+    pub(crate) order: PrefixSet,
+    pub(crate) macs: HashMap<Adjacency, Mac>,
+    pub(crate) rows: Vec<List<PathFacts>>,
+    pub(crate) marks: Vec<bool>,
 }
 
 impl<'a> Model for Snapshot<'a> {
@@ -44,9 +40,9 @@ impl<'a> Model for Snapshot<'a> {
 
     ghost use Rattle.fib_plain.specs.inner.Snapshots.{IsSnapshot};
 
-    ghost view = { λ s. s.tables.now };
+    ghost view = { λ s. s.known };
 
-    ghost invariant = { λ s. IsSnapshot s.tables.now s.short.items s.pairs.items s.entries.items s.best.items s.rows.items s.marks.items };
+    ghost invariant = { λ s. IsSnapshot s.known s.order s.macs s.rows.items s.marks.items };
 }
 
 impl<'a> Snapshot<'a> {
@@ -55,128 +51,116 @@ impl<'a> Snapshot<'a> {
         requires { IsSound tables.now }
         ensures { IfOk result (λ s. s ≡ tables.now) }
     {
-        let plain = base::base_pairs(alloc, tables)?;
-        let short = effective::short_prefixes(alloc, tables, plain.as_slice())?;
-        let base = Base {
-            tables,
-            pairs: plain.as_slice(),
-            short: short.as_slice(),
-        };
-        let pairs = effective::pairs(alloc, base)?;
-        let entries = effective::entries(alloc, tables, pairs.as_slice())?;
-        if entries.len() > u32::MAX as usize {
-            return Err(AllocError);
-        }
-        let best = known::best_places(alloc, pairs.as_slice(), entries.as_slice())?;
-        let known = Known {
-            tables,
-            short: short.as_slice(),
-            pairs: pairs.as_slice(),
-            entries: entries.as_slice(),
-            best: best.as_slice(),
-        };
-        let rows = facts::rows(alloc, known)?;
+        let known = Known::of(alloc, tables)?;
+        let order = PrefixSet::of(alloc, known.entries())?;
+        let macs = ways::macs(alloc, tables)?;
+        let rows = facts::rows(alloc, &known)?;
         let marks = rounds::marks(alloc, tables, rows.as_slice())?;
         Ok(Snapshot {
-            tables,
-            short,
-            pairs,
-            entries,
-            best,
+            known,
+            order,
+            macs,
             rows,
             marks,
         })
+    }
+
+    /// What is known of the entries.
+    pub(crate) fn known(&self) -> &Known<'a>
+        ensures { result.now ≡ self.now }
+    {
+        &self.known
     }
 
     /// The tables.
     pub fn tables(&self) -> &'a Tables
         ensures { result.now ≡ self.now }
     {
-        self.tables
+        self.known().tables()
     }
 
     /// The effective pairs, each once.
     pub fn pairs(&self) -> &[Pair]
         ensures { result.now ≡ pairs self.now }
     {
-        self.pairs.as_slice()
+        self.known().pairs()
     }
 
     /// The effective entries, each once.
     pub fn entries(&self) -> &[Prefix]
         ensures { result.now ≡ entries self.now }
     {
-        self.entries.as_slice()
+        self.known().entries()
     }
 
     /// The chosen list of an entry, empty where the prefix is none.
     pub fn chosen(&self, e: Prefix) -> &[Path]
         ensures { result.now ≡ chosen self.now e }
     {
-        known::chosen(self.known(), e)
+        self.known().chosen(e)
     }
 
     /// The cover of an address: the longest effective prefix below 32 that contains it.
     pub fn cover(&self, addr: Addr) -> Prefix
         ensures { result ≡ cover self.now addr }
     {
-        effective::cover(self.tables, self.short.as_slice(), addr)
+        self.known().cover(addr)
     }
 
     /// The longest effective prefix that contains the address.
     pub fn best(&self, addr: Addr) -> Prefix
         ensures { result ≡ best self.now addr }
     {
-        ways::best(self.view(), addr)
+        ways::best(self, addr)
     }
 
     /// Whether the path at that place of the entry's chosen list is there and looped.
     pub fn is_looped(&self, e: Prefix, place: usize) -> bool
         ensures { result ≡ looped_at self.now e place }
     {
-        view::is_looped(self.view(), e, place)
+        view::is_looped(self, e, place)
     }
 
     /// Whether the path at that place of the entry's chosen list is there and usable.
     pub fn is_usable(&self, e: Prefix, place: usize) -> bool
         ensures { result ≡ usable_at self.now e place }
     {
-        view::is_usable(self.view(), e, place)
+        view::is_usable(self, e, place)
     }
 
     /// The sixteen wanted paths of an entry, or none where it doesn't forward.
     pub fn wanted(&self, alloc: Global, e: Prefix) -> Result<Vec<Path>, AllocError>
         ensures { IfOk result (λ v. v.items ≡ wanted self.now e) }
     {
-        view::wanted(alloc, self.view(), e)
+        view::wanted(alloc, self, e)
     }
 
     /// The MAC of the neighbor with that interface and address, whether or not it has an entry.
     pub fn mac_of(&self, interface: u32, next_hop: Addr) -> Option<Mac>
         ensures { result ≡ mac_of self.now interface next_hop }
     {
-        ways::mac_of(self.tables, interface, next_hop)
+        ways::mac_of(self, interface, next_hop)
     }
 
     /// Where a packet for the address with that hash ends.
     pub fn resolve(&self, alloc: Global, addr: Addr, hash: u32) -> Result<End, AllocError>
         ensures { IfOk result (λ end. end ≡ resolve self.now addr hash) }
     {
-        ways::resolve(alloc, self.view(), addr, hash)
+        ways::resolve(alloc, self, addr, hash)
     }
 
     /// The possible ends: Drop, and those of all usable paths that go on nowhere, with repeats.
     pub fn ends(&self, alloc: Global) -> Result<Vec<End>, AllocError>
         ensures { IfOk result (λ v. v.items ≡ ends self.now) }
     {
-        possible::ends(alloc, self.view())
+        possible::ends(alloc, self)
     }
 
     /// The prefixes that the change from these tables to others touches, each once.
     pub fn touched(&self, alloc: Global, after: &Snapshot<'_>) -> Result<Vec<Prefix>, AllocError>
         ensures { IfOk result (λ v. v.items ≡ touched self.now after.now) }
     {
-        touching::touched(alloc, self.view(), after.view())
+        touching::touched(alloc, self, after)
     }
 
     /// The Hop ends of all chosen lists, each once, usable or not.
@@ -191,29 +175,5 @@ impl<'a> Snapshot<'a> {
         ensures { IfOk result (λ n. n ≡ min (size self.now) (2 ^ 32 - 1)) }
     {
         sizes::size(alloc, self.known())
-    }
-
-    fn known(&self) -> Known<'_>
-        ensures known { IsKnown result }
-        ensures tables { result.tables.now ≡ self.now }
-    {
-        Known {
-            tables: self.tables,
-            short: self.short.as_slice(),
-            pairs: self.pairs.as_slice(),
-            entries: self.entries.as_slice(),
-            best: self.best.as_slice(),
-        }
-    }
-
-    fn view(&self) -> View<'_>
-        ensures view { IsView result }
-        ensures tables { result.known.tables.now ≡ self.now }
-    {
-        View {
-            known: self.known(),
-            rows: self.rows.as_slice(),
-            marks: self.marks.as_slice(),
-        }
     }
 }

@@ -5,11 +5,10 @@ ghost use Rattle.std.specs.Set.{is_member, unique_keys};
 ghost use Rattle.fib_addr.specs.Prefixes.{same_prefix};
 ghost use Rattle.fib_resolve.specs.Pairs.{same_pair, chosen, entries, pairs};
 ghost use Rattle.fib_resolve.specs.Touched.{other_flag, other_mac, kind_changes, same_pairs, pairs_of, is_touched, touched};
-ghost use Rattle.fib_plain.specs.inner.Views.{IsView};
 
 use crate::repeats::distinct;
-use crate::view::{self, View};
-use crate::{effective, facts, known, search, ways};
+use crate::snapshot::Snapshot;
+use crate::{facts, keyed, view, ways};
 use fib_addr::{Addr, Prefix};
 use fib_resolve::{Pair, Path, PathKind, Tables};
 use std::alloc::{AllocError, Global};
@@ -20,7 +19,7 @@ fn other_flag(before: &Tables, after: &Tables, interface: u32) -> bool
     facts::is_up(before, interface) != facts::is_up(after, interface)
 }
 
-fn other_mac(before: &Tables, after: &Tables, interface: u32, a: Addr) -> bool
+fn other_mac(before: &Snapshot<'_>, after: &Snapshot<'_>, interface: u32, a: Addr) -> bool
     ensures { result ≡ other_mac before.now after.now interface a }
 {
     match (
@@ -34,41 +33,41 @@ fn other_mac(before: &Tables, after: &Tables, interface: u32, a: Addr) -> bool
 }
 
 /// Whether the path at that place of the entry's list, which is the same before and after, means something else.
-fn kind_changes(before: View<'_>, after: View<'_>, e: Prefix, place: usize, p: &Path) -> bool
-    requires before { IsView before }
-    requires after { IsView after }
-    requires here { slice_get (chosen before.known.tables.now e) place ≡ Some p.now }
-    requires there { slice_get (chosen after.known.tables.now e) place ≡ Some p.now }
-    ensures { result ≡ kind_changes before.entry.known.tables.now after.entry.known.tables.now e p.now.need p.now.kind }
+fn kind_changes(
+    before: &Snapshot<'_>,
+    after: &Snapshot<'_>,
+    e: Prefix,
+    place: usize,
+    p: &Path,
+) -> bool
+    requires here { slice_get (chosen before.now e) place ≡ Some p.now }
+    requires there { slice_get (chosen after.now e) place ≡ Some p.now }
+    ensures { result ≡ kind_changes before.now after.now e p.now.need p.now.kind }
 {
-    let (old, new) = (before.known.tables, after.known.tables);
+    let (old, new) = (before.known().tables(), after.known().tables());
     match p.kind {
         PathKind::Drop | PathKind::Local => false,
         PathKind::Attached(i) => {
-            other_flag(old, new, i) || (e.len() == 32 && other_mac(old, new, i, e.bits()))
+            other_flag(old, new, i) || (e.len() == 32 && other_mac(before, after, i, e.bits()))
         }
         PathKind::Hop {
             next_hop,
             interface,
-        } => other_flag(old, new, interface) || other_mac(old, new, interface, next_hop),
+        } => other_flag(old, new, interface) || other_mac(before, after, interface, next_hop),
         PathKind::Recursive(a) => {
             view::is_looped(before, e, place) != view::is_looped(after, e, place)
-                || facts::is_met(before.known, p.need, a) != facts::is_met(after.known, p.need, a)
+                || facts::is_met(before.known(), p.need, a)
+                    != facts::is_met(after.known(), p.need, a)
         }
-        PathKind::Cover => !search::is_same_prefix(
-            effective::cover(old, before.known.short, e.bits()),
-            effective::cover(new, after.known.short, e.bits()),
-        ),
+        PathKind::Cover => before.known().cover(e.bits()) != after.known().cover(e.bits()),
     }
 }
 
-fn changes(before: View<'_>, after: View<'_>, e: Prefix) -> bool
-    requires before { IsView before }
-    requires after { IsView after }
-    requires same { chosen before.known.tables.now e ≡ chosen after.known.tables.now e }
-    ensures { result ≡ list_any (λ p. kind_changes before.entry.known.tables.now after.entry.known.tables.now e p.need p.kind) (chosen before.entry.known.tables.now e) }
+fn changes(before: &Snapshot<'_>, after: &Snapshot<'_>, e: Prefix) -> bool
+    requires same { chosen before.now e ≡ chosen after.now e }
+    ensures { result ≡ list_any (λ p. kind_changes before.now after.now e p.need p.kind) (chosen before.now e) }
 {
-    let paths = known::chosen(before.known, e);
+    let paths = before.known().chosen(e);
     for place in 0..paths.len() {
         if kind_changes(before, after, e, place, &paths[place]) {
             return true;
@@ -82,34 +81,32 @@ fn has_own(e: Prefix, pairs: &[Pair], x: &Pair) -> bool
 {
     pairs
         .iter()
-        .filter(|y| search::is_same_prefix(e, y.prefix))
-        .any(|y| effective::is_same_pair(x, y))
+        .filter(|y| e == y.prefix)
+        .any(|y| keyed::is_same_pair(x, y))
 }
 
 fn all_there(e: Prefix, xs: &[Pair], ys: &[Pair]) -> bool
     ensures { result ≡ list_all (is_member same_pair (filter (λ y. same_prefix e y.prefix) ys.now)) (filter (λ x. same_prefix e x.prefix) xs.now) }
 {
     xs.iter()
-        .filter(|x| search::is_same_prefix(e, x.prefix))
+        .filter(|x| e == x.prefix)
         .all(|x| has_own(e, ys, x))
 }
 
-fn has_same_pairs(before: View<'_>, after: View<'_>, e: Prefix) -> bool
-    requires before { IsView before }
-    requires after { IsView after }
-    ensures { result ≡ same_pairs (pairs_of before.entry.known.tables.now e) (pairs_of after.entry.known.tables.now e) }
+fn has_same_pairs(before: &Snapshot<'_>, after: &Snapshot<'_>, e: Prefix) -> bool
+    ensures { result ≡ same_pairs (pairs_of before.now e) (pairs_of after.now e) }
 {
-    all_there(e, before.known.pairs, after.known.pairs)
-        && all_there(e, after.known.pairs, before.known.pairs)
+    all_there(e, before.known().pairs(), after.known().pairs())
+        && all_there(e, after.known().pairs(), before.known().pairs())
 }
 
 /// Whether the change touches the prefix.
 #[tactic(auto, unfolding(fib_resolve::specs::Touched::is_touched))]
-fn is_touched(before: View<'_>, after: View<'_>, e: Prefix) -> bool
-    requires before { IsView before }
-    requires after { IsView after }
-    ensures { result ≡ is_touched before.entry.known.tables.now after.entry.known.tables.now e }
+fn is_touched(before: &Snapshot<'_>, after: &Snapshot<'_>, e: Prefix) -> bool
+    ensures { result ≡ is_touched before.now after.now e }
 {
+    // Read so that the proof knows that the tables are sound.
+    let _tables = after.known().tables();
     if !has_same_pairs(before, after, e) {
         return true;
     }
@@ -131,12 +128,14 @@ fn all_entries(
 
 /// The touched prefixes, each once.
 #[tactic(auto, unfolding(fib_resolve::specs::Touched::touched))]
-pub fn touched(alloc: Global, before: View<'_>, after: View<'_>) -> Result<Vec<Prefix>, AllocError>
-    requires before { IsView before }
-    requires after { IsView after }
-    ensures { IfOk result (λ v. v.items ≡ touched before.entry.known.tables.now after.entry.known.tables.now) }
+pub fn touched(
+    alloc: Global,
+    before: &Snapshot<'_>,
+    after: &Snapshot<'_>,
+) -> Result<Vec<Prefix>, AllocError>
+    ensures { IfOk result (λ v. v.items ≡ touched before.now after.now) }
 {
-    let all = all_entries(alloc, before.known.entries, after.known.entries)?;
+    let all = all_entries(alloc, before.known().entries(), after.known().entries())?;
     let mut out = Vec::new(alloc);
     for e in &all {
         if is_touched(before, after, *e) {

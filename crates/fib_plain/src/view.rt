@@ -1,34 +1,23 @@
-// Tables with all that is known of their entries, and the paths that are wanted.
+// Which paths are usable, and which are wanted.
 ghost use Rattle.std.specs.Prelude.{◌≡◌, ◌<◌, ◌≤◌, ◌++◌, ℕ, Some, IfOk, OnOk, map, filter, flat_map, fold, min, length, sum, slice_get, option_to_list};
 ghost use Rattle.fib_resolve.specs.Pairs.{chosen};
 ghost use Rattle.fib_resolve.specs.Loops.{looped_at};
 ghost use Rattle.fib_resolve.specs.Forwarding.{usable, usable_at};
 ghost use Rattle.fib_resolve.specs.Buckets.{least_preference, of_least_preference, used, spread, wanted, IsShort};
 ghost use Rattle.fib_plain.specs.inner.Rows.{facts_of};
-ghost use Rattle.fib_plain.specs.inner.Views.{IsView};
 
 use crate::facts::PathFacts;
-use crate::known::{self, Known};
 use crate::rounds;
+use crate::snapshot::Snapshot;
 use fib_addr::Prefix;
-use fib_list::List;
 use fib_resolve::Path;
 use std::alloc::{AllocError, Global};
 
-/// Tables with all that is known of their entries.
-#[derive(Clone, Copy)]
-pub struct View<'a> {
-    pub known: Known<'a>,
-    pub rows: &'a [List<PathFacts>],
-    pub marks: &'a [bool],
-}
-
 /// What is known of the entry's paths, in their order.
-pub fn row<'a>(view: View<'a>, e: Prefix) -> &'a [PathFacts]
-    requires { IsView view }
-    ensures { result.now ≡ facts_of view.entry.known.tables.now e }
+pub fn row<'a>(view: &'a Snapshot<'_>, e: Prefix) -> &'a [PathFacts]
+    ensures { result.now ≡ facts_of view.now e }
 {
-    match known::number_of(view.known, e) {
+    match view.known().number(e) {
         Some(k) => view.rows[k].as_slice(),
         None => &[],
     }
@@ -41,29 +30,26 @@ fn facts_at(row: &[PathFacts], place: usize) -> Option<PathFacts>
 }
 
 /// Whether the path at that place is there and usable.
-fn usable_at(view: View<'_>, e: Prefix, row: &[PathFacts], place: usize) -> bool
-    requires view { IsView view }
-    requires row { row.now ≡ facts_of view.known.tables.now e }
-    ensures { result ≡ usable_at view.entry.known.tables.now e place }
+fn usable_at(view: &Snapshot<'_>, e: Prefix, row: &[PathFacts], place: usize) -> bool
+    requires row { row.now ≡ facts_of view.now e }
+    ensures { result ≡ usable_at view.now e place }
 {
     match facts_at(row, place) {
-        Some(x) => rounds::usable_now(view.marks, &x),
+        Some(x) => rounds::usable_now(view.marks.as_slice(), &x),
         None => false,
     }
 }
 
 /// Whether the path at that place of the entry's chosen list is there and usable.
-pub fn is_usable(view: View<'_>, e: Prefix, place: usize) -> bool
-    requires { IsView view }
-    ensures { result ≡ usable_at view.entry.known.tables.now e place }
+pub fn is_usable(view: &Snapshot<'_>, e: Prefix, place: usize) -> bool
+    ensures { result ≡ usable_at view.now e place }
 {
     usable_at(view, e, row(view, e), place)
 }
 
 /// Whether the path at that place of the entry's chosen list is there and looped.
-pub fn is_looped(view: View<'_>, e: Prefix, place: usize) -> bool
-    requires { IsView view }
-    ensures { result ≡ looped_at view.entry.known.tables.now e place }
+pub fn is_looped(view: &Snapshot<'_>, e: Prefix, place: usize) -> bool
+    ensures { result ≡ looped_at view.now e place }
 {
     match facts_at(row(view, e), place) {
         Some(x) => x.looped,
@@ -72,24 +58,22 @@ pub fn is_looped(view: View<'_>, e: Prefix, place: usize) -> bool
 }
 
 /// Whether the path, which stands at that place, is usable.
-fn usable_path(view: View<'_>, e: Prefix, row: &[PathFacts], place: usize, p: &Path) -> bool
-    requires view { IsView view }
-    requires row { row.now ≡ facts_of view.known.tables.now e }
-    requires there { slice_get (chosen view.known.tables.now e) place ≡ Some p.now }
-    ensures { result ≡ usable view.entry.known.tables.now e p.now }
+fn usable_path(view: &Snapshot<'_>, e: Prefix, row: &[PathFacts], place: usize, p: &Path) -> bool
+    requires row { row.now ≡ facts_of view.now e }
+    requires there { slice_get (chosen view.now e) place ≡ Some p.now }
+    ensures { result ≡ usable view.now e p.now }
 {
     let _path = *p;
     usable_at(view, e, row, place)
 }
 
 /// The usable paths of the entry.
-pub fn usable_paths(alloc: Global, view: View<'_>, e: Prefix) -> Result<Vec<Path>, AllocError>
-    requires { IsView view }
-    ensures { IfOk result (λ v. v.items ≡ filter (usable view.entry.known.tables.now e) (chosen view.entry.known.tables.now e)) }
+pub fn usable_paths(alloc: Global, view: &Snapshot<'_>, e: Prefix) -> Result<Vec<Path>, AllocError>
+    ensures { IfOk result (λ v. v.items ≡ filter (usable view.now e) (chosen view.now e)) }
 {
     let row = row(view, e);
     let mut out = Vec::new(alloc);
-    for (i, p) in known::chosen(view.known, e).iter().enumerate() {
+    for (i, p) in view.known().chosen(e).iter().enumerate() {
         if usable_path(view, e, row, i, p) {
             out.push(*p)?;
         }
@@ -153,10 +137,11 @@ fn spread(alloc: Global, paths: &[Path]) -> Result<Vec<Path>, AllocError>
 
 /// The sixteen wanted paths of the entry, or none where it doesn't forward.
 #[tactic(auto, unfolding(fib_resolve::specs::Buckets::wanted, fib_resolve::specs::Buckets::used))]
-pub fn wanted(alloc: Global, view: View<'_>, e: Prefix) -> Result<Vec<Path>, AllocError>
-    requires { IsView view }
-    ensures { IfOk result (λ v. v.items ≡ wanted view.entry.known.tables.now e) }
+pub fn wanted(alloc: Global, view: &Snapshot<'_>, e: Prefix) -> Result<Vec<Path>, AllocError>
+    ensures { IfOk result (λ v. v.items ≡ wanted view.now e) }
 {
+    // Read so that the proof knows that the tables are sound.
+    let _tables = view.known().tables();
     let usable = usable_paths(alloc, view, e)?;
     let used = of_least_preference(alloc, usable.as_slice())?;
     if used.is_empty() {

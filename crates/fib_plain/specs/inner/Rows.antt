@@ -1,18 +1,17 @@
 -- What is known of the entries by their numbers.
-use Rattle.std.specs.Prelude.{◌≡◌, ◌<◌, ◌^◌, ◌&&◌, ℕ, Bool, true, false, List, map, filter_map, position, length, slice_get, Option, Some, None, option_and_then}
+use Rattle.std.specs.Prelude.{◌↔◌, ◌+◌, ◌++◌, ◌&&◌, ◌==◌, ℕ, Bool, true, false, List, [], ◌∷◌, map, filter_map, position, slice_get, slice_index_or, Contains, IsTrue, ◌≡◌, ◌<◌, Option, Some, None, option_and_then}
 use Rattle.std.specs.Set.{is_member}
+use Rattle.std.specs.List.{list_any}
 use Rattle.fib_addr.specs.Prefixes.{Prefix, host, same_prefix}
-use Rattle.fib_resolve.specs.Pairs.{pairs, entries, chosen, cover, best_pair, short_prefixes}
+use Rattle.fib_resolve.specs.Pairs.{entries, chosen, cover}
+use Rattle.fib_loops.specs.Loops.{IsLooped}
 use Rattle.fib_resolve.specs.Loops.{looped_kind}
 use Rattle.fib_resolve.specs.Forwarding.{usable_by}
-use Rattle.fib_resolve.specs.Tables.{IsSound}
 use Rattle.fib_resolve.specs.declared.types.Path.{Path}
 use Rattle.fib_resolve.specs.declared.types.PathKind.{PathKind}
 use Rattle.fib_resolve.specs.declared.types.PathKind.TheVariants as kinds
 use Rattle.fib_resolve.specs.declared.types.Tables.{Tables}
-use Rattle.fib_plain.specs.declared.known.Known.{Known}
 use Rattle.fib_plain.specs.declared.facts.PathFacts.{PathFacts}
-use Rattle.fib_plain.specs.inner.Places.{pair_at}
 
 -- the number of an entry
 unfoldable pub number_in : Tables → Prefix → Option ℕ
@@ -64,11 +63,26 @@ target_marked marks (Some t) = marked (slice_get marks t)
 abbrev pub usable_now : List Bool → PathFacts → Bool
 usable_now marks x = x.ready && target_marked marks x.target
 
--- what is kept beside tables is what they mean
-pub record IsKnown (k : Known) : Type 0 where
-  pub sound : IsSound k.tables.now
-  pub short_are : k.short.now ≡ short_prefixes k.tables.now
-  pub pairs_are : k.pairs.now ≡ pairs k.tables.now
-  pub entries_are : k.entries.now ≡ entries k.tables.now
-  pub few : length k.entries.now < 2 ^ 32
-  pub best_are : map (pair_at k.pairs.now) k.best.now ≡ map (λ e. best_pair e (pairs k.tables.now)) (entries k.tables.now)
+-- the edges of these rows, the first of which is that of the node n
+abbrev pub edges_from : ℕ → List (List ℕ) → List (ℕ × ℕ)
+edges_from n [] = []
+edges_from n (row ∷ rows) = map (λ to. (n, to)) row ++ edges_from (n + 1) rows
+
+-- all edges, in the order of entries and of their paths
+unfoldable pub edges_of : Tables → List (ℕ × ℕ)
+edges_of S = edges_from 0 (graph_of S)
+
+abbrev pub same_edge : ℕ × ℕ → ℕ × ℕ → Bool
+same_edge d e = (d.0 == e.0) && (d.1 == e.1)
+
+abbrev pub has_edge : List (ℕ × ℕ) → ℕ × ℕ → Bool
+has_edge found d = list_any (same_edge d) found
+
+-- those of the first edges that are marked
+abbrev pub AreMarked : List (ℕ × ℕ) → List Bool → ℕ → List (ℕ × ℕ) → Type 0
+AreMarked edges marks count found =
+    (d : ℕ × ℕ) → IsTrue (has_edge found d) ↔ ((k : ℕ) × (k < count) × (slice_get edges k ≡ Some d) × IsTrue (slice_index_or marks k false))
+
+-- those of the edges that lie on cycles
+abbrev pub AreLooped : List (ℕ × ℕ) → List (ℕ × ℕ) → Type 0
+AreLooped edges found = (d : ℕ × ℕ) → IsTrue (has_edge found d) ↔ (Contains edges d × IsLooped edges d)

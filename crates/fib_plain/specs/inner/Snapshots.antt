@@ -1,21 +1,37 @@
--- What a snapshot keeps beside its tables is what they mean.
-use Rattle.std.specs.Prelude.{◌≡◌, ◌<◌, ◌^◌, Bool, ℕ, List, Option, map, length}
-use Rattle.fib_addr.specs.Prefixes.{Prefix}
-use Rattle.fib_resolve.specs.Pairs.{pairs, entries, best_pair, short_prefixes}
+-- What is kept beside tables is what they mean.
+use Rattle.std.specs.Prelude.{◌≡◌, ◌<◌, ◌↔◌, ◌^◌, Bool, ℕ, List, Option, map, find, option_map, length, Contains}
+use Rattle.std.specs.HashMap.{HashMap, get}
+use Rattle.fib_addr.specs.Prefixes.{Prefix, same_prefix}
+use Rattle.fib_resolve.specs.Pairs.{base_pairs, pairs, entries, short_prefixes}
 use Rattle.fib_resolve.specs.Forwarding.{forwards}
 use Rattle.fib_resolve.specs.Tables.{IsSound}
+use Rattle.fib_resolve.specs.Resolution.{is_neighbor}
+use Rattle.fib_resolve.specs.Sizes.{same_adjacency}
 use Rattle.fib_resolve.specs.declared.pairs.Pair.{Pair}
+use Rattle.fib_resolve.specs.declared.pairs.Adjacency.{Adjacency}
+use Rattle.fib_resolve.specs.declared.types.Neighbor.{Neighbor}
 use Rattle.fib_resolve.specs.declared.types.Tables.{Tables}
-use Rattle.fib_plain.specs.inner.Rows.{rows_of}
-use Rattle.fib_plain.specs.inner.Places.{pair_at}
+use Rattle.fib_plain.specs.inner.Rows.{number_in, rows_of}
 use Rattle.fib_plain.specs.declared.facts.PathFacts.{PathFacts}
 
-pub record IsSnapshot (S : Tables) (short_list : List Prefix) (pair_list : List Pair) (entry_list : List Prefix) (best_list : List (Option ℕ)) (row_list : List (List PathFacts)) (mark_list : List Bool) : Type 0 where
+pub record AreCovers (S : Tables) (base : List Pair) (short : List Prefix) : Type 0 where
   pub sound : IsSound S
-  pub short_are : short_list ≡ short_prefixes S
+  pub base_are : base ≡ base_pairs S
+  pub short_are : (p : Prefix) → Contains short p ↔ Contains (short_prefixes S) p
+
+pub record IsKnown {H : Type 0} (S : Tables) (pair_list : List Pair) (entry_list : List Prefix) (numbers : HashMap Prefix ℕ H) : Type 0 where
   pub pairs_are : pair_list ≡ pairs S
   pub entries_are : entry_list ≡ entries S
   pub few : length entry_list < 2 ^ 32
-  pub best_are : map (pair_at pair_list) best_list ≡ map (λ e. best_pair e (pairs S)) (entries S)
+  pub numbers_are : (p : Prefix) → get same_prefix numbers p ≡ number_in S p
+
+-- for each interface and address, the MAC of its first neighbor
+abbrev pub AreMacs : {H : Type 0} → List Neighbor → HashMap Adjacency ℕ H → Type 0
+AreMacs neighbors macs =
+    (i a : ℕ) → get same_adjacency macs (record { interface = i; next_hop = a }) ≡ option_map (λ n. n.mac) (find (is_neighbor i a) neighbors)
+
+pub record IsSnapshot {H : Type 0} (S : Tables) (order : List Prefix) (macs : HashMap Adjacency ℕ H) (row_list : List (List PathFacts)) (mark_list : List Bool) : Type 0 where
+  pub order_is : (p : Prefix) → Contains order p ↔ Contains (entries S) p
+  pub macs_are : AreMacs S.neighbors macs
   pub rows_are : row_list ≡ rows_of S
   pub marks_are : mark_list ≡ map (forwards S) (entries S)

@@ -3,4 +3,4 @@ use Rattle.fib_resolve.specs.Pairs.{derived_pair}
 use Rattle.fib_plain.proofs.effective.add_derived.Given as goal
 
 abbrev pub invariant-loop-a : goal.invariant-loop-a
-invariant-loop-a l = l.out.items ≡ l.fn.out.items ++ map (derived_pair l.base.tables.now) (take l.a-index l.hops)
+invariant-loop-a l = l.out.items ≡ l.fn.out.items ++ map (derived_pair l.covers) (take l.a-index l.hops)

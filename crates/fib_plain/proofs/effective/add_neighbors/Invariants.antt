@@ -4,4 +4,4 @@ use Rattle.fib_resolve.specs.Pairs.{neighbor_pairs}
 use Rattle.fib_plain.proofs.effective.add_neighbors.Given as goal
 
 abbrev pub invariant-loop-n : goal.invariant-loop-n
-invariant-loop-n l = l.out.items ≡ l.fn.out.items ++ flat_map (neighbor_pairs l.base.tables.now) (take l.n-index l.base.tables.now.neighbors)
+invariant-loop-n l = l.out.items ≡ l.fn.out.items ++ flat_map (neighbor_pairs l.covers) (take l.n-index l.n-items)

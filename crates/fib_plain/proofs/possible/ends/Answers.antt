@@ -9,7 +9,7 @@ use Rattle.fib_plain.proofs.possible.ends.Goals as goal
 
 pub returns : goal.returns
 returns c =
-    let S = c.args.view.known.tables.now in
+    let S = c.args.view.now in
     let all : c.as_slice.result.now ≡ exits S = c.as_slice.ensures.value ∙ c.in_ok-all.ensures in
     let found : c.as_slice-2.result.now ≡ filter_map (exit_end S) (exits S) =
     c.as_slice-2.ensures.value ∙ (c.in_ok-found.ensures ∙ ap (λ (xs : List Exit). filter_map (exit_end S) xs) all) in

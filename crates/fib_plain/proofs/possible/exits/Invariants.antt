@@ -4,4 +4,4 @@ use Rattle.fib_plain.specs.inner.Exits.{exits_of}
 use Rattle.fib_plain.proofs.possible.exits.Given as goal
 
 abbrev pub invariant-loop-e : goal.invariant-loop-e
-invariant-loop-e l = l.out.items ≡ flat_map (exits_of l.view.known.tables.now) (take l.e-index l.view.known.entries.now)
+invariant-loop-e l = l.out.items ≡ flat_map (exits_of l.view) (take l.e-index l.e-items)

@@ -6,5 +6,5 @@ use Rattle.fib_plain.proofs.touching.changes.Given as goal
 
 abbrev pub invariant-loop-place : goal.invariant-loop-place
 invariant-loop-place l =
-    (l.paths ≡ chosen l.before.known.tables.now l.e)
-    × (list_any (λ p. kind_changes l.before.known.tables.now l.after.known.tables.now l.e p.need p.kind) (take l.place l.paths) ≡ false)
+    (l.paths ≡ chosen l.before l.e)
+    × (list_any (λ p. kind_changes l.before l.after l.e p.need p.kind) (take l.place l.paths) ≡ false)

@@ -1,7 +1,9 @@
-use Rattle.std.proofs.Common.{◌≡◌, sym}
+use Rattle.std.proofs.Common.{sym, subst}
+use Rattle.fib_resolve.specs.Tables.{IsSound}
 use Rattle.fib_resolve.proofs.Touching.{same_pairs_chosen}
 use Rattle.fib_plain.proofs.touching.is_touched.Goals as goal
 
-pub changes-requires-clause-same : goal.changes-requires-clause-same
-changes-requires-clause-same c =
-    same_pairs_chosen c.args.before.known.tables.now c.args.after.known.tables.now c.args.e c.requires.after.known_is.sound (sym c.if-not-has_same_pairs.ensures)
+pub changes-requires : goal.changes-requires
+changes-requires c = record {
+  same = same_pairs_chosen c.args.before.now c.args.after.now c.args.e (subst IsSound c.known.ensures c.tables-tables.ensures.sound) (sym c.if-not-has_same_pairs.ensures);
+}

@@ -3,4 +3,4 @@ use Rattle.fib_resolve.specs.Touched.{is_touched}
 use Rattle.fib_plain.proofs.touching.touched.Given as goal
 
 abbrev pub invariant-loop-e : goal.invariant-loop-e
-invariant-loop-e l = l.out.items ≡ filter (is_touched l.before.known.tables.now l.after.known.tables.now) (take l.e-index l.e-items)
+invariant-loop-e l = l.out.items ≡ filter (is_touched l.before l.after) (take l.e-index l.e-items)

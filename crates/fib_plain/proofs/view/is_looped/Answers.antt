@@ -4,7 +4,7 @@ use Rattle.fib_plain.proofs.view.is_looped.Goals as goal
 
 pub returns-in-Some : goal.returns-in-Some
 returns-in-Some c =
-    looped_there c.args.view.known.tables.now c.args.e c.row.result.now c.args.place c.in-Some.x c.row.ensures (sym c.facts_at.ensures ∙ c.in-Some.is)
+    looped_there c.args.view.now c.args.e c.row.result.now c.args.place c.in-Some.x c.row.ensures (sym c.facts_at.ensures ∙ c.in-Some.is)
 
 pub returns-in-None : goal.returns-in-None
-returns-in-None c = sym (looped_nowhere c.args.view.known.tables.now c.args.e c.row.result.now c.args.place c.row.ensures (sym c.facts_at.ensures ∙ c.in-None.is))
+returns-in-None c = sym (looped_nowhere c.args.view.now c.args.e c.row.result.now c.args.place c.row.ensures (sym c.facts_at.ensures ∙ c.in-None.is))

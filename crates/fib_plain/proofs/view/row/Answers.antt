@@ -1,18 +1,25 @@
 use Rattle.std.proofs.Common.{arith, ◌∙◌, sym, ap, length, get_or, List}
+use Rattle.fib_plain.specs.inner.Rows.{number_in, rows_of}
 use Rattle.fib_plain.specs.declared.facts.PathFacts.{PathFacts}
 use Rattle.fib_plain.proofs.Viewing.{row_numbered, row_unnumbered, length-rows}
 use Rattle.fib_plain.proofs.view.row.Goals as goal
 
-pub bounds-view-k : goal.bounds-view-k
-bounds-view-k c =
-    let S = c.args.view.known.tables.now in
-    omega (arith, length-rows S c.args.e c.in-Some.k (sym c.number_of.ensures.value ∙ c.in-Some.is), ap length c.requires.rows_are)
+pub index-requires : goal.index-requires
+index-requires c =
+    let S = c.args.view.now in
+    let number = ap (λ T. number_in T c.args.e) (sym c.known.ensures) ∙ (sym c.number.ensures.value ∙ c.in-Some.is) in
+    let rows = c.view.invariant.rows_are ∙ ap rows_of c.view.view_is in
+    omega (arith, length-rows S c.args.e c.in-Some.k number, ap length rows)
 
 pub returns-in-Some : goal.returns-in-Some
 returns-in-Some c =
-    let S = c.args.view.known.tables.now in
-    let d = c.index-view-k.result in
-    c.as_slice.ensures ∙ (ap (λ (rows : List (List PathFacts)). get_or rows c.in-Some.k d) c.requires.rows_are ∙ row_numbered S c.args.e c.in-Some.k d (sym c.number_of.ensures.value ∙ c.in-Some.is))
+    let S = c.args.view.now in
+    let d = c.index.result.now in
+    let number = ap (λ T. number_in T c.args.e) (sym c.known.ensures) ∙ (sym c.number.ensures.value ∙ c.in-Some.is) in
+    let rows = c.view.invariant.rows_are ∙ ap rows_of c.view.view_is in
+    c.as_slice.ensures ∙ (c.index.ensures ∙ (ap (λ (xs : List (List PathFacts)). get_or xs c.in-Some.k d) rows ∙ row_numbered S c.args.e c.in-Some.k d number))
 
 pub returns-in-None : goal.returns-in-None
-returns-in-None c = sym (row_unnumbered c.args.view.known.tables.now c.args.e (sym c.number_of.ensures.value ∙ c.in-None.is))
+returns-in-None c =
+    let number = ap (λ T. number_in T c.args.e) (sym c.known.ensures) ∙ (sym c.number.ensures.value ∙ c.in-None.is) in
+    sym (row_unnumbered c.args.view.now c.args.e number)

@@ -4,4 +4,4 @@ use Rattle.fib_resolve.specs.Forwarding.{usable}
 use Rattle.fib_plain.proofs.view.usable_paths.Given as goal
 
 abbrev pub invariant-loop-i : goal.invariant-loop-i
-invariant-loop-i l = l.out.items ≡ filter (usable l.view.known.tables.now l.e) (take l.i l.p-items)
+invariant-loop-i l = l.out.items ≡ filter (usable l.view l.e) (take l.i l.p-items)
