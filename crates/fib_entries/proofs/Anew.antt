@@ -30,7 +30,7 @@ use Rattle.fib_interned.specs.Interned.{kept_of}
 use Rattle.fib_interned.proofs.Finding.{find_place, none_some, get_push}
 use Rattle.fib_entries.specs.declared.rows.Row.{Row}
 use Rattle.fib_entries.specs.Known.{PathKept, prefix_of, row_of, rank_of, rank_in, IsRow, StandsFor}
-use Rattle.fib_entries.specs.inner.Building.{has_edge, AreKeptEdges, AreRows, AreTaken, AreHeld}
+use Rattle.fib_entries.specs.inner.Building.{has_edge, AreKeptEdges, AreRows, AreTaken, AreHeld, AreAnew}
 
 some_is : {X : Type 0} (x y : X) → Some x ≡ Some y → x ≡ y
 some_is x y e = (cc)
@@ -153,18 +153,20 @@ module _ (lists : List PathKept) (S : Tables) (order : List Prefix) (ranks : Lis
       let y = ap rank_in b.2 ∙ h.ranked b.0 b.1 b.3 in
       omega (arith, lt, x, y)
 
-  -- what is made anew stands for the tables
-  pub stands_anew : (ids : List ℕ) → IsAscending order → ((e : Prefix) → Contains order e ↔ Contains (entries S) e) → AreTaken lists (pairs S) ids → AreKeptEdges S order (length order) edges
-      → ((d : ℕ × ℕ) → Contains edges d → slice_index ranks d.1 < slice_index ranks d.0) → (objects : ℕ) → objects ≡ min (size S) (2 ^ 32 - 1) → IsSound S → StandsFor (record { rows = rows; lists = lists; objects = objects }) S
-  stands_anew ids ordered same taken kept fall objects counted sound = record {
-    sound = sound;
-    ordered = subst IsAscending (sym in_place) ordered;
-    entries = λ e. subst (λ l. Contains l e ↔ Contains (entries S) e) (sym in_place) (same e);
-    rows = h.each;
-    falls = falls_by same kept fall;
-    users = taken.users;
-    objects = counted;
-  }
+-- what is made anew stands for the tables
+pub stands_anew : (lists : List PathKept) (S : Tables) (order : List Prefix) (rows : List Row) (ids : List ℕ) (objects : ℕ) → AreAnew lists S order rows → IsAscending order → ((e : Prefix) → Contains order e ↔ Contains (entries S) e)
+    → AreTaken lists (pairs S) ids → objects ≡ min (size S) (2 ^ 32 - 1) → IsSound S → StandsFor (record { rows = rows; lists = lists; objects = objects }) S
+stands_anew lists S order rows ids objects h ordered same taken counted sound =
+    let in_order = in_place lists S order h.ranks [] rows h.made in
+    record {
+      sound = sound;
+      ordered = subst IsAscending (sym in_order) ordered;
+      entries = λ e. subst (λ l. Contains l e ↔ Contains (entries S) e) (sym in_order) (same e);
+      rows = h.made.each;
+      falls = h.falls;
+      users = taken.users;
+      objects = counted;
+    }
 
 take_next : {X : Type 0} (xs : List X) (i : ℕ) (x : X) → i < length xs → x ≡ get_or xs i x → take (suc i) xs ≡ take i xs ++ x ∷ []
 take_next [] i x lt is = absurd (omega (arith, lt))

@@ -16,6 +16,7 @@ use Rattle.fib_resolve.specs.Loops.{targets, kind_targets}
 use Rattle.fib_resolve.specs.declared.types.Path.{Path}
 use Rattle.fib_resolve.specs.declared.types.PathKind.{PathKind}
 use Rattle.fib_resolve.specs.declared.types.Tables.{Tables}
+use Rattle.fib_loops.specs.Loops.{AreEdges}
 use Rattle.fib_resolve.proofs.KeptEdges.{kept_target}
 use Rattle.fib_changes.specs.Ranks.{wakes}
 use Rattle.fib_changes.proofs.Ranking.{wake_edge}
@@ -265,3 +266,7 @@ edge_in edges k d lt = (k, lt, any_default edges k (slice_index_or edges k d) d 
 
 pub edge_take : (edges : List (ℕ × ℕ)) (k : ℕ) (d : ℕ × ℕ) → k < length edges → take (k + 1) edges ≡ take k edges ++ slice_index_or edges k d ∷ []
 edge_take edges k d lt = take_more edges k (slice_index_or edges k d) lt (any_default edges k d (slice_index_or edges k d) lt)
+
+-- edges between places join nodes
+pub places_join : (order : List Prefix) (edges : List (ℕ × ℕ)) → ArePlaces order edges → AreEdges (length order) edges
+places_join order edges h k d lt = h (slice_index_or edges k d) (edge_in edges k d lt)

@@ -1,6 +1,5 @@
 pub mod Telling
 pub mod Picking
-pub mod Deriving
 pub mod Standing
 pub mod Anew
 pub mod Taking
@@ -14,3 +13,5 @@ pub mod Touches
 pub mod Moving
 pub mod Woken
 pub mod Edging
+pub mod Grouping
+pub mod Keying

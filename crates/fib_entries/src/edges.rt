@@ -1,18 +1,14 @@
 // The edges of recursion, by places in the order of entries.
 ghost use Rattle.std.specs.Prelude.{◌≡◌, ◌<◌, ◌^◌, IfOk, IfSome, IfNone, OnOk, Some, [], ◌∷◌, ◌++◌, if◌then◌else◌, slice_get, length, option_to_list, Contains};
-ghost use Rattle.std.specs.Set.{is_member};
-ghost use Rattle.fib_addr.specs.Prefixes.{same_prefix};
 ghost use Rattle.fib_cover.specs.Covers.{IsAscending};
 ghost use Rattle.fib_resolve.specs.Pairs.{chosen};
 ghost use Rattle.fib_resolve.specs.Loops.{kind_targets};
 ghost use Rattle.fib_entries.specs.inner.Building.{AreKeptEdges};
 ghost use Rattle.fib_addr.specs.Prefixes.{Prefix as PrefixValue};
-ghost use Rattle.fib_entries.specs.inner.Edges.{AreEdgesOf, AddsPath, AddsPaths, ArePlaces, AreSources};
+ghost use Rattle.fib_entries.specs.inner.Edges.{AreEdgesOf, AddsPath, AddsPaths};
 
-use crate::look::is_same;
 use crate::parts::keeps;
 use fib_addr::Prefix;
-use fib_list::List;
 use fib_plain::Snapshot;
 use fib_resolve::PathKind;
 use std::alloc::{AllocError, Global};
@@ -122,44 +118,6 @@ pub fn kept_of(
         let edge = edges[place];
         let kept = keeps(snapshot, order[edge.0 as usize], order[edge.1 as usize]);
         add_if(&mut out, kept, edge)?;
-    }
-    Ok(out)
-}
-
-fn is_among(p: Prefix, prefixes: &[Prefix]) -> bool
-    ensures { result ≡ is_member same_prefix prefixes.now p }
-{
-    prefixes.iter().any(|q| is_same(p, *q))
-}
-
-fn add_once(out: &mut List<Prefix>, test: bool, p: Prefix) -> Result<(), AllocError>
-    ensures { OnOk result (out.new ≡ (if test then (if is_member same_prefix out.old p then out.old else out.old ++ p ∷ []) else out.old)) }
-{
-    if !test {
-        return Ok(());
-    }
-    if is_among(p, out.as_slice()) {
-        return Ok(());
-    }
-    out.push(p)?;
-    Ok(())
-}
-
-/// The entries with an edge to e, each once.
-pub fn dependants_of(
-    alloc: Global,
-    order: &[Prefix],
-    edges: &[(u32, u32)],
-    e: Prefix,
-) -> Result<List<Prefix>, AllocError>
-    requires { ArePlaces order.now edges.now }
-    ensures { IfOk result (λ v. AreSources order.now edges.now e v) }
-{
-    let mut out = List::new(alloc);
-    for place in 0..edges.len() {
-        let edge = edges[place];
-        let leads = is_same(e, order[edge.1 as usize]);
-        add_once(&mut out, leads, order[edge.0 as usize])?;
     }
     Ok(out)
 }

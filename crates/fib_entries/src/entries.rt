@@ -11,9 +11,7 @@ ghost use Rattle.fib_entries.specs.Known.{StandsFor, ArePairs, row_of, rank_of, 
 ghost use Rattle.fib_entries.specs.inner.Compare.{AreKept};
 
 use crate::build::take_all;
-use crate::edges::{edges_of, kept_of};
 use crate::look::row;
-use crate::ranks::ranks;
 use crate::rows::Row;
 use crate::whole;
 use fib_addr::{Addr, Prefix};
@@ -61,25 +59,11 @@ impl Entries {
         ensures { IfOk result (λ v. StandsFor v tables.now) }
     {
         let snapshot = Snapshot::new(alloc, tables)?;
-        let order = whole::set_of(alloc, snapshot.entries())?;
+        let order = PrefixSet::of(alloc, snapshot.entries())?;
         let listed = order.listed(alloc)?;
-        let Ok(nodes) = u32::try_from(listed.len()) else {
-            return Err(AllocError);
-        };
-        let edges = edges_of(alloc, &snapshot, listed.as_slice())?;
-        let kept = kept_of(alloc, &snapshot, listed.as_slice(), edges.as_slice())?;
-        let ranks = ranks(alloc, nodes, kept.as_slice())?;
         let mut lists = PathLists::new(alloc);
         let ids = take_all(alloc, &mut lists, snapshot.pairs())?;
-        let rows = whole::rows_of(
-            alloc,
-            &snapshot,
-            &lists,
-            ids.as_slice(),
-            listed.as_slice(),
-            edges.as_slice(),
-            ranks.as_slice(),
-        )?;
+        let rows = whole::rows_anew(alloc, &snapshot, &lists, ids.as_slice(), listed.as_slice())?;
         let objects = snapshot.size(alloc)?;
         Ok(Entries {
             rows,

@@ -10,6 +10,7 @@ mod compare;
 mod edges;
 mod entries;
 mod follow;
+mod groups;
 mod look;
 mod parts;
 mod ranks;

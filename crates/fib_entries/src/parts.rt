@@ -1,26 +1,34 @@
 // The parts of a row, from what the tables mean.
-ghost use Rattle.std.specs.Prelude.{◌≡◌, ◌<◌, ◌&&◌, ◌++◌, ◌∷◌, [], ℕ, OnOk, IfOk, IfSome, Some, slice_get, map, filter, length, position};
-ghost use Rattle.std.specs.List.{list_any};
+ghost use Rattle.std.specs.Prelude.{◌≡◌, ◌<◌, ◌&&◌, IfOk, IfSome, Some, slice_get, map, length, position};
 ghost use Rattle.std.specs.Set.{is_member};
 ghost use Rattle.fib_addr.specs.Prefixes.{same_prefix};
 ghost use Rattle.fib_resolve.specs.Keys.{same_source, source_rank};
-ghost use Rattle.fib_resolve.specs.Pairs.{chosen, entries, cover};
+ghost use Rattle.fib_resolve.specs.Pairs.{chosen, pairs};
 ghost use Rattle.fib_resolve.specs.Loops.{kind_targets, looped_kind, is_kept};
 ghost use Rattle.fib_resolve.specs.Aims.{kind_aim, kind_counts, marked, marked_list};
-ghost use Rattle.fib_resolve.specs.Forwarding.{is_up, is_met, is_attached_list};
-ghost use Rattle.fib_resolve.specs.Pairs.{is_derived};
-ghost use Rattle.fib_resolve.specs.Resolution.{attached_end, mac_of};
 ghost use Rattle.fib_changes.specs.Ranks.{wakes};
 ghost use Rattle.fib_entries.specs.Known.{kind_met};
-ghost use Rattle.fib_entries.specs.inner.Building.{has_edge, ArePicked};
+ghost use Rattle.fib_entries.specs.inner.Building.{ArePicked, AreByKey, AreParts};
 
 use crate::look::is_same;
-use fib_addr::{Addr, Mac, Prefix};
+use fib_addr::Prefix;
 use fib_list::List;
-use fib_paths::PathListId;
-use fib_plain::Snapshot;
-use fib_resolve::{Aim, End, FibSource, Marked, Need, Pair, Path, PathKind, Tables, keys};
+use fib_paths::{PathListId, PathLists};
+use fib_plain::{Snapshot, first_places};
+use fib_resolve::{Aim, End, FibSource, Marked, Pair, Path, PathKind};
 use std::alloc::{AllocError, Global};
+use std::collections::HashMap;
+
+/// What rows are made from: what the tables mean, and the pairs' lists with their numbers.
+#[derive(Clone, Copy)]
+pub struct Parts<'a> {
+    pub snapshot: &'a Snapshot<'a>,
+    pub lists: &'a PathLists,
+    /// The number of each pair's list.
+    pub ids: &'a [PathListId],
+    /// The place of each pair by its prefix and its source's rank.
+    pub places: &'a HashMap<(Prefix, u8), usize>,
+}
 
 /// The source of that rank.
 pub fn source_at(rank: usize) -> FibSource
@@ -38,34 +46,47 @@ pub fn source_at(rank: usize) -> FibSource
     }
 }
 
-fn is_pair(prefix: Prefix, source: FibSource, x: &Pair) -> bool
-    ensures { result ≡ (same_prefix prefix x.now.prefix && same_source source x.now.source) }
+/// The prefixes of the pairs, each with its source's rank.
+fn keys_of(alloc: Global, pairs: &[Pair]) -> Result<Vec<(Prefix, u8)>, AllocError>
+    ensures { IfOk result (λ v. v.items ≡ map (λ x. (x.prefix, source_rank x.source)) pairs.now) }
 {
-    is_same(prefix, x.prefix) && keys::is_same_source(source, x.source)
+    pairs
+        .iter()
+        .map(|x| (x.prefix, x.source.rank()))
+        .collect(alloc)
+}
+
+/// The place of each pair by its prefix and its source's rank.
+pub fn places_of(alloc: Global, pairs: &[Pair]) -> Result<HashMap<(Prefix, u8), usize>, AllocError>
+    ensures { IfOk result (λ m. AreByKey pairs.now m) }
+{
+    let keys = keys_of(alloc, pairs)?;
+    first_places(alloc, keys.as_slice())
 }
 
 /// The place of the prefix's pair of that source.
-pub fn place_of(prefix: Prefix, source: FibSource, pairs: &[Pair]) -> Option<usize>
-    ensures place { result ≡ position (λ x. same_prefix prefix x.prefix && same_source source x.source) pairs.now }
-    ensures inside { IfSome result (λ k. k < length pairs.now) }
+fn place_of(parts: Parts<'_>, prefix: Prefix, source: FibSource) -> Option<usize>
+    requires { AreParts parts }
+    ensures place { result ≡ position (λ x. same_prefix prefix x.prefix && same_source source x.source) (pairs parts.entry.snapshot.now) }
+    ensures inside { IfSome result (λ k. k < length parts.entry.ids.now) }
 {
-    pairs.iter().position(|x| is_pair(prefix, source, x))
+    parts.places.get(&(prefix, source.rank())).copied()
 }
 
 /// The prefix's sources with the numbers of their lists, the best first.
 pub fn held_of(
     alloc: Global,
+    parts: Parts<'_>,
     prefix: Prefix,
-    pairs: &[Pair],
-    ids: &[PathListId],
 ) -> Result<List<(FibSource, PathListId)>, AllocError>
-    requires { length ids.now ≡ length pairs.now }
-    ensures { IfOk result (λ v. ArePicked prefix pairs.now ids.now 7 v) }
+    requires { AreParts parts }
+    ensures { IfOk result (λ v. ArePicked prefix (pairs parts.entry.snapshot.now) parts.entry.ids.now 7 v) }
 {
+    let ids = parts.ids;
     let mut out = List::new(alloc);
     for rank in 0..7usize {
         let source = source_at(rank);
-        if let Some(place) = place_of(prefix, source, pairs) {
+        if let Some(place) = place_of(parts, prefix, source) {
             out.push((source, ids[place]))?;
         }
     }
@@ -83,43 +104,11 @@ pub fn marks_of(alloc: Global, snapshot: &Snapshot<'_>, e: Prefix) -> Result<Lis
     Ok(out)
 }
 
-/// Whether the best source is recursive resolution.
-pub fn is_derived(snapshot: &Snapshot<'_>, e: Prefix) -> bool
-    ensures { result ≡ is_derived snapshot.now e }
-{
-    let pairs = snapshot.pairs();
-    for rank in 0..5usize {
-        if place_of(e, source_at(rank), pairs).is_some() {
-            return false;
-        }
-    }
-    place_of(e, FibSource::RecursiveResolution, pairs).is_some()
-}
-
-fn is_attached_list(paths: &[Path]) -> bool
-    ensures { result ≡ is_attached_list paths.now }
-{
-    match paths {
-        [only] => matches!(only.kind, PathKind::Attached(_) | PathKind::Hop { .. }),
-        _ => false,
-    }
-}
-
-fn is_met(snapshot: &Snapshot<'_>, need: Need, a: Addr) -> bool
-    ensures { result ≡ is_met snapshot.now need a }
-{
-    match need {
-        Need::Any => true,
-        Need::Host => !is_derived(snapshot, Prefix::host(a)),
-        Need::Attached => is_attached_list(snapshot.chosen(Prefix::host(a))),
-    }
-}
-
 fn is_met_by(snapshot: &Snapshot<'_>, p: &Path) -> bool
     ensures { result ≡ kind_met snapshot.now p.now.need p.now.kind }
 {
     match p.kind {
-        PathKind::Recursive(a) => is_met(snapshot, p.need, a),
+        PathKind::Recursive(a) => snapshot.is_met(p.need, a),
         _ => true,
     }
 }
@@ -135,29 +124,6 @@ pub fn mets_of(alloc: Global, snapshot: &Snapshot<'_>, e: Prefix) -> Result<List
     Ok(out)
 }
 
-fn is_up(tables: &Tables, interface: u32) -> bool
-    ensures { result ≡ is_up tables.now interface }
-{
-    match tables.interfaces.as_slice().get(interface as usize) {
-        Some(i) => i.up,
-        None => false,
-    }
-}
-
-fn attached_end(snapshot: &Snapshot<'_>, e: Prefix, interface: u32) -> End
-    ensures { result ≡ attached_end snapshot.now e interface }
-{
-    if e.len() == 32 {
-        End::Hop {
-            interface,
-            next_hop: e.bits(),
-            mac: mac_of(snapshot, interface, e.bits()),
-        }
-    } else {
-        End::Glean(interface)
-    }
-}
-
 /// What a path is for.
 fn aim_of(snapshot: &Snapshot<'_>, e: Prefix, kind: PathKind) -> Aim
     ensures { result ≡ kind_aim snapshot.now e kind }
@@ -165,15 +131,11 @@ fn aim_of(snapshot: &Snapshot<'_>, e: Prefix, kind: PathKind) -> Aim
     match kind {
         PathKind::Drop => Aim::Ends(End::Drop),
         PathKind::Local => Aim::Ends(End::Receive),
-        PathKind::Attached(interface) => Aim::Ends(attached_end(snapshot, e, interface)),
+        PathKind::Attached(interface) => Aim::Ends(snapshot.attached_end(e, interface)),
         PathKind::Hop {
             next_hop,
             interface,
-        } => Aim::Ends(End::Hop {
-            interface,
-            next_hop,
-            mac: mac_of(snapshot, interface, next_hop),
-        }),
+        } => Aim::Ends(snapshot.hop_end(interface, next_hop)),
         PathKind::Recursive(a) => Aim::On(Prefix::host(a)),
         PathKind::Cover => Aim::On(snapshot.cover(e.bits())),
     }
@@ -187,9 +149,9 @@ fn does_count(snapshot: &Snapshot<'_>, e: Prefix, place: usize, p: &Path) -> boo
     match p.kind {
         PathKind::Drop => false,
         PathKind::Local => true,
-        PathKind::Attached(interface) => is_up(snapshot.tables(), interface),
-        PathKind::Hop { interface, .. } => is_up(snapshot.tables(), interface),
-        PathKind::Recursive(a) => !snapshot.is_looped(e, place) && is_met(snapshot, p.need, a),
+        PathKind::Attached(interface) => snapshot.is_up(interface),
+        PathKind::Hop { interface, .. } => snapshot.is_up(interface),
+        PathKind::Recursive(a) => !snapshot.is_looped(e, place) && snapshot.is_met(p.need, a),
         PathKind::Cover => true,
     }
 }
@@ -241,12 +203,6 @@ pub fn marked_of(
     let both = marks_and_needs(alloc, snapshot, e)?;
     let marks = marks_alone(alloc, both.as_slice())?;
     Ok(List::from_vec(marks))
-}
-
-fn mac_of(snapshot: &Snapshot<'_>, interface: u32, addr: Addr) -> Option<Mac>
-    ensures { result ≡ mac_of snapshot.now interface addr }
-{
-    snapshot.mac_of(interface, addr)
 }
 
 /// Whether the path of d leads to e.

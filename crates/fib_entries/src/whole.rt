@@ -1,89 +1,110 @@
-// Entries made anew from tables.
-ghost use Rattle.std.specs.Prelude.{◌≡◌, ◌<◌, ◌^◌, ◌↔◌, ℕ, [], IfOk, Some, Contains, length, map, slice_get, slice_index};
+// Rows made anew from tables.
+ghost use Rattle.std.specs.Prelude.{◌≡◌, ◌<◌, ◌^◌, ◌↔◌, IfOk, Contains, length};
 ghost use Rattle.fib_addr.specs.Prefixes.{Prefix as PrefixValue};
 ghost use Rattle.fib_cover.specs.Covers.{IsAscending};
 ghost use Rattle.fib_reach.specs.Walks.{AllDiffer};
 ghost use Rattle.fib_resolve.specs.Loops.{targets};
-ghost use Rattle.fib_resolve.specs.Pairs.{pairs, entries};
-ghost use Rattle.fib_entries.specs.inner.Edges.{AreEdgesOf};
+ghost use Rattle.fib_resolve.specs.Pairs.{entries, pairs};
 ghost use Rattle.fib_resolve.specs.Tables.{IsSound};
 ghost use Rattle.fib_entries.specs.Known.{IsRow};
-ghost use Rattle.fib_entries.specs.inner.Building.{AreTaken, AreRows};
+ghost use Rattle.fib_entries.specs.inner.Building.{AreAnew, AreParts, AreRows, AreTaken};
+ghost use Rattle.fib_entries.specs.inner.Edges.{AreEdgesOf, AreSourcesIn};
 
-use crate::edges::dependants_of;
-use crate::parts;
+use crate::edges::{edges_of, kept_of};
+use crate::groups::{backward, dependants_of};
+use crate::parts::{self, Parts};
+use crate::ranks::ranks;
 use crate::rows::Row;
 use fib_addr::Prefix;
-use fib_cover::PrefixSet;
 use fib_list::List;
 use fib_paths::{PathListId, PathLists};
 use fib_plain::Snapshot;
+use fib_reach::Graph;
 use std::alloc::{AllocError, Global};
-
-/// The set of these prefixes.
-pub fn set_of(alloc: Global, entries: &[Prefix]) -> Result<PrefixSet, AllocError>
-    ensures { IfOk result (λ v. (e : PrefixValue) → Contains v e ↔ Contains entries.now e) }
-{
-    let mut set = PrefixSet::new(alloc);
-    for e in entries {
-        set.insert(*e)?;
-    }
-    Ok(set)
-}
 
 /// The row of an entry.
 fn row_at(
     alloc: Global,
-    snapshot: &Snapshot<'_>,
-    lists: &PathLists,
-    ids: &[PathListId],
+    parts: Parts<'_>,
     prefix: Prefix,
     rank: u32,
     dependants: List<Prefix>,
 ) -> Result<Row, AllocError>
-    requires sound { IsSound snapshot.now }
-    requires taken { AreTaken lists.now (pairs snapshot.now) ids.now }
+    requires parts { AreParts parts }
     requires once { AllDiffer dependants }
-    requires all { (d : PrefixValue) → Contains dependants d ↔ Contains (targets snapshot.now d) prefix }
-    ensures row { IfOk result (λ r. IsRow lists.now snapshot.now r) }
+    requires all { (d : PrefixValue) → Contains dependants d ↔ Contains (targets parts.snapshot.now d) prefix }
+    ensures row { IfOk result (λ r. IsRow parts.entry.lists.now parts.entry.snapshot.now r) }
     ensures own { IfOk result (λ r. (r.prefix ≡ prefix) × (r.rank ≡ rank)) }
 {
-    let _count = lists.count();
+    let _count = parts.lists.count();
     // Read so that the proof knows that it is a prefix.
     let _len = prefix.len();
     Ok(Row {
         prefix,
-        pairs: parts::held_of(alloc, prefix, snapshot.pairs(), ids)?,
-        looped: parts::marks_of(alloc, snapshot, prefix)?,
-        met: parts::mets_of(alloc, snapshot, prefix)?,
-        marked: parts::marked_of(alloc, snapshot, prefix)?,
+        pairs: parts::held_of(alloc, parts, prefix)?,
+        looped: parts::marks_of(alloc, parts.snapshot, prefix)?,
+        met: parts::mets_of(alloc, parts.snapshot, prefix)?,
+        marked: parts::marked_of(alloc, parts.snapshot, prefix)?,
         dependants,
         rank,
     })
 }
 
-/// The rows of the entries.
-pub fn rows_of(
+/// The rows of the entries in this order, with these ranks. `back` has the edges turned round, each once.
+fn rows_of(
+    alloc: Global,
+    parts: Parts<'_>,
+    order: &[Prefix],
+    back: &Graph,
+    edges: &[(u32, u32)],
+    ranks: &[u32],
+) -> Result<Vec<Row>, AllocError>
+    requires parts { AreParts parts }
+    requires ascending { IsAscending order.now }
+    requires few { length order.now < 2 ^ 32 }
+    requires ranks { length ranks.now ≡ length order.now }
+    requires edges { AreEdgesOf parts.snapshot.now order.now (length order.now) edges.now }
+    requires back { AreSourcesIn (length order.now) edges.now back.now }
+    requires same { (e : PrefixValue) → Contains order.now e ↔ Contains (entries parts.snapshot.now) e }
+    ensures { IfOk result (λ v. AreRows parts.entry.lists.now parts.entry.snapshot.now order.now ranks.now (length order.now) v.items) }
+{
+    let _edges = edges;
+    let mut out = Vec::new(alloc);
+    for place in 0..order.len() {
+        let dependants = dependants_of(alloc, order, back, edges, place)?;
+        out.push(row_at(alloc, parts, order[place], ranks[place], dependants)?)?;
+    }
+    Ok(out)
+}
+
+/// The rows of the entries in this order, with ranks that fall along each edge that isn't looped.
+pub fn rows_anew(
     alloc: Global,
     snapshot: &Snapshot<'_>,
     lists: &PathLists,
     ids: &[PathListId],
     order: &[Prefix],
-    edges: &[(u32, u32)],
-    ranks: &[u32],
 ) -> Result<Vec<Row>, AllocError>
     requires sound { IsSound snapshot.now }
     requires taken { AreTaken lists.now (pairs snapshot.now) ids.now }
-    requires ranks { length ranks.now ≡ length order.now }
-    requires edges { AreEdgesOf snapshot.now order.now (length order.now) edges.now }
+    requires ascending { IsAscending order.now }
     requires same { (e : PrefixValue) → Contains order.now e ↔ Contains (entries snapshot.now) e }
-    ensures { IfOk result (λ v. AreRows lists.now snapshot.now order.now ranks.now (length order.now) v.items) }
+    ensures { IfOk result (λ v. AreAnew lists.now snapshot.now order.now v.items) }
 {
-    let mut out = Vec::new(alloc);
-    for place in 0..order.len() {
-        let e = order[place];
-        let dependants = dependants_of(alloc, order, edges, e)?;
-        out.push(row_at(alloc, snapshot, lists, ids, e, ranks[place], dependants)?)?;
-    }
-    Ok(out)
+    let Ok(nodes) = u32::try_from(order.len()) else {
+        return Err(AllocError);
+    };
+    let edges = edges_of(alloc, snapshot, order)?;
+    let edges = edges.as_slice();
+    let kept = kept_of(alloc, snapshot, order, edges)?;
+    let ranks = ranks(alloc, nodes, kept.as_slice())?;
+    let back = backward(alloc, nodes, edges)?;
+    let places = parts::places_of(alloc, snapshot.pairs())?;
+    let parts = Parts {
+        snapshot,
+        lists,
+        ids,
+        places: &places,
+    };
+    rows_of(alloc, parts, order, &back, edges, ranks.as_slice())
 }

@@ -26,6 +26,7 @@ mod ways;
 
 pub use answers::{ends, resolve, size, touched, usable};
 pub use paths::{add_adjacencies, adjacency_of, is_same_list, recursive_hop, recursive_hops};
+pub use places::first_places;
 pub use repeats::distinct;
 pub use snapshot::Snapshot;
 

@@ -2,9 +2,9 @@
 ghost use Rattle.std.specs.Prelude.{◌≡◌, ◌^◌, ◌-◌, IfOk, min};
 ghost use Rattle.fib_resolve.specs.Pairs.{pairs, entries, chosen, cover, best};
 ghost use Rattle.fib_resolve.specs.Loops.{looped_at};
-ghost use Rattle.fib_resolve.specs.Forwarding.{usable_at};
+ghost use Rattle.fib_resolve.specs.Forwarding.{is_up, is_met, usable_at};
 ghost use Rattle.fib_resolve.specs.Buckets.{wanted};
-ghost use Rattle.fib_resolve.specs.Resolution.{resolve, mac_of, ends};
+ghost use Rattle.fib_resolve.specs.Resolution.{resolve, mac_of, hop_end, attached_end, ends};
 ghost use Rattle.fib_resolve.specs.Touched.{touched};
 ghost use Rattle.fib_resolve.specs.Sizes.{adjacencies, size};
 ghost use Rattle.fib_resolve.specs.Tables.{IsSound};
@@ -15,7 +15,7 @@ use crate::{possible, rounds, sizes, touching, view, ways};
 use fib_addr::{Addr, Mac, Prefix};
 use fib_cover::PrefixSet;
 use fib_list::List;
-use fib_resolve::{Adjacency, End, Pair, Path, Tables};
+use fib_resolve::{Adjacency, End, Need, Pair, Path, Tables};
 use std::alloc::{AllocError, Global};
 use std::collections::HashMap;
 use std::marker::Model;
@@ -133,6 +133,34 @@ impl<'a> Snapshot<'a> {
         ensures { IfOk result (λ v. v.items ≡ wanted self.now e) }
     {
         view::wanted(alloc, self, e)
+    }
+
+    /// Whether the interface is there and up.
+    pub fn is_up(&self, interface: u32) -> bool
+        ensures { result ≡ is_up self.now interface }
+    {
+        facts::is_up(self.known().tables(), interface)
+    }
+
+    /// Whether the need of a recursive path with that next hop is met.
+    pub fn is_met(&self, need: Need, next_hop: Addr) -> bool
+        ensures { result ≡ is_met self.now need next_hop }
+    {
+        facts::is_met(self.known(), need, next_hop)
+    }
+
+    /// The Hop end over that interface to that next hop.
+    pub fn hop_end(&self, interface: u32, next_hop: Addr) -> End
+        ensures { result ≡ hop_end self.now interface next_hop }
+    {
+        ways::hop_end(self, interface, next_hop)
+    }
+
+    /// The end of an Attached path of the entry: a Hop to the entry's own address where it is a host, else a glean.
+    pub fn attached_end(&self, e: Prefix, interface: u32) -> End
+        ensures { result ≡ attached_end self.now e interface }
+    {
+        ways::attached_end(self, e, interface)
     }
 
     /// The MAC of the neighbor with that interface and address, whether or not it has an entry.

@@ -1,7 +1,7 @@
 // The public calls once, over the fresh tables; the crates above compare them with worked and generated tables.
 use super::*;
 use fib_addr::{Addr, Prefix};
-use fib_resolve::{End, Tables};
+use fib_resolve::{End, Need, Tables};
 use std::test::Fail;
 
 #[test]
@@ -25,6 +25,13 @@ fn answers_over_the_fresh_tables(rt: HostRuntime) -> Result<(), Fail> {
     assert!(rt; !snapshot.is_usable(everything, 0));
     assert!(rt; !snapshot.is_looped(everything, 0));
     assert_eq!(rt; snapshot.mac_of(0, inside), None);
+    assert!(rt; !snapshot.is_up(0));
+    assert!(rt; snapshot.is_met(Need::Host, inside));
+    assert_eq!(rt; snapshot.attached_end(everything, 0), End::Glean(0));
+    let hop = snapshot.hop_end(0, inside);
+    assert_eq!(rt; snapshot.attached_end(Prefix::host(inside), 0), hop);
+    let places = first_places(alloc, &[inside, Addr(1), inside])?;
+    assert_eq!(rt; places.get(&inside).copied(), Some(0));
     assert!(rt; snapshot.adjacencies(alloc)?.is_empty());
     assert_eq!(rt; snapshot.tables().routes.len(), 0);
     Ok(())

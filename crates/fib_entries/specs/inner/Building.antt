@@ -1,19 +1,22 @@
 -- What stands while entries are made anew. No contract of a public call rests on this.
-use Rattle.std.specs.Prelude.{◌≡◌, ◌↔◌, ◌⊎◌, true, ◌<◌, ℕ, Bool, List, length, count_by, Contains, Some, IsSome, slice_get, slice_index}
+use Rattle.std.specs.Prelude.{◌≡◌, ◌↔◌, ◌⊎◌, true, ◌<◌, ℕ, Bool, List, length, count_by, Contains, Some, IsSome, slice_get, slice_index, position, ◌&&◌, ◌==◌}
+use Rattle.std.specs.HashMap.{HashMap, get}
 use Rattle.std.specs.List.{AllZip, list_any}
 use Rattle.std.specs.Set.{is_member}
 use Rattle.std.specs.Cmp.Lexicographic.{pointwise}
 use Rattle.fib_addr.specs.Prefixes.{Prefix, same_prefix}
-use Rattle.fib_resolve.specs.Keys.{source_rank, same_path}
-use Rattle.fib_resolve.specs.Pairs.{chosen}
+use Rattle.fib_resolve.specs.Keys.{source_rank, same_path, same_source}
+use Rattle.fib_resolve.specs.Pairs.{chosen, pairs}
+use Rattle.fib_resolve.specs.Tables.{IsSound}
 use Rattle.fib_resolve.specs.Loops.{kind_targets}
 use Rattle.fib_resolve.specs.declared.pairs.Pair.{Pair}
 use Rattle.fib_resolve.specs.declared.types.FibSource.{FibSource}
 use Rattle.fib_resolve.specs.declared.types.Tables.{Tables}
-use Rattle.fib_changes.specs.Ranks.{wakes}
+use Rattle.fib_changes.specs.Ranks.{wakes, Falls}
 use Rattle.fib_interned.specs.Interned.{kept_of}
-use Rattle.fib_entries.specs.Known.{PathKept, content_of, AreBestFirst, IsRow}
+use Rattle.fib_entries.specs.Known.{PathKept, content_of, AreBestFirst, IsRow, rank_of}
 use Rattle.fib_entries.specs.declared.rows.Row.{Row}
+use Rattle.fib_entries.specs.declared.parts.Parts.{Parts}
 
 -- each list that a row names is kept
 abbrev pub AreHeld : List Row → List PathKept → Type 0
@@ -23,6 +26,20 @@ AreHeld rows lists = (r : Row) (p : FibSource × ℕ) → Contains rows r → Co
 pub record AreTaken (lists : List PathKept) (xs : List Pair) (ids : List ℕ) : Type 0 where
   pub each : AllZip (λ x id. content_of lists id ≡ Some x.paths) xs ids
   pub users : (k : PathKept) → Contains lists k → k.users ≡ count_by (λ x. pointwise same_path x.paths k.content) xs
+
+abbrev pub same_key : Prefix × ℕ → Prefix × ℕ → Bool
+same_key a b = same_prefix a.0 b.0 && (a.1 == b.1)
+
+-- the place of each pair by its prefix and its source's rank
+abbrev pub AreByKey : {H : Type 0} → List Pair → HashMap (Prefix × ℕ) ℕ H → Type 0
+AreByKey xs places =
+    (p : Prefix) (s : FibSource) → get same_key places (p, source_rank s) ≡ position (λ x. same_prefix p x.prefix && same_source s x.source) xs
+
+-- the tables are sound, and all else is what they mean
+pub record AreParts (parts : Parts) : Type 0 where
+  pub sound : IsSound parts.snapshot.now
+  pub taken : AreTaken parts.lists.now (pairs parts.snapshot.now) parts.ids.now
+  pub places : AreByKey (pairs parts.snapshot.now) parts.places.now
 
 -- the first has an edge to the second
 abbrev pub has_edge : Tables → Prefix → Prefix → Bool
@@ -53,3 +70,9 @@ pub record AreRows (lists : List PathKept) (S : Tables) (order : List Prefix) (r
   pub own : (k : ℕ) (r : Row) → slice_get rows k ≡ Some r → slice_get order k ≡ Some r.prefix
   pub ranked : (k : ℕ) (r : Row) → slice_get rows k ≡ Some r → r.rank ≡ slice_index ranks k
   pub each : (r : Row) → Contains rows r → IsRow lists S r
+
+-- the rows of all entries in order, with ranks that fall
+pub record AreAnew (lists : List PathKept) (S : Tables) (order : List Prefix) (rows : List Row) : Type 0 where
+  pub ranks : List ℕ
+  pub made : AreRows lists S order ranks (length order) rows
+  pub falls : Falls S (rank_of rows)

@@ -1,6 +1,7 @@
 -- The edges of recursion by places in an order of entries. No contract of a public call rests on this.
-use Rattle.std.specs.Prelude.{◌≡◌, ◌↔◌, ◌⊎◌, ◌<◌, ℕ, List, Contains, Some, length, slice_get}
+use Rattle.std.specs.Prelude.{◌≡◌, ◌↔◌, ◌⊎◌, ◌<◌, ℕ, List, Contains, Some, None, length, filter_map, ◌==◌, if◌then◌else◌, slice_get}
 use Rattle.fib_reach.specs.Walks.{AllDiffer}
+use Rattle.fib_reach.specs.Graphs.{next_of}
 use Rattle.fib_addr.specs.Prefixes.{Prefix}
 use Rattle.fib_resolve.specs.Loops.{targets, kind_targets}
 use Rattle.fib_resolve.specs.declared.types.Path.{Path}
@@ -34,3 +35,18 @@ pub record AreSources (order : List Prefix) (edges : List (ℕ × ℕ)) (e : Pre
   pub once : AllDiffer list
   pub real : (p : Prefix) → Contains list p → (d : ℕ × ℕ) × Contains edges d × (slice_get order d.0 ≡ Some p) × (slice_get order d.1 ≡ Some e)
   pub found : (d : ℕ × ℕ) (p : Prefix) → Contains edges d → slice_get order d.0 ≡ Some p → slice_get order d.1 ≡ Some e → Contains list p
+
+-- the first nodes of the edges to that node, in order
+abbrev pub sources_of : List (ℕ × ℕ) → ℕ → List ℕ
+sources_of edges to = filter_map (λ d. if d.1 == to then Some d.0 else None) edges
+
+-- the graph of these edges turned round
+pub record IsTurned (nodes : ℕ) (edges : List (ℕ × ℕ)) (graph : List (List ℕ)) : Type 0 where
+  pub size : length graph ≡ nodes
+  pub rows : (k : ℕ) → k < nodes → next_of graph k ≡ sources_of edges k
+
+-- the same with each edge once
+pub record AreSourcesIn (nodes : ℕ) (edges : List (ℕ × ℕ)) (graph : List (List ℕ)) : Type 0 where
+  pub size : length graph ≡ nodes
+  pub once : (k : ℕ) → k < nodes → AllDiffer (next_of graph k)
+  pub sources : (k from : ℕ) → k < nodes → Contains (next_of graph k) from ↔ Contains {X = ℕ × ℕ} edges (from, k)

@@ -1,5 +1,6 @@
+use Rattle.fib_resolve.specs.Pairs.{pairs}
 use Rattle.fib_entries.specs.inner.Building.{ArePicked}
 use Rattle.fib_entries.proofs.parts.held_of.Given as goal
 
 abbrev pub invariant-loop-rank : goal.invariant-loop-rank
-invariant-loop-rank l = ArePicked l.prefix l.pairs l.ids l.rank l.out
+invariant-loop-rank l = ArePicked l.prefix (pairs l.parts.snapshot.now) l.parts.ids.now l.rank l.out
