@@ -32,7 +32,7 @@ use Rattle.fib_resolve.specs.declared.types.PathKind.TheVariants as kinds
 use Rattle.fib_resolve.specs.declared.types.Route.{Route}
 use Rattle.fib_resolve.specs.declared.types.Tables.{Tables}
 use Rattle.fib_resolve.proofs.Covering.{filter_from}
-use Rattle.fib_plain.proofs.Members.{filter_map_in, filter_map_from}
+use Rattle.fib_effective.proofs.Members.{filter_map_in, filter_map_from}
 use Rattle.fib_changes.specs.Sources.{all_hops}
 use Rattle.fib_changes.proofs.SamePairs.{flat_map_from, map_in, map_from}
 use Rattle.fib_changes.proofs.Edits.{in_cases, in_front, in_rest}

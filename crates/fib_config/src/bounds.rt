@@ -142,7 +142,7 @@ fn steps(prefixes: &[Prefix]) -> usize
 fn add_ends_of(out: &mut Vec<Adjacency>, route: &Route) -> Result<(), AllocError>
     ensures { OnOk result (out.new.items ≡ out.old.items ++ route_ends route.now) }
 {
-    fib_plain::add_adjacencies(out, route.prefix, route.paths.as_slice())
+    fib_effective::add_adjacencies(out, route.prefix, route.paths.as_slice())
 }
 
 fn add_route_ends(out: &mut Vec<Adjacency>, routes: &[Route]) -> Result<(), AllocError>
@@ -174,15 +174,15 @@ fn ends(alloc: Global, tables: &Tables) -> Result<Vec<Adjacency>, AllocError>
     let mut out = Vec::new(alloc);
     add_route_ends(&mut out, tables.routes.as_slice())?;
     add_neighbor_ends(&mut out, tables.neighbors.as_slice())?;
-    fib_plain::distinct(alloc, out.as_slice())
+    fib_effective::distinct(alloc, out.as_slice())
 }
 
 // The next hops of all recursive paths, each once.
 fn next_hops(alloc: Global, tables: &Tables) -> Result<Vec<Addr>, AllocError>
     ensures { IfOk result (λ v. v.items ≡ unique_keys same_number (all_hops tables.now)) }
 {
-    let hops = fib_plain::recursive_hops(alloc, tables.routes.as_slice())?;
-    fib_plain::distinct(alloc, hops.as_slice())
+    let hops = fib_effective::recursive_hops(alloc, tables.routes.as_slice())?;
+    fib_effective::distinct(alloc, hops.as_slice())
 }
 
 // The prefixes that can be effective, in order.

@@ -18,7 +18,7 @@ use Rattle.fib_addr.specs.Prefixes.{Prefix}
 use Rattle.fib_cover.specs.Covers.{IsAscending}
 use Rattle.fib_resolve.proofs.Covering.{distinct_keys, unique_in}
 use Rattle.fib_changes.proofs.Edits.{in_cases, in_front, in_rest}
-use Rattle.fib_plain.proofs.Members.{filter_map_in, filter_map_from}
+use Rattle.fib_effective.proofs.Members.{filter_map_in, filter_map_from}
 use Rattle.fib_interned.proofs.Finding.{some_is, none_some}
 use Rattle.fib_entries.specs.inner.Edges.{ArePlaces, AreSources, AreSourcesIn, IsTurned, sources_of}
 use Rattle.fib_entries.proofs.Edging.{edge_in}

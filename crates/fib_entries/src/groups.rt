@@ -27,7 +27,7 @@ pub fn backward(alloc: Global, nodes: u32, edges: &[(u32, u32)]) -> Result<Graph
     requires { AreEdges nodes edges.now }
     ensures { IfOk result (λ g. AreSourcesIn nodes edges.now g) }
 {
-    let once = fib_plain::distinct(alloc, edges)?;
+    let once = fib_effective::distinct(alloc, edges)?;
     turned(alloc, nodes, once.as_slice())
 }
 

@@ -21,10 +21,11 @@ use Rattle.fib_resolve.specs.Loops.{looped}
 use Rattle.fib_resolve.specs.declared.types.Path.{Path}
 use Rattle.fib_resolve.specs.declared.types.PathKind.TheVariants as kinds
 use Rattle.fib_resolve.specs.declared.types.Tables.{Tables}
-use Rattle.fib_plain.specs.inner.Rows.{number_in, goal_number, next_numbers, graph_of, edges_from, edges_of, same_edge, has_edge, AreMarked, AreLooped}
+use Rattle.fib_effective.specs.Numbers.{number_in}
+use Rattle.fib_plain.specs.inner.Rows.{goal_number, next_numbers, graph_of, edges_from, edges_of, same_edge, has_edge, AreMarked, AreLooped}
 use Rattle.fib_plain.proofs.Edges.{Led, looped_by, looped_none, row_is, next_below}
-use Rattle.fib_plain.proofs.Members.{in_cases, first_in, later_in, filter_map_in}
-use Rattle.fib_plain.proofs.Numbers.{numbered}
+use Rattle.fib_effective.proofs.Members.{in_cases, first_in, later_in, filter_map_in}
+use Rattle.fib_effective.proofs.Numbers.{numbered}
 
 pair_is : (a b c d : ℕ) → ◌≡◌ {A = ℕ × ℕ} (a, b) (c, d) → (a ≡ c) × (b ≡ d)
 pair_is a b c d h = (ap (λ (p : ℕ × ℕ). p.0) h, ap (λ (p : ℕ × ℕ). p.1) h)

@@ -22,9 +22,10 @@ use Rattle.fib_resolve.specs.declared.types.PathKind.TheVariants as kinds
 use Rattle.fib_resolve.specs.declared.types.Tables.{Tables}
 use Rattle.fib_resolve.proofs.Entries.{targets_from_entries}
 use Rattle.fib_resolve.proofs.LoopTests.{looped-Decides}
-use Rattle.fib_plain.specs.inner.Rows.{number_in, goal_of, goal_number, next_numbers, graph_of}
-use Rattle.fib_plain.proofs.Numbers.{numbered, one_number, number_of_entry, unnumbered}
-use Rattle.fib_plain.proofs.Members.{filter_map_in, filter_map_from, flat_map_from, option_in, option_from, some_or_none}
+use Rattle.fib_effective.specs.Numbers.{number_in, goal_of}
+use Rattle.fib_plain.specs.inner.Rows.{goal_number, next_numbers, graph_of}
+use Rattle.fib_effective.proofs.Numbers.{numbered, one_number, number_of_entry, unnumbered}
+use Rattle.fib_effective.proofs.Members.{filter_map_in, filter_map_from, flat_map_from, option_in, option_from, some_or_none}
 
 goal_targets : (S : Tables) (e : Prefix) (kind : PathKind) → kind_targets S e kind ≡ option_to_list (goal_of S e kind)
 goal_targets S e kinds.Drop = refl

@@ -12,10 +12,11 @@ use Rattle.fib_resolve.specs.declared.types.PathKind.{PathKind}
 use Rattle.fib_resolve.specs.declared.types.PathKind.TheVariants as kinds
 use Rattle.fib_resolve.specs.declared.types.Need.{Need}
 use Rattle.fib_resolve.specs.declared.types.Tables.{Tables}
-use Rattle.fib_plain.specs.inner.Rows.{number_in, goal_number, is_entry, facts_of_path, marked, target_marked, usable_now}
-use Rattle.fib_plain.proofs.Numbers.{numbered, unnumbered}
+use Rattle.fib_effective.specs.Numbers.{number_in}
+use Rattle.fib_plain.specs.inner.Rows.{goal_number, is_entry, facts_of_path, marked, target_marked, usable_now}
+use Rattle.fib_effective.proofs.Numbers.{numbered, unnumbered}
 use Rattle.fib_plain.proofs.Edges.{numbered_entry}
-use Rattle.fib_plain.proofs.Members.{some_or_none}
+use Rattle.fib_effective.proofs.Members.{some_or_none}
 
 -- what has a number is an entry
 pub is_some-number : (S : Tables) (p : Prefix) → is_some (number_in S p) ≡ is_entry S p

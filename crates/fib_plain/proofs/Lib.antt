@@ -1,13 +1,7 @@
-pub mod Backward
-pub mod Best
-pub mod Numbers
-pub mod Members
 pub mod Edges
 pub mod Exits
 pub mod Leading
 pub mod Stability
 pub mod Viewing
 pub mod Following
-pub mod Placing
-pub mod Covering
 pub mod Cycles

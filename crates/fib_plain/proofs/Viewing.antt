@@ -14,10 +14,11 @@ use Rattle.fib_resolve.specs.declared.types.Path.{Path}
 use Rattle.fib_resolve.specs.declared.types.Tables.{Tables}
 use Rattle.fib_resolve.proofs.Steady.{never}
 use Rattle.fib_resolve.proofs.Entries.{chosen-no_entry}
-use Rattle.fib_plain.specs.inner.Rows.{number_in, facts_of_path, facts_of, rows_of, usable_now}
+use Rattle.fib_effective.specs.Numbers.{number_in}
+use Rattle.fib_plain.specs.inner.Rows.{facts_of_path, facts_of, rows_of, usable_now}
 use Rattle.fib_plain.specs.declared.facts.PathFacts.{PathFacts}
 use Rattle.fib_plain.proofs.Leading.{Marks, usable_now-is}
-use Rattle.fib_plain.proofs.Numbers.{numbered, unnumbered}
+use Rattle.fib_effective.proofs.Numbers.{numbered, unnumbered}
 
 pub row_numbered : (S : Tables) (e : Prefix) (i : ℕ) (d : List PathFacts) → number_in S e ≡ Some i → get_or (rows_of S) i d ≡ facts_of S e
 unfolding rows_of

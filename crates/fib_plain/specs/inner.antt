@@ -1,5 +1,4 @@
 -- Relations that carry proofs and no claim: none is needed to believe a public clause.
-pub mod Places
 pub mod Rows
 pub mod Snapshots
 pub mod Steps

@@ -1,13 +1,10 @@
 // Single answers over tables.
-ghost use Rattle.std.specs.Prelude.{◌≡◌, ◌^◌, ◌-◌, IfOk, min};
+ghost use Rattle.std.specs.Prelude.{◌≡◌, IfOk};
 ghost use Rattle.fib_resolve.specs.Forwarding.{usable_at};
 ghost use Rattle.fib_resolve.specs.Resolution.{resolve, ends};
 ghost use Rattle.fib_resolve.specs.Touched.{touched};
-ghost use Rattle.fib_resolve.specs.Sizes.{size};
 ghost use Rattle.fib_resolve.specs.Tables.{IsSound};
 
-use crate::known::Known;
-use crate::sizes;
 use crate::snapshot::Snapshot;
 use fib_addr::{Addr, Prefix};
 use fib_resolve::{End, Tables};
@@ -20,14 +17,6 @@ pub fn resolve(alloc: Global, tables: &Tables, addr: Addr, hash: u32) -> Result<
 {
     let snapshot = Snapshot::new(alloc, tables)?;
     snapshot.resolve(alloc, addr, hash)
-}
-
-/// How many objects the tables take, or 4,294,967,295 where that is more.
-pub fn size(alloc: Global, tables: &Tables) -> Result<u32, AllocError>
-    requires { IsSound tables.now }
-    ensures { IfOk result (λ n. n ≡ min (size tables.now) (2 ^ 32 - 1)) }
-{
-    sizes::size(alloc, &Known::of(alloc, tables)?)
 }
 
 /// Whether the path at that place of the prefix's chosen list is usable; false where there is none.

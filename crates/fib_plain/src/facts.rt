@@ -3,11 +3,12 @@ ghost use Rattle.std.specs.Prelude.{◌≡◌, Some, IfOk, Contains};
 ghost use Rattle.fib_resolve.specs.Pairs.{chosen};
 ghost use Rattle.fib_resolve.specs.Loops.{looped_kind};
 ghost use Rattle.fib_resolve.specs.Forwarding.{is_up, is_attached_list, is_met, usable_by};
-ghost use Rattle.fib_plain.specs.inner.Rows.{number_in, goal_number, edges_of, AreLooped, is_entry, facts_of_path, facts_of, rows_of};
+ghost use Rattle.fib_effective.specs.Numbers.{number_in};
+ghost use Rattle.fib_plain.specs.inner.Rows.{goal_number, edges_of, AreLooped, is_entry, facts_of_path, facts_of, rows_of};
 
-use crate::known::Known;
 use crate::loops;
 use fib_addr::{Addr, Prefix};
+use fib_effective::Known;
 use fib_list::List;
 use fib_resolve::{Need, Path, PathKind, Tables};
 use std::alloc::{AllocError, Global};

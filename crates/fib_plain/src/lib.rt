@@ -5,29 +5,17 @@
 #![tactic(auto)]
 
 mod answers;
-mod base;
-mod covers;
-mod effective;
 mod facts;
-mod keyed;
-mod known;
 mod loops;
-mod paths;
-mod places;
 mod possible;
-mod ranked;
-mod repeats;
 mod rounds;
-mod sizes;
 mod snapshot;
 mod touching;
 mod view;
 mod ways;
 
-pub use answers::{ends, resolve, size, touched, usable};
-pub use paths::{add_adjacencies, adjacency_of, is_same_list, recursive_hop, recursive_hops};
-pub use places::first_places;
-pub use repeats::distinct;
+pub use answers::{ends, resolve, touched, usable};
+pub use fib_effective::size;
 pub use snapshot::Snapshot;
 
 #[cfg(test)]

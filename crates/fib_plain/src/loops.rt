@@ -6,10 +6,11 @@ ghost use Rattle.fib_resolve.specs.Pairs.{chosen, entries};
 ghost use Rattle.fib_resolve.specs.Loops.{looped};
 ghost use Rattle.fib_resolve.specs.declared.types.Path.{Path as PathValue};
 ghost use Rattle.fib_resolve.specs.declared.types.PathKind.TheVariants as kinds;
-ghost use Rattle.fib_plain.specs.inner.Rows.{number_in, goal_number, next_numbers, edges_from, edges_of, same_edge, has_edge, AreLooped, AreMarked};
+ghost use Rattle.fib_effective.specs.Numbers.{number_in};
+ghost use Rattle.fib_plain.specs.inner.Rows.{goal_number, next_numbers, edges_from, edges_of, same_edge, has_edge, AreLooped, AreMarked};
 
-use crate::known::Known;
 use fib_addr::{Addr, Prefix};
+use fib_effective::Known;
 use fib_loops::Marks;
 use fib_resolve::PathKind;
 use std::alloc::{AllocError, Global};

@@ -10,10 +10,10 @@ ghost use Rattle.fib_resolve.specs.Sizes.{adjacencies, size};
 ghost use Rattle.fib_resolve.specs.Tables.{IsSound};
 
 use crate::facts::{self, PathFacts};
-use crate::known::Known;
-use crate::{possible, rounds, sizes, touching, view, ways};
+use crate::{possible, rounds, touching, view, ways};
 use fib_addr::{Addr, Mac, Prefix};
 use fib_cover::PrefixSet;
+use fib_effective::Known;
 use fib_list::List;
 use fib_resolve::{Adjacency, End, Need, Pair, Path, Tables};
 use std::alloc::{AllocError, Global};
@@ -195,13 +195,13 @@ impl<'a> Snapshot<'a> {
     pub fn adjacencies(&self, alloc: Global) -> Result<Vec<Adjacency>, AllocError>
         ensures { IfOk result (λ v. v.items ≡ adjacencies self.now) }
     {
-        sizes::adjacencies(alloc, self.known())
+        self.known().adjacencies(alloc)
     }
 
     /// The size of the tables, or 4,294,967,295 where it is greater.
     pub fn size(&self, alloc: Global) -> Result<u32, AllocError>
         ensures { IfOk result (λ n. n ≡ min (size self.now) (2 ^ 32 - 1)) }
     {
-        sizes::size(alloc, self.known())
+        self.known().size(alloc)
     }
 }

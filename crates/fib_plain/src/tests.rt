@@ -30,8 +30,6 @@ fn answers_over_the_fresh_tables(rt: HostRuntime) -> Result<(), Fail> {
     assert_eq!(rt; snapshot.attached_end(everything, 0), End::Glean(0));
     let hop = snapshot.hop_end(0, inside);
     assert_eq!(rt; snapshot.attached_end(Prefix::host(inside), 0), hop);
-    let places = first_places(alloc, &[inside, Addr(1), inside])?;
-    assert_eq!(rt; places.get(&inside).copied(), Some(0));
     assert!(rt; snapshot.adjacencies(alloc)?.is_empty());
     assert_eq!(rt; snapshot.tables().routes.len(), 0);
     Ok(())

@@ -6,10 +6,10 @@ ghost use Rattle.fib_addr.specs.Prefixes.{same_prefix};
 ghost use Rattle.fib_resolve.specs.Pairs.{same_pair, chosen, entries, pairs};
 ghost use Rattle.fib_resolve.specs.Touched.{other_flag, other_mac, kind_changes, same_pairs, pairs_of, is_touched, touched};
 
-use crate::repeats::distinct;
 use crate::snapshot::Snapshot;
-use crate::{facts, keyed, view, ways};
+use crate::{facts, view, ways};
 use fib_addr::{Addr, Prefix};
+use fib_effective::distinct;
 use fib_resolve::{Pair, Path, PathKind, Tables};
 use std::alloc::{AllocError, Global};
 
@@ -82,7 +82,7 @@ fn has_own(e: Prefix, pairs: &[Pair], x: &Pair) -> bool
     pairs
         .iter()
         .filter(|y| e == y.prefix)
-        .any(|y| keyed::is_same_pair(x, y))
+        .any(|y| fib_effective::is_same_pair(x, y))
 }
 
 fn all_there(e: Prefix, xs: &[Pair], ys: &[Pair]) -> bool

@@ -3,7 +3,8 @@ use Rattle.std.specs.Prelude.{◌↔◌, ◌+◌, ◌++◌, ◌&&◌, ◌==◌, 
 use Rattle.std.specs.Set.{is_member}
 use Rattle.std.specs.List.{list_any}
 use Rattle.fib_addr.specs.Prefixes.{Prefix, host, same_prefix}
-use Rattle.fib_resolve.specs.Pairs.{entries, chosen, cover}
+use Rattle.fib_resolve.specs.Pairs.{entries, chosen}
+use Rattle.fib_effective.specs.Numbers.{number_in, goal_of}
 use Rattle.fib_loops.specs.Loops.{IsLooped}
 use Rattle.fib_resolve.specs.Loops.{looped_kind}
 use Rattle.fib_resolve.specs.Forwarding.{usable_by}
@@ -12,19 +13,6 @@ use Rattle.fib_resolve.specs.declared.types.PathKind.{PathKind}
 use Rattle.fib_resolve.specs.declared.types.PathKind.TheVariants as kinds
 use Rattle.fib_resolve.specs.declared.types.Tables.{Tables}
 use Rattle.fib_plain.specs.declared.facts.PathFacts.{PathFacts}
-
--- the number of an entry
-unfoldable pub number_in : Tables → Prefix → Option ℕ
-number_in S p = position (same_prefix p) (entries S)
-
--- the entry to which a path leads
-abbrev pub goal_of : Tables → Prefix → PathKind → Option Prefix
-goal_of S e (kinds.Recursive a) = Some (host a)
-goal_of S e kinds.Cover = Some (cover S e.bits)
-goal_of S e kinds.Drop = None
-goal_of S e kinds.Local = None
-goal_of S e (kinds.Attached i) = None
-goal_of S e (kinds.Hop a i) = None
 
 -- the number of the entry to which a path leads
 unfoldable pub goal_number : Tables → Prefix → PathKind → Option ℕ

@@ -1,7 +1,7 @@
 use Rattle.std.proofs.Common.{arith, ◌∙◌, ap, length, get_or, List}
 use Rattle.fib_addr.specs.Prefixes.{Prefix}
-use Rattle.fib_plain.specs.inner.Rows.{number_in}
-use Rattle.fib_plain.proofs.Numbers.{number_at}
+use Rattle.fib_effective.specs.Numbers.{number_in}
+use Rattle.fib_effective.proofs.Numbers.{number_at}
 use Rattle.fib_plain.proofs.facts.rows.Goals as goal
 
 pub row-requires-clause-number : goal.row-requires-clause-number

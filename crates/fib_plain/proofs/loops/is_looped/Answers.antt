@@ -1,6 +1,6 @@
 use Rattle.std.proofs.Common.{◌∙◌, sym, ap}
 use Rattle.fib_addr.specs.Prefixes.{host}
-use Rattle.fib_plain.specs.inner.Rows.{number_in}
+use Rattle.fib_effective.specs.Numbers.{number_in}
 use Rattle.fib_plain.proofs.Cycles.{looped_found}
 use Rattle.fib_plain.proofs.Edges.{looped_none}
 use Rattle.fib_plain.proofs.loops.is_looped.Goals as goal

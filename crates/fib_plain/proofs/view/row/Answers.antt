@@ -1,5 +1,6 @@
 use Rattle.std.proofs.Common.{arith, ◌∙◌, sym, ap, length, get_or, List}
-use Rattle.fib_plain.specs.inner.Rows.{number_in, rows_of}
+use Rattle.fib_effective.specs.Numbers.{number_in}
+use Rattle.fib_plain.specs.inner.Rows.{rows_of}
 use Rattle.fib_plain.specs.declared.facts.PathFacts.{PathFacts}
 use Rattle.fib_plain.proofs.Viewing.{row_numbered, row_unnumbered, length-rows}
 use Rattle.fib_plain.proofs.view.row.Goals as goal

@@ -1,6 +1,6 @@
 use Rattle.std.proofs.Common.{arith, ◌∙◌, ap}
 use Rattle.fib_resolve.specs.Pairs.{best}
-use Rattle.fib_plain.proofs.Covering.{best_found, best_none}
+use Rattle.fib_effective.proofs.Covering.{best_found, best_none}
 use Rattle.fib_plain.proofs.ways.best.Goals as goal
 
 pub returns-in-Some : goal.returns-in-Some

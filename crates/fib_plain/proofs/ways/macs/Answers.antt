@@ -1,8 +1,8 @@
 use Rattle.std.proofs.Common.{arith, ◌-◌, drop}
 use Rattle.std.specs.HashMap.{get}
 use Rattle.fib_resolve.specs.Sizes.{same_adjacency}
-use Rattle.fib_plain.proofs.Backward.{front}
-use Rattle.fib_plain.proofs.Placing.{macs_more}
+use Rattle.fib_effective.proofs.Backward.{front}
+use Rattle.fib_effective.proofs.Placing.{macs_more}
 use Rattle.fib_plain.proofs.ways.macs.Goals as goal
 
 pub loop-place-preserved : goal.loop-place-preserved
