@@ -18,7 +18,8 @@ fn is_that(
     requires { IsSome (kept_of lists.now held.1) }
     ensures { result ≡ is_that lists.now source paths.now held }
 {
-    keys::is_same_source(held.0, source) && fib_effective::is_same_list(lists.content(held.1), paths)
+    keys::is_same_source(held.0, source)
+        && fib_effective::is_same_list(lists.content(held.1), paths)
 }
 
 /// Whether the source with that list is among them.

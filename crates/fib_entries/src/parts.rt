@@ -12,9 +12,9 @@ ghost use Rattle.fib_entries.specs.inner.Building.{ArePicked, AreByKey, AreParts
 
 use crate::look::is_same;
 use fib_addr::Prefix;
+use fib_effective::first_places;
 use fib_list::List;
 use fib_paths::{PathListId, PathLists};
-use fib_effective::first_places;
 use fib_plain::Snapshot;
 use fib_resolve::{Aim, End, FibSource, Marked, Pair, Path, PathKind};
 use std::alloc::{AllocError, Global};
