@@ -92,6 +92,7 @@ has_loaded words me w number pass knows left at k i found W r is word told =
       seat = record {
         sat = refl;
         size = r.seat.size;
+        few = r.seat.few;
         named = r.seat.named;
         small = r.seat.small;
         passes = r.seat.passes;

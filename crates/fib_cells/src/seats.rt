@@ -1,5 +1,5 @@
 // A worker's seat, at rest and walking, and notes.
-ghost use Rattle.std.specs.Prelude.{◌*◌, ◌+◌, ◌<◌, ◌≡◌};
+ghost use Rattle.std.specs.Prelude.{◌*◌, ◌+◌, ◌<◌, ◌≡◌, ◌≤◌};
 ghost use Rattle.fib_results.specs.Trails.{AtLeast};
 ghost use Rattle.fib_core.specs.Words.{IsRoomy};
 ghost use Rattle.fib_core.specs.Trails.{IsSoundTrail, stands};
@@ -198,6 +198,7 @@ impl<'a> WorkerSeat<'a> {
         requires { 0 < left_of self.worker.pass }
         ensures started { result ≡ seat_started self.entry }
         ensures sound { IsSoundTrail result.worker.objects result.worker.trail }
+        ensures few { result.worker.objects ≤ 131072 }
     {
         let WorkerSeat {
             cells,

@@ -1,5 +1,5 @@
 -- How a seat's fields, its table and its view belong together.
-use Rattle.std.specs.Prelude.{◌≡◌, ℕ, ◌+◌, ◌-◌, ◌*◌, ◌%◌, ◌^◌, ◌<◌, List, Bool, length, slice_index, if◌then◌else◌}
+use Rattle.std.specs.Prelude.{◌≡◌, ℕ, ◌+◌, ◌-◌, ◌*◌, ◌%◌, ◌^◌, ◌<◌, ◌≤◌, List, Bool, length, slice_index, if◌then◌else◌}
 use Rattle.atomic_table.specs.Table.{Me}
 use Rattle.fib_resolve.specs.declared.types.Tables.{Tables}
 use Rattle.fib_results.specs.declared.record.Version.{Version}
@@ -15,6 +15,7 @@ use Rattle.fib_cells.specs.inner.Told.{control_of, worker_of, IsControl, IsWorke
 pub record IsSat (words : ℕ) (me : Me Tables View) (number pass : ℕ) (knows : Version) (left : ℕ) : Type 0 where
   pub sat : IsWorker me
   pub size : words ≡ 16 + 16 * (worker_of me.0).objects
+  pub few : (worker_of me.0).objects ≤ 131072
   pub named : (worker_of me.0).number ≡ number
   pub small : number < 8
   pub passes : (worker_of me.0).pass ≡ pass
