@@ -18,4 +18,6 @@ pub use step::Step;
 pub use worker::Worker;
 
 #[cfg(test)]
+mod standing;
+#[cfg(test)]
 mod tests;
