@@ -1,5 +1,5 @@
 // Boards whose workers leave and come home.
-ghost use Rattle.std.specs.Prelude.{ℕ, IsTrue, ◌<◌, ◌≡◌, ◌↔◌};
+ghost use Rattle.std.specs.Prelude.{ℕ, IsTrue, length, ◌<◌, ◌≡◌, ◌↔◌};
 ghost use Rattle.fib_board.specs.Crews.{IsOut, MaySend, Noted, Seated, board_joined, board_sent, new_seat};
 
 use crate::board::Board;
@@ -38,4 +38,8 @@ pub trait Crew: Board {
     fn is_out(&self, number: u32) -> bool
         requires { number < (Self.view self.now).workers }
         ensures { IsTrue result ↔ IsOut (Self.view self.now) number };
+
+    /// How many claims came home. A seat leaves only while it is below 2^60.
+    fn gathered(&self) -> u64
+        ensures { result ≡ length (Self.view self.now).gathered };
 }

@@ -1,5 +1,5 @@
 // A board that counts its stores.
-ghost use Rattle.std.specs.Prelude.{IsTrue, ℕ, false, true, slice_index, slice_index_or, ◌%◌, ◌*◌, ◌+◌, ◌<◌, ◌^◌, ◌↔◌, ◌≡◌};
+ghost use Rattle.std.specs.Prelude.{IsTrue, ℕ, false, true, length, slice_index, slice_index_or, ◌%◌, ◌*◌, ◌+◌, ◌<◌, ◌^◌, ◌↔◌, ◌≡◌};
 ghost use Rattle.fib_union.specs.Marks.{is_even};
 ghost use Rattle.fib_lawful.specs.State.{left_of};
 ghost use Rattle.fib_board.specs.Boards.{board_begun, board_scanned, board_settled, board_stored, word_in};
@@ -150,5 +150,11 @@ impl<B: Crew> Counted<B> {
         ensures { IsTrue result ↔ IsOut self.now number }
     {
         self.board.is_out(number)
+    }
+
+    pub(crate) fn gathered(&self) -> u64
+        ensures { result ≡ length self.now.gathered }
+    {
+        self.board.gathered()
     }
 }

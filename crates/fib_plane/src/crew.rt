@@ -1,5 +1,5 @@
 // Workers that leave a plane's board and come home.
-ghost use Rattle.std.specs.Prelude.{IsTrue, ◌<◌, ◌↔◌, ◌≡◌};
+ghost use Rattle.std.specs.Prelude.{IsTrue, length, ◌<◌, ◌↔◌, ◌≡◌};
 ghost use Rattle.fib_board.specs.Crews.{IsOut, MaySend, board_joined, board_sent, new_seat};
 
 use crate::plane::Plane;
@@ -37,5 +37,12 @@ impl<B: Crew> Plane<B> {
         ensures { IsTrue result ↔ IsOut self.now.board number }
     {
         self.board.is_out(number)
+    }
+
+    /// How many claims came home.
+    pub fn gathered(&self) -> u64
+        ensures { result ≡ length self.now.board.gathered }
+    {
+        self.board.gathered()
     }
 }

@@ -1,0 +1,11 @@
+use Rattle.std.proofs.Common.{arith, ap}
+use Rattle.fib_cells.proofs.Moves.{may_start}
+use Rattle.fib_cells.proofs.seats.WorkerSeat.start.Goals as goal
+
+pub store-requires : goal.store-requires
+store-requires c =
+    let seat = c.self.invariant.1.seat in (
+      c.self.invariant.0,
+      (let size = seat.size in let small = seat.small in let same = ap (λ t. t.words) c.self.invariant.0 in omega arith),
+      may_start _ _ _ _ _ _ seat.sat seat.named,
+    )
