@@ -24,9 +24,9 @@ use Rattle.fib_rule.specs.Steady.{versions}
 use Rattle.fib_board.specs.Boards.{Board, word_in}
 use Rattle.fib_board.specs.May as may
 use Rattle.fib_plane.specs.Planes.{Plane}
-use Rattle.fib_joined.specs.View.{View, Goes}
+use Rattle.fib_joined.specs.View.{View, Goes, adjacency_end}
 use Rattle.fib_joined.specs.Promise as joined
-use Rattle.fib_joined.specs.Promise.{IsEndWord, IsAimed, HasPaths, IsPromised, IsWalked, adjacency_end, Allows, Serves}
+use Rattle.fib_joined.specs.Promise.{IsEndWord, IsAimed, HasPaths, IsPromised, IsWalked, Allows, Serves}
 use Rattle.fib_shared.specs.Shares.{cell_in, is_alone, promise_of, view_of}
 use Rattle.fib_shared.proofs.Seeing.{cell_is, goes_up}
 
