@@ -7,14 +7,13 @@ use Rattle.fib_resolve.specs.declared.aims.Aim.TheVariants as aims
 use Rattle.fib_resolve.specs.declared.types.End.{End}
 use Rattle.fib_resolve.specs.declared.types.End.TheVariants as answers
 use Rattle.fib_resolve.specs.declared.types.Tables.{Tables}
-use Rattle.fib_core.specs.Walk.{hop_of}
 use Rattle.fib_core.specs.declared.word.Word.{Word}
 use Rattle.fib_core.specs.declared.word.Word.TheVariants as words
 use Rattle.fib_steady.specs.Aims.{IsLasting, WantsAlike}
 use Rattle.fib_steady.specs.Names.{Names, IsChild}
 use Rattle.fib_steady.specs.Promise.{IsRight}
 use Rattle.fib_joined.specs.declared.put.Put.{Put}
-use Rattle.fib_joined.specs.View.{View, Goes, IsBalance, IsPut}
+use Rattle.fib_joined.specs.View.{View, Goes, IsBalance, IsPut, adjacency_end}
 
 -- the tables of the versions from settled to applied, and whether all workers are at home. No call of the plane changes it but those that begin
 -- and settle a version, and those on workers
@@ -40,10 +39,6 @@ IsWalked u x = (x ≡ 0) ⊎ ((y : ℕ) × (t : ℕ) × Goes u y t (words.ToPly 
 pub record HasPaths (n : Names) (u : View) : Type 0 where
   pub root : (n.depth 0 ≡ 0) × (n.value 0 ≡ 0)
   pub paths : (x s c : ℕ) → Goes u x s (words.ToPly c) → IsChild n x s c
-
--- the end that an adjacency says
-abbrev pub adjacency_end : View → ℕ → End
-adjacency_end u x = hop_of (u.cell x 0) (u.cell x 1) (u.cell x 2)
 
 -- the word ends a packet there
 abbrev pub IsEndWord : View → End → Word → Type 0

@@ -2,9 +2,12 @@
 use Rattle.std.specs.Prelude.{◌≡◌, ◌≢◌, ℕ, ◌+◌, ◌*◌, ◌<◌, ◌≤◌, ◌⊎◌, Bool, true, false, List, Option, Some, None, Contains, length, Result, Ok, Err}
 use Rattle.std.specs.declared.alloc.AllocError.{AllocError}
 use Rattle.fib_reach.specs.Walks.{Leads}
+use Rattle.fib_resolve.specs.declared.types.End.{End}
+use Rattle.fib_resolve.specs.declared.types.End.TheVariants as answers
 use Rattle.fib_core.specs.declared.word.Word.{Word}
 use Rattle.fib_core.specs.declared.word.Word.TheVariants as words
 use Rattle.fib_core.specs.Union.{IsPlyWord, IsBucketWord}
+use Rattle.fib_core.specs.Walk.{hop_of}
 use Rattle.fib_pool.specs.declared.object.Kind.{Kind}
 use Rattle.fib_pool.specs.declared.object.Kind.TheVariants as kinds
 use Rattle.fib_pool.specs.declared.object.AdjacencyRecord.{AdjacencyRecord}
@@ -41,6 +44,10 @@ pub record View : Type 0 where
   -- how many stores there were, and how many more may replace an edge
   pub stored : ℕ
   pub spare : ℕ
+
+-- the end that an adjacency says
+abbrev pub adjacency_end : View → ℕ → End
+adjacency_end u x = hop_of (u.cell x 0) (u.cell x 1) (u.cell x 2)
 
 -- the union of current and retired edges has this one
 abbrev pub Goes : View → ℕ → ℕ → Word → Type 0
@@ -87,6 +94,8 @@ pub record IsPlane (u : View) : Type 0 where
   pub apart : (m n : AdjacencyRecord) (x : ℕ) → u.record_of m ≡ Some x → u.record_of n ≡ Some x → m ≡ n
   pub records : (m : AdjacencyRecord) (x : ℕ) → u.record_of m ≡ Some x → (u.is_held x ≡ false) × (u.is_ply x ≡ false)
   pub plain : (m : AdjacencyRecord) (x s y : ℕ) → u.record_of m ≡ Some x → leads (u.cell x s) y → ⊥
+  -- and which say what the record does
+  pub written : (m : AdjacencyRecord) (x : ℕ) → u.record_of m ≡ Some x → adjacency_end u x ≡ answers.Hop m.interface m.next_hop m.mac
   -- a plane has 131,072 objects at most
   pub few : u.free ≤ 131072
 

@@ -1,12 +1,15 @@
 // Shared objects in the control plane's hands.
-ghost use Rattle.std.specs.Prelude.{◌≡◌, ◌≢◌, ℕ, ◌+◌, ◌^◌, ◌%◌, ◌<◌, ◌≤◌, Option, Some, true, false, IfSome, IfNone, OnOk, OnErr, [], length};
+ghost use Rattle.std.specs.Prelude.{◌≡◌, ◌≢◌, ℕ, ◌+◌, ◌-◌, ◌^◌, ◌%◌, ◌<◌, ◌≤◌, Option, Some, true, false, IfSome, IfNone, OnOk, OnErr, [], length};
 ghost use Rattle.fib_pool.specs.declared.object.Kind.TheVariants as kinds;
-ghost use Rattle.fib_joined.specs.View.{Closes, GaveRecord, HasKind, HasRoom, IsLetGo, IsLive, IsPlane, IsPut, IsScanned, IsStanding, IsTaken, TookOne, View, leads};
+ghost use Rattle.fib_pool.specs.declared.object.AdjacencyRecord.{AdjacencyRecord};
+ghost use Rattle.fib_pool.specs.Records.{adjacency};
+ghost use Rattle.fib_joined.specs.View.{Closes, GaveRecord, HasKind, HasRoom, IsLetGo, IsLive, IsPlane, IsPut, IsRecord, IsScanned, IsStanding, IsTaken, TookOne, View, leads};
 ghost use Rattle.fib_joined.specs.Promise.{MayClear, MayLetGo, MayPut, Promise};
 
 use crate::put::Put;
+use fib_addr::{Addr, Mac};
 use fib_core::Word;
-use fib_pool::{AdjacencyRecord, Kind};
+use fib_pool::Kind;
 use std::alloc::AllocError;
 
 /// Numbered objects of sixteen cells each, which workers read while the control plane changes them.
@@ -76,16 +79,22 @@ pub trait Objects {
         ensures promise { promise self.new ≡ promise self.old };
 
     /// The object of an adjacency record, with one user more. None exactly where no equal record is kept and no object is free.
-    fn take_adj(&mut self, adjacency: AdjacencyRecord) -> Result<Option<u32>, AllocError>
-        requires { MayClear (promise self.old) (view self.old) }
-        ensures took { TookOne (view self.old) (view self.new) adjacency result }
+    fn take_adj(
+        &mut self,
+        interface: u32,
+        next_hop: Addr,
+        mac: Option<Mac>,
+    ) -> Result<Option<u32>, AllocError>
+        requires few { (view self.old).users (adjacency interface next_hop mac) < 2 ^ 32 - 1 }
+        requires promise { MayClear (promise self.old) (view self.old) }
+        ensures took { TookOne (view self.old) (view self.new) (adjacency interface next_hop mac) result }
         ensures promise { promise self.new ≡ promise self.old };
 
-    /// One user of the record less.
-    fn give_adj(&mut self, adjacency: AdjacencyRecord)
-        requires users { 0 < (view self.old).users adjacency }
+    /// One user less of the record whose object this is.
+    fn give_adj(&mut self, object: u32)
+        requires record { IsRecord (view self.old) object }
         requires promise { MayClear (promise self.old) (view self.old) }
-        ensures gave { GaveRecord (view self.old) (view self.new) adjacency }
+        ensures gave { (m : AdjacencyRecord) → (view self.old).record_of m ≡ Some object → GaveRecord (view self.old) (view self.new) m }
         ensures promise { promise self.new ≡ promise self.old };
 
     /// Lets retired edges go that every worker has passed. Answers how many are left.
