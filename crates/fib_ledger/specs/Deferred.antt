@@ -26,11 +26,11 @@ AreApart (x ∷ xs) = AllByRecursion (λ y. is_at y x.entry x.slot ≡ false) xs
 abbrev pub AreSlots : List Late → Type 0
 AreSlots xs = AllByRecursion (λ x. x.slot < 16) xs
 
+abbrev pub one_late : Option Word → ℕ
+one_late None = 0
+one_late (Some w) = 1
+
 -- how many of the prefix's first buckets are deferred
 abbrev pub late_count : (ℕ → Option Word) → ℕ → ℕ
 late_count late zero = 0
-late_count late (suc n) = one (late n) + late_count late n
-  where
-    one : Option Word → ℕ
-    one None = 0
-    one (Some w) = 1
+late_count late (suc n) = one_late (late n) + late_count late n

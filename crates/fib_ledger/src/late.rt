@@ -55,6 +55,11 @@ impl Lates {
         self.list.reserve(more as usize)
     }
 
+    /// Where the list takes its memory.
+    pub fn allocator(&self) -> Global {
+        *self.list.allocator()
+    }
+
     /// How many buckets are deferred.
     pub fn len(&self) -> u32
         ensures count { result ≡ length self.now.members }

@@ -73,8 +73,8 @@ impl Ledger {
 
     /// Room for one prefix more, that may use so many records. After want of memory all but the room is as before.
     pub fn reserve(&mut self, uses: usize) -> Result<(), AllocError>
-        ensures known { (e : PrefixValue) → known_of self.new.rows e ≡ known_of self.old.rows e }
-        ensures total { (m : Record) → total self.new.rows m ≡ total self.old.rows m }
+        ensures known { known_of self.new.rows ≡ known_of self.old.rows }
+        ensures total { total self.new.rows ≡ total self.old.rows }
         ensures room { OnOk result (0 < self.new.spare) }
         ensures few { OnOk result (count self.new.rows + uses < 2 ^ 32 - 1) }
     {
