@@ -91,6 +91,7 @@ module _ (b : Board) (f : IsFresh b) (few : b.objects < 4294967296) where
       other = λ o k e. absurd (none_kept o k e);
       held = λ o k e. absurd (none_kept o k e);
       words = λ o s k e lt. absurd (none_kept o k e);
+      ranges = λ o k e. absurd (none_kept o k e);
     };
   }
     where

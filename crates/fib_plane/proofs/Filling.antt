@@ -1,6 +1,6 @@
 -- Numbers in the cells of an object that was just taken.
 use Rattle.std.proofs.Common.{arith, ◌≡◌, ◌≢◌, ℕ, ◌+◌, ◌-◌, ◌*◌, ◌<◌, ◌≤◌, ◌^◌, inl, inr, true, false, true≢false, Bool, List, length, Option, Some, None, refl, sym, ◌∙◌, ap, subst, zero, suc, get_or-set_same, get_or-set_other, length-set}
-use Rattle.std.specs.Prelude.{◌==◌, IsSome, option_map, if◌then◌else◌, slice_index, slice_set}
+use Rattle.std.specs.Prelude.{◌==◌, IfSome, IsSome, option_map, if◌then◌else◌, slice_index, slice_set}
 use Rattle.std.proofs.lemmas.Bool.{cases_eq}
 use Rattle.fib_interned.specs.Interned as interned
 use Rattle.fib_resolve.specs.Tables.{fresh}
@@ -26,20 +26,20 @@ use Rattle.fib_pool.specs.declared.object.Kind.TheVariants as kinds
 use Rattle.fib_pool.specs.declared.object.Object.{Object}
 use Rattle.fib_pool.specs.declared.object.AdjacencyRecord.{AdjacencyRecord}
 use Rattle.fib_pool.specs.Objects.{at, count_in, count_of, with_count, as_new, IsTaken, IsLive}
-use Rattle.fib_pool.specs.Records.{AreAdjacencies}
+use Rattle.fib_pool.specs.Records.{AreAdjacencies, IsKeptAs}
 use Rattle.fib_pool.proofs.Pools.{none_some}
 use Rattle.fib_board.specs.Boards.{Board, as_control, edge_of, union_of, word_in, board_stored}
 use Rattle.fib_board.specs.May.{Allows, MayChange, MayStore, Serves}
 use Rattle.fib_board.specs.Told.{IsBoard}
 use Rattle.fib_board.proofs.Serving.{edge_none, edge_at_drop, serves_held}
 use Rattle.fib_plane.specs.Planes.{Plane, IsHeld, released, counted_more, uncounted}
-use Rattle.fib_plane.specs.Sound.{AreRecords, record_word}
+use Rattle.fib_plane.specs.Sound.{AreRecords, IsInRange, record_word}
 use Rattle.fib_plane.specs.Records.{board_filled, given_objects}
 use Rattle.fib_plane.specs.inner.Joined.{IsIdle, IsAtRest, HoldsBut}
 use Rattle.fib_plane.proofs.Boarding.{leaves, left_is, into_stored, word_same, word_other}
 use Rattle.fib_plane.proofs.Storing.{stored_joined, stored_acyclic, owner_is}
 use Rattle.fib_plane.proofs.Resting.{live_in, taken_plane}
-use Rattle.fib_plane.proofs.Recording.{records_given, records_released, given_last}
+use Rattle.fib_plane.proofs.Recording.{records_given, records_released, records_shared, given_last}
 
 no_ply : (n c : ℕ) (w : Word) → w ≡ words.Plain n → w ≡ words.ToPly c → ⊥
 no_ply n c w e f = cc
@@ -236,8 +236,8 @@ module _ (b : Board) (o : ℕ) (r : AdjacencyRecord) (long : 16 * o + 16 ≤ len
 
 -- a fresh record
 pub records_fresh : (b c : Board) (xs ys : List (Option Object)) (rows new : List (interned.Kept AdjacencyRecord)) (o : ℕ) (r : AdjacencyRecord) → AreRecords b xs rows → interned.Takes rows new r o → IsTaken xs ys o kinds.Adjacency → AreAdjacencies new ys
-    → ((z : ℕ) → into (union_of c) z ≡ into (union_of b) z) → into (union_of b) o ≡ 0 → o ≢ 0 → ((k : ℕ) → owner k ≢ o → word_in c k ≡ word_in b k) → ((s : ℕ) → s < 16 → word_in c (16 * o + s) ≡ record_word r s) → AreRecords c ys new
-records_fresh b c xs ys rows new o r ok takes taken adjacencies same none other beside filled = record {
+    → ((z : ℕ) → into (union_of c) z ≡ into (union_of b) z) → into (union_of b) o ≡ 0 → o ≢ 0 → ((k : ℕ) → owner k ≢ o → word_in c k ≡ word_in b k) → ((s : ℕ) → s < 16 → word_in c (16 * o + s) ≡ record_word r s) → IsInRange r → AreRecords c ys new
+records_fresh b c xs ys rows new o r ok takes taken adjacencies same none other beside filled range = record {
   adjacencies = adjacencies;
   other = λ z k e. elim (cases_eq z o) [ inl at_o ↦ (λ zero_is. other (sym at_o ∙ zero_is)) | inr ne ↦ ok.other z k (sym (takes.others z ne) ∙ e) ];
   held = λ z k e. elim (cases_eq z o) [
@@ -250,12 +250,18 @@ records_fresh b c xs ys rows new o r ok takes taken adjacencies same none other 
         ap (λ (q : ℕ). word_in c (16 * q + s)) at_o ∙ filled s lt ∙ ap (λ (q : interned.Kept AdjacencyRecord). record_word q.content s) (sym one))
     | inr ne ↦ beside (16 * z + s) (λ own. ne (sym (owner_is z s lt) ∙ own)) ∙ ok.words z s k (sym (takes.others z ne) ∙ e) lt
   ];
+  ranges = λ z k e. elim (cases_eq z o) [
+    | inl at_o ↦ (let is : Some k ≡ Some (record { id = o; content = r; users = interned.users_of rows o + 1 }) = sym e ∙ (ap (λ (q : ℕ). interned.kept_of new q) at_o ∙ takes.taken) in
+        let one : k ≡ record { id = o; content = r; users = interned.users_of rows o + 1 } = cc in
+        subst (λ (q : interned.Kept AdjacencyRecord). IsInRange q.content) (sym one) range)
+    | inr ne ↦ ok.ranges z k (sym (takes.others z ne) ∙ e)
+  ];
 }
 
 -- a plane with a fresh record
 pub fresh_rest : (b c : Board) (u v : edges.Kept) (xs ys : List (Option Object)) (rows new : List (interned.Kept AdjacencyRecord)) (ds : List ℕ) (room o : ℕ) (r : AdjacencyRecord) → IsAtRest b u xs rows ds room → IsTaken xs ys o kinds.Adjacency → interned.Takes rows new r o → AreAdjacencies new ys
-    → c ≡ board_filled b o r → IsIdle c v ys o → ((z : ℕ) → into (union_of c) z ≡ into (union_of b) z) → r.interface < 2 ^ 32 → r.next_hop < 2 ^ 32 → IsRoomy (mac_word r.mac) → IsAtRest c v ys new ds room
-fresh_rest b c u v xs ys rows new ds room o r p taken takes adjacencies filled idle counts interface next_hop mac = record {
+    → c ≡ board_filled b o r → IsIdle c v ys o → ((z : ℕ) → into (union_of c) z ≡ into (union_of b) z) → r.interface < 2 ^ 32 → r.next_hop < 2 ^ 32 → IsRoomy (mac_word r.mac) → IfSome r.mac (λ m. m < 2 ^ 48) → IsAtRest c v ys new ds room
+fresh_rest b c u v xs ys rows new ds room o r p taken takes adjacencies filled idle counts interface next_hop mac few = record {
   joined = idle.joined;
   acyclic = idle.acyclic;
   none = (with_new b u xs ys rows ds room o p taken).none;
@@ -263,7 +269,8 @@ fresh_rest b c u v xs ys rows new ds room o r p taken takes adjacencies filled i
   roomy = (let e : c.objects ≡ b.objects = ap (λ (q : Board). q.objects) filled in let l = p.roomy in omega arith);
   records = records_fresh b c xs ys rows new o r p.records takes taken adjacencies counts (alone b u xs ys rows ds room o p taken) (apart_root b u xs ys rows ds room o p taken)
       (λ k ne. ap (λ (q : Board). word_in q k) filled ∙ filled_else b o r long interface next_hop mac k ne)
-      (λ s lt. ap (λ (q : Board). word_in q (16 * o + s)) filled ∙ filled_words b o r long interface next_hop mac (fresh_empty b u xs ys rows ds room o p taken) s lt);
+      (λ s lt. ap (λ (q : Board). word_in q (16 * o + s)) filled ∙ filled_words b o r long interface next_hop mac (fresh_empty b u xs ys rows ds room o p taken) s lt)
+      (record { interface = interface; next_hop = next_hop; mac = few });
 }
   where
     long : 16 * o + 16 ≤ length b.union.cells
@@ -272,6 +279,17 @@ fresh_rest b c u v xs ys rows new ds room o r p taken takes adjacencies filled i
 -- nothing was taken
 pub same_rest : (b : Board) (u : edges.Kept) (xs ys : List (Option Object)) (rows new : List (interned.Kept AdjacencyRecord)) (ds : List ℕ) (room : ℕ) → new ≡ rows → ys ≡ xs → IsAtRest b u xs rows ds room → IsAtRest b u ys new ds room
 same_rest b u xs ys rows new ds room same pool p = subst (λ (zs : List (Option Object)). IsAtRest b u zs new ds room) (sym pool) (subst (λ (r : List (interned.Kept AdjacencyRecord)). IsAtRest b u xs r ds room) (sym same) p)
+
+-- a record that is kept has one user more
+pub shared_rest : (b : Board) (u : edges.Kept) (xs ys : List (Option Object)) (rows new : List (interned.Kept AdjacencyRecord)) (ds : List ℕ) (room : ℕ) (r : AdjacencyRecord) (o : ℕ) → interned.Takes rows new r o → IsKeptAs rows r o → ys ≡ xs → IsAtRest b u xs rows ds room → IsAtRest b u ys new ds room
+shared_rest b u xs ys rows new ds room r o takes was pool p = subst (λ (zs : List (Option Object)). IsAtRest b u zs new ds room) (sym pool) (record {
+  joined = p.joined;
+  acyclic = p.acyclic;
+  none = p.none;
+  calm = p.calm;
+  roomy = p.roomy;
+  records = records_shared b xs rows new r o takes was p.records;
+})
 
 -- the record that was taken is the one that was asked for
 pub content_is : (e : Option (interned.Kept AdjacencyRecord)) (k : interned.Kept AdjacencyRecord) (r : AdjacencyRecord) → option_map (λ (j : interned.Kept AdjacencyRecord). j.content) e ≡ Some r → e ≡ Some k → r ≡ k.content

@@ -1,5 +1,5 @@
 -- The objects of adjacency records through stores, sweeps and scans.
-use Rattle.std.proofs.Common.{arith, ◌≡◌, ℕ, ◌+◌, ◌*◌, ◌-◌, ◌<◌, List, [], ◌∷◌, Option, Some, None, refl, sym, ◌∙◌, ap, subst}
+use Rattle.std.proofs.Common.{arith, ◌≡◌, ℕ, ◌+◌, ◌*◌, ◌-◌, ◌<◌, List, [], ◌∷◌, length, Option, Some, None, refl, sym, ◌∙◌, ap, subst}
 use Rattle.std.proofs.Common.{Bool, true, false, inl, inr}
 use Rattle.std.specs.Prelude.{◌==◌, if◌then◌else◌}
 use Rattle.std.proofs.lemmas.Bool.{cases_eq}
@@ -15,12 +15,12 @@ use Rattle.fib_pool.specs.Objects.{at, count_in, count_of, with_count, IsLive}
 use Rattle.fib_pool.specs.Records.{IsAdjacency, IsKeptAs}
 use Rattle.fib_pool.proofs.Pools.{live_at}
 use Rattle.fib_board.specs.Boards.{Board, word_in, union_of, board_stored, board_scanned, board_scans, edge_of}
-use Rattle.fib_plane.specs.Planes.{IsHeld, IsSwept, IsUncounted, counted_more, uncounted}
-use Rattle.fib_plane.specs.Sound.{AreRecords, record_word}
+use Rattle.fib_plane.specs.Planes.{Plane, IsHeld, IsSwept, IsUncounted, counted_more, uncounted}
+use Rattle.fib_plane.specs.Sound.{AreRecords, IsInRange, IsPlane, record_word}
 use Rattle.fib_plane.specs.inner.Joined.{IsJoined}
 use Rattle.fib_plane.proofs.Boarding.{at_other, kind_same, word_other}
 use Rattle.fib_plane.proofs.Holding.{held_stays}
-use Rattle.fib_plane.proofs.Storing.{hold_stored, left_live, owner_is}
+use Rattle.fib_plane.proofs.Storing.{hold_stored, into_after, left_live, less, more, owner_is}
 
 -- what is taken afterwards was taken before as the same kind
 abbrev pub KeepsKinds : List (Option Object) → List (Option Object) → Type 0
@@ -34,6 +34,7 @@ module _ (b c : Board) (xs ys : List (Option Object)) (rows : List (Kept Adjacen
     other = r.other;
     held = λ o k e. held o (r.held o k e);
     words = λ o s k e lt. words o s k e lt ∙ r.words o s k e lt;
+    ranges = r.ranges;
   }
     where
       adjacency : (o : ℕ) (k : Kept AdjacencyRecord) → kept_of rows o ≡ Some k → IsAdjacency ys o
@@ -90,6 +91,39 @@ records_stored b u xs h rows r k w inside source target apart =
     words : (o s : ℕ) (j : Kept AdjacencyRecord) → kept_of rows o ≡ Some j → s < 16 → word_in (board_stored b k w) (16 * o + s) ≡ word_in b (16 * o + s)
     words o s j e lt = word_other b k (16 * o + s) w (λ same. (let own : owner k ≡ o = ap owner (sym same) ∙ owner_is o s lt in let bad : None ≡ Some j = sym apart ∙ (ap (λ (q : ℕ). kept_of rows q) own ∙ e) in absurd (let no_kept : ⊥ = cc in no_kept)))
 
+-- a plane's books, as its parts keep them
+abbrev pub books_of : Board → edges.Kept
+books_of b = record { union = union_of b; workers = b.workers; left = []; spare = 0 }
+
+pub joined_of : (p : Plane) → IsPlane p → length (union_of p.board).retired < 4294967296 → IsJoined p.board (books_of p.board) p.objects
+joined_of p told short = record {
+  size = told.size;
+  long = told.board.long;
+  few = (let m = told.board.limits.most in omega arith);
+  workers = refl;
+  same = refl;
+  left = refl;
+  short = short;
+  counted = told.counted;
+  root = told.root;
+  free = told.free;
+}
+
+-- a store changes counts by the edges that come and leave
+pub stored_recounts : (b : Board) (u : edges.Kept) (xs : List (Option Object)) → IsJoined b u xs → (k : ℕ) (w : Word) → k < length b.union.cells → IsLive xs (owner k) → ((y : ℕ) → edge_of w ≡ Some y → IsLive xs y)
+    → IsUncounted b (board_stored b k w) xs (uncounted (left_at_once (union_of b) k) (counted_more (edge_of w) xs))
+stored_recounts b u xs h k w here source target =
+    let mid : List (Option Object) = counted_more (edge_of w) xs in
+    let left = left_live b u xs h k w here source target in
+    let m = more b u xs h k w here source target (edge_of w) target in
+    let l = less b u xs h k w here source target (left_at_once (union_of b) k) mid left in
+    record {
+      size = l.2 ∙ m.2;
+      counts = λ o. (let a = m.0 o in let d = l.0 o in let i = into_after b u xs h k w here source target o in omega arith);
+      none = λ o e. m.1 o (l.1 o e);
+      kinds = kinds_then xs mid (uncounted (left_at_once (union_of b) k) mid) (kinds_more xs (edge_of w) target) (kinds_less mid (left_at_once (union_of b) k) left);
+    }
+
 -- a hold of another object ends
 pub records_released : (b : Board) (xs : List (Option Object)) (rows : List (Kept AdjacencyRecord)) → AreRecords b xs rows → (o : ℕ) → IsLive xs o → kept_of rows o ≡ None → AreRecords b (with_count xs o (count_of xs o - 1)) rows
 records_released b xs rows r o live apart = record {
@@ -97,6 +131,7 @@ records_released b xs rows r o live apart = record {
   other = r.other;
   held = λ z k e. (let h = r.held z k e in let c : count_of (with_count xs o (count_of xs o - 1)) z ≡ count_of xs z = ap count_in (at_else z k e) in omega arith);
   words = r.words;
+  ranges = r.ranges;
 }
   where
     at_else : (z : ℕ) (k : Kept AdjacencyRecord) → kept_of rows z ≡ Some k → at (with_count xs o (count_of xs o - 1)) z ≡ at xs z
@@ -123,7 +158,7 @@ lowered_from (Some j) k is = by_test (j.users == 1) is
     by_test false same = (let one : record { id = j.id; content = j.content; users = j.users - 1 } ≡ k = cc in (j, refl, ap (λ (i : Kept AdjacencyRecord). i.content) one))
 
 -- what is kept afterwards was kept before
-given_from : (rows new : List (Kept AdjacencyRecord)) (o : ℕ) → Gives rows new o → (z : ℕ) (k : Kept AdjacencyRecord) → kept_of new z ≡ Some k → (j : Kept AdjacencyRecord) × (kept_of rows z ≡ Some j) × (j.content ≡ k.content)
+pub given_from : (rows new : List (Kept AdjacencyRecord)) (o : ℕ) → Gives rows new o → (z : ℕ) (k : Kept AdjacencyRecord) → kept_of new z ≡ Some k → (j : Kept AdjacencyRecord) × (kept_of rows z ≡ Some j) × (j.content ≡ k.content)
 given_from rows new o g z k e = elim (cases_eq z o) [
   | inl same ↦ (let was = lowered_from (kept_of rows o) k (sym g.given ∙ (ap (λ (q : ℕ). kept_of new q) (sym same) ∙ e)) in (was.0, ap (λ (q : ℕ). kept_of rows q) same ∙ was.1, was.2))
   | inr ne ↦ (k, sym (g.others z ne) ∙ e, refl)
@@ -135,6 +170,7 @@ records_given b xs rows new o g r = record {
   other = λ z k e. (let was = given_from rows new o g z k e in r.other z was.0 was.1);
   held = λ z k e. (let was = given_from rows new o g z k e in r.held z was.0 was.1);
   words = λ z s k e lt. (let was = given_from rows new o g z k e in r.words z s was.0 was.1 lt ∙ ap (λ (c : AdjacencyRecord). record_word c s) was.2);
+  ranges = λ z k e. (let was = given_from rows new o g z k e in subst IsInRange was.2 (r.ranges z was.0 was.1));
 }
 
 lowered_last : (e : Option (Kept AdjacencyRecord)) → users_in e ≡ 1 → lowered e ≡ None
@@ -151,6 +187,7 @@ records_shared b xs rows new r o t was ok = record {
   other = λ z k e. (let j = before z k e in ok.other z j.0 j.1);
   held = λ z k e. (let j = before z k e in ok.held z j.0 j.1);
   words = λ z s k e lt. (let j = before z k e in ok.words z s j.0 j.1 lt ∙ ap (λ (c : AdjacencyRecord). record_word c s) j.2);
+  ranges = λ z k e. (let j = before z k e in subst IsInRange j.2 (ok.ranges z j.0 j.1));
 }
   where
     before : (z : ℕ) (k : Kept AdjacencyRecord) → kept_of new z ≡ Some k → (j : Kept AdjacencyRecord) × (kept_of rows z ≡ Some j) × (j.content ≡ k.content)

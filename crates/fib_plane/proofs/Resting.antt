@@ -63,6 +63,7 @@ module _ (b : Board) (u : Kept) (xs : List (Option Object)) (rows : List (intern
       other = p.records.other;
       held = λ z k e. (let h = p.records.held z k e in let c : count_of (set xs o (as_new kind)) z ≡ count_of xs z = ap count_in (taken_else z (not_free z k e)) in omega arith);
       words = p.records.words;
+      ranges = p.records.ranges;
     }
 
     pub taken_plane : IsAtRest b u (set xs o (as_new kind)) rows ds room
@@ -215,7 +216,7 @@ moved_rest b c u xs rows ds room same p = subst (λ (q : Board). IsAtRest q u xs
   none = p.none;
   calm = p.calm;
   roomy = p.roomy;
-  records = record { adjacencies = p.records.adjacencies; other = p.records.other; held = p.records.held; words = p.records.words };
+  records = record { adjacencies = p.records.adjacencies; other = p.records.other; held = p.records.held; words = p.records.words; ranges = p.records.ranges };
 })
 
 pub begun_rest : (b c : Board) (next : Tables) (u : Kept) (xs : List (Option Object)) (rows : List (interned.Kept AdjacencyRecord)) (ds : List ℕ) (room : ℕ) → c ≡ board_begun b next → IsAtRest b u xs rows ds room → IsAtRest c u xs rows ds room

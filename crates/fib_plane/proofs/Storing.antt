@@ -44,7 +44,7 @@ module _ (b : Board) (u : Kept) (xs : List (Option Object)) (h : IsJoined b u xs
     after = board_stored b k w
 
     -- one count more
-    more : (e : Option ℕ) → ((y : ℕ) → e ≡ Some y → IsLive xs y) → ((z : ℕ) → count_of (counted_more e xs) z ≡ count_of xs z + one z e) × ((z : ℕ) → at (counted_more e xs) z ≡ None → at xs z ≡ None) × (length (counted_more e xs) ≡ length xs)
+    pub more : (e : Option ℕ) → ((y : ℕ) → e ≡ Some y → IsLive xs y) → ((z : ℕ) → count_of (counted_more e xs) z ≡ count_of xs z + one z e) × ((z : ℕ) → at (counted_more e xs) z ≡ None → at xs z ≡ None) × (length (counted_more e xs) ≡ length xs)
     more None live = (λ z. omega arith, λ z q. q, refl)
     more (Some y) live =
         let x = live_at xs y (live y refl) in (
@@ -59,7 +59,7 @@ module _ (b : Board) (u : Kept) (xs : List (Option Object)) (h : IsJoined b u xs
           length-set xs y _,
         )
 
-    into_after : (z : ℕ) → into (union_of after) z + one z (left_at_once (union_of b) k) ≡ into (union_of b) z + one z (edge_of w)
+    pub into_after : (z : ℕ) → into (union_of after) z + one z (left_at_once (union_of b) k) ≡ into (union_of b) z + one z (edge_of w)
     into_after z = into_stored b k w z here
 
     abbrev pub mid : List (Option Object)
@@ -75,7 +75,7 @@ module _ (b : Board) (u : Kept) (xs : List (Option Object)) (h : IsJoined b u xs
         omega arith
 
     -- one count less
-    less : (e : Option ℕ) (ys : List (Option Object)) → ((y : ℕ) → e ≡ Some y → IsLive ys y) → ((z : ℕ) → count_of (uncounted e ys) z + one z e ≡ count_of ys z) × ((z : ℕ) → at (uncounted e ys) z ≡ None → at ys z ≡ None) × (length (uncounted e ys) ≡ length ys)
+    pub less : (e : Option ℕ) (ys : List (Option Object)) → ((y : ℕ) → e ≡ Some y → IsLive ys y) → ((z : ℕ) → count_of (uncounted e ys) z + one z e ≡ count_of ys z) × ((z : ℕ) → at (uncounted e ys) z ≡ None → at ys z ≡ None) × (length (uncounted e ys) ≡ length ys)
     less None ys live = (λ z. omega arith, λ z q. q, refl)
     less (Some y) ys live =
         let x = live_at ys y (live y refl) in

@@ -1,8 +1,8 @@
 -- Facts on the planes of the tests: over a fresh board of 64 objects and two workers.
-use Rattle.std.proofs.Common.{arith, ◌≡◌, ◌≢◌, ◌<◌, ◌≤◌, ◌+◌, ◌*◌, inl, inr, ⊎_elim, ℕ, List, [], length, Option, Some, None, refl, sym, ap, ◌∙◌, subst, get_or-set_same}
+use Rattle.std.proofs.Common.{arith, ◌≡◌, ◌<◌, ◌+◌, inr, ⊎_elim, ℕ, List, [], length, Option, Some, None, refl, sym, ap, ◌∙◌, subst, get_or-set_same}
 use Rattle.std.specs.Prelude.{Contains, IsSome, is_some, false, slice_get, slice_index, slice_index_or}
 use Rattle.fib_interned.proofs.Finding.{get_or_at}
-use Rattle.fib_union.specs.Unions.{Kept as Edges, owner, into}
+use Rattle.fib_union.specs.Unions.{into}
 use Rattle.fib_lawful.proofs.Begins.{drop_at, falses}
 use Rattle.fib_union.proofs.Stores.{some_none}
 use Rattle.fib_plainboard.proofs.Passing.{some_is}
@@ -22,14 +22,14 @@ use Rattle.fib_plane.specs.Planes.{Holds, IsHeld, IsSwept, Plane, leads_from}
 use Rattle.fib_plane.specs.Puts.{IsPut, IsStored, stored_objects}
 use Rattle.fib_plane.specs.Records.{GaveRecord, TookRecord}
 use Rattle.fib_plane.specs.Sound.{IsPlane}
-use Rattle.fib_plane.specs.declared.put.Put.{Put}
-use Rattle.fib_plane.specs.declared.put.Put.TheVariants as puts
+use Rattle.fib_joined.specs.declared.put.Put.{Put}
+use Rattle.fib_joined.specs.declared.put.Put.TheVariants as puts
 use Rattle.fib_plane.specs.inner.Joined.{IsJoined}
 use Rattle.fib_plane.specs.inner.Young.{IsLinked, IsYoung}
 use Rattle.fib_plane.proofs.Holding.{held_stays}
-use Rattle.fib_plane.proofs.Sweeping.{swept_allows}
 use Rattle.fib_plane.proofs.Storing.{hold_stored}
 use Rattle.fib_plane.proofs.Boarding.{word_other}
+use Rattle.fib_plane.proofs.Recording.{books_of, joined_of}
 use Rattle.fib_pool.proofs.Keeping.{kept_contains}
 use Rattle.fib_plane.proofs.Beginning.{no_edge}
 
@@ -112,24 +112,6 @@ contents_once rows j k apart (m, lt, is) (n, less, e) same =
 
 pub one_used : (rows : List (Kept AdjacencyRecord)) (r : AdjacencyRecord) (x most : ℕ) → AreInterned rows → 1 < most → kept_of rows x ≡ Some (record { id = x; content = r; users = 1 }) → IsUsedLess rows r most
 one_used rows r x most apart lt one k there same = (let is = contents_once rows (record { id = x; content = r; users = 1 }) k apart (kept_contains rows x _ one) there (sym same) in let users : 1 ≡ k.users = ap (λ (q : Kept AdjacencyRecord). q.users) is in omega arith)
-
--- a plane's books, as its parts keep them
-abbrev books_of : Board → Edges
-books_of b = record { union = union_of b; workers = b.workers; left = []; spare = 0 }
-
-joined_of : (p : Plane) → IsPlane p → length (union_of p.board).retired < 4294967296 → IsJoined p.board (books_of p.board) p.objects
-joined_of p told short = record {
-  size = told.size;
-  long = told.board.long;
-  few = (let m = told.board.limits.most in omega arith);
-  workers = refl;
-  same = refl;
-  left = refl;
-  short = short;
-  counted = told.counted;
-  root = told.root;
-  free = told.free;
-}
 
 -- what a put asks of what is live
 pub held_live : (p : Plane) (o : ℕ) → Holds p o → IsLive p.objects o

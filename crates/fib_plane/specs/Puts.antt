@@ -8,8 +8,8 @@ use Rattle.fib_core.specs.Words.{IsRoomy}
 use Rattle.fib_pool.specs.declared.object.Object.{Object}
 use Rattle.fib_board.specs.Boards.{Board, edge_of, union_of, word_in, board_stored}
 use Rattle.fib_board.specs.May.{Allows, IsReached, MayChange, MayEmpty, Serves}
-use Rattle.fib_plane.specs.declared.put.Put.{Put}
-use Rattle.fib_plane.specs.declared.put.Put.TheVariants as puts
+use Rattle.fib_joined.specs.declared.put.Put.{Put}
+use Rattle.fib_joined.specs.declared.put.Put.TheVariants as puts
 use Rattle.fib_plane.specs.Planes.{Plane, Holds, IsSwept, counted_more, uncounted}
 
 -- the edge from the cell k would close a cycle in the union of current and retired edges

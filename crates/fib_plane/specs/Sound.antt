@@ -1,5 +1,5 @@
 -- What holds of every plane between two calls.
-use Rattle.std.specs.Prelude.{◌≡◌, ◌≢◌, ℕ, zero, suc, ◌+◌, ◌*◌, ◌<◌, ◌≤◌, List, Option, Some, None, length}
+use Rattle.std.specs.Prelude.{◌≡◌, ◌≢◌, ℕ, zero, suc, ◌+◌, ◌*◌, ◌^◌, ◌<◌, ◌≤◌, List, Option, Some, None, IfSome, length}
 use Rattle.fib_interned.specs.Interned.{Kept, kept_of, AreInterned}
 use Rattle.fib_reach.specs.Walks.{IsAcyclic}
 use Rattle.fib_union.specs.Unions.{owner, Edge, into}
@@ -26,6 +26,12 @@ record_word r (suc zero) = words.Plain r.next_hop
 record_word r (suc (suc zero)) = mac_word r.mac
 record_word r (suc (suc (suc s))) = words.Drop
 
+-- its numbers have their room
+pub record IsInRange (r : AdjacencyRecord) : Type 0 where
+  pub interface : r.interface < 2 ^ 32
+  pub next_hop : r.next_hop < 2 ^ 32
+  pub mac : IfSome r.mac (λ m. m < 2 ^ 48)
+
 -- each record that is kept has an object of its own, which is held and holds the record's words
 pub record AreRecords (b : Board) (objects : List (Option Object)) (rows : List (Kept AdjacencyRecord)) : Type 0 where
   pub adjacencies : AreAdjacencies rows objects
@@ -33,6 +39,7 @@ pub record AreRecords (b : Board) (objects : List (Option Object)) (rows : List 
   pub held : (o : ℕ) (k : Kept AdjacencyRecord) → kept_of rows o ≡ Some k → IsHeld b objects o
   pub words : (o s : ℕ) (k : Kept AdjacencyRecord) → kept_of rows o ≡ Some k → s < 16
       → word_in b (16 * o + s) ≡ record_word k.content s
+  pub ranges : (o : ℕ) (k : Kept AdjacencyRecord) → kept_of rows o ≡ Some k → IsInRange k.content
 
 pub record IsPlane (p : Plane) : Type 0 where
   pub board : IsBoard p.board

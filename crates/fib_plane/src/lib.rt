@@ -10,14 +10,13 @@ mod crew;
 pub mod laws;
 mod passes;
 mod plane;
-mod put;
 mod records;
 mod replace;
 mod scan;
 mod sweep;
 
+pub use fib_joined::Put;
 pub use plane::Plane;
-pub use put::Put;
 
 #[cfg(test)]
 mod tests;

@@ -14,11 +14,11 @@ ghost use Rattle.fib_plane.specs.Records.{GaveRecord, TookRecord, given_objects}
 ghost use Rattle.fib_plane.specs.Sound.{IsPlane};
 
 use crate::counted::{Cell, Counted};
-use crate::put::Put;
 use crate::{records, replace, scan, sweep};
 use fib_addr::{Addr, Mac};
 use fib_board::Board;
 use fib_core::{Version, Word};
+use fib_joined::Put;
 use fib_pool::{AdjTable, AdjacencyRecord, Kind, Pool};
 use fib_resolve::Tables;
 use fib_union::Union;

@@ -69,6 +69,7 @@ pub(crate) fn fill<B: Board>(
     ensures interface { kept.now.interface < 2 ^ 32 }
     ensures next_hop { kept.now.next_hop < 2 ^ 32 }
     ensures words { IsRoomy (mac_word kept.now.mac) }
+    ensures mac { IfSome kept.now.mac (λ m. m < 2 ^ 48) }
     ensures spare { union.old.spare ≤ union.new.spare }
 {
     let interface = kept.interface as u64;

@@ -2,7 +2,7 @@
 ghost use Rattle.std.specs.Prelude.{IfOk, [], ◌+◌, ◌<◌, ◌≡◌, ◌≤◌};
 ghost use Rattle.fib_pool.specs.Objects.{fresh_objects};
 ghost use Rattle.fib_plainboard.specs.Passes.{fresh_plain};
-ghost use Rattle.fib_plane.specs.declared.put.Put.TheVariants as puts;
+ghost use Rattle.fib_joined.specs.declared.put.Put.TheVariants as puts;
 ghost use Rattle.fib_plane.specs.Planes.{Holds};
 ghost use Rattle.fib_plane.specs.inner.Young.{IsLinked, IsYoung};
 

@@ -1,5 +1,5 @@
 -- A fresh plane has no edge.
-use Rattle.std.proofs.Common.{inl, inr, ◌≡◌, ℕ, ◌+◌, ◌*◌, ◌<◌, Bool, true, false, true≢false, [], refl, sym, ◌∙◌, ap, subst}
+use Rattle.std.proofs.Common.{inl, inr, ◌≡◌, ℕ, ◌+◌, ◌*◌, true≢false, [], refl, sym, ◌∙◌, ap, subst}
 use Rattle.std.specs.Prelude.{replicate, slice_index}
 use Rattle.fib_core.specs.declared.word.Word.{Word}
 use Rattle.fib_core.specs.declared.word.Word.TheVariants as words
@@ -7,7 +7,7 @@ use Rattle.fib_core.specs.Words.{decoded, goes}
 use Rattle.fib_core.specs.Union as core
 use Rattle.fib_core.specs.Union.{Union, IsBucketWord}
 use Rattle.fib_core.proofs.Numbers.{zeros, decoded-zero, goes-zero}
-use Rattle.fib_board.specs.Boards.{Board, IsFresh, word_in}
+use Rattle.fib_board.specs.Boards.{Board, IsFresh}
 use Rattle.fib_plane.specs.Planes.{Plane}
 use Rattle.fib_plane.specs.Sound as sound
 use Rattle.fib_joined.specs.View.{Goes, IsPlane, leads}

@@ -6,3 +6,9 @@ pub mod Promising
 pub mod Taking
 pub mod Beginning
 pub mod Scanning
+pub mod Storing
+pub mod Changing
+pub mod Putting
+pub mod Interning
+pub mod Recording
+pub mod Alone

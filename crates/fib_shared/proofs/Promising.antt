@@ -1,6 +1,6 @@
 -- What is promised in terms of the view is promised in terms of the board.
-use Rattle.std.proofs.Common.{arith, ◌≡◌, ◌≢◌, ℕ, zero, suc, ◌+◌, ◌*◌, ◌%◌, ◌<◌, ◌⊎◌, inl, inr, ⊎_elim, Bool, true, false, not, List, [], ◌∷◌, map, Option, Some, None, refl, sym, ◌∙◌, ap, subst}
-use Rattle.std.specs.Prelude.{slice_index, slice_index_or}
+use Rattle.std.proofs.Common.{arith, ◌≡◌, ℕ, zero, suc, ◌+◌, ◌*◌, ◌%◌, ◌<◌, inl, inr, Bool, true, false, not, List, [], ◌∷◌, Option, Some, refl, sym, ◌∙◌, ap, subst}
+use Rattle.std.specs.Prelude.{slice_index_or}
 use Rattle.std.specs.List.{list_any}
 use Rattle.std.proofs.lemmas.Bool.{false≢true, true≢false}
 use Rattle.fib_addr.specs.Prefixes.{Prefix}
@@ -11,12 +11,11 @@ use Rattle.fib_resolve.specs.declared.aims.Aim.{Aim}
 use Rattle.fib_resolve.specs.declared.aims.Aim.TheVariants as aims
 use Rattle.fib_union.specs.Unions.{owner}
 use Rattle.fib_core.specs.declared.word.Word.{Word}
-use Rattle.fib_core.specs.declared.word.Word.TheVariants as words
 use Rattle.fib_core.specs.Words.{decoded}
 use Rattle.fib_core.specs.Walk.{hop_of, word_at}
 use Rattle.fib_core.specs.Walk as walks
 use Rattle.fib_core.specs.Union as core
-use Rattle.fib_steady.specs.Aims.{IsLasting, WantsAlike}
+use Rattle.fib_steady.specs.Aims.{IsLasting}
 use Rattle.fib_steady.specs.Names as names
 use Rattle.fib_steady.specs.Names.{Names}
 use Rattle.fib_steady.specs.Promise as steady
@@ -25,9 +24,8 @@ use Rattle.fib_board.specs.Boards.{Board, word_in}
 use Rattle.fib_board.specs.May as may
 use Rattle.fib_plane.specs.Planes.{Plane}
 use Rattle.fib_joined.specs.View.{View, Goes, adjacency_end}
-use Rattle.fib_joined.specs.Promise as joined
 use Rattle.fib_joined.specs.Promise.{IsEndWord, IsAimed, HasPaths, IsPromised, IsWalked, Allows, Serves}
-use Rattle.fib_shared.specs.Shares.{cell_in, is_alone, promise_of, view_of}
+use Rattle.fib_shared.specs.Shares.{is_alone, promise_of, view_of}
 use Rattle.fib_shared.proofs.Seeing.{cell_is, goes_up}
 
 -- a view with the board's cells and edges

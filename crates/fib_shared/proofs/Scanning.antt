@@ -1,20 +1,19 @@
 -- A scan by the view: copies leave, and what they alone kept in use.
-use Rattle.std.proofs.Common.{arith, ◌≡◌, ◌≢◌, ℕ, zero, suc, ◌+◌, ◌*◌, ◌-◌, ◌<◌, ◌≤◌, ◌⊎◌, inl, inr, Bool, true, false, List, [], ◌∷◌, length, map, Option, Some, None, refl, sym, ◌∙◌, ap, subst}
+use Rattle.std.proofs.Common.{arith, ◌≡◌, ℕ, zero, suc, ◌+◌, ◌*◌, inl, inr, Bool, true, false, List, [], ◌∷◌, length, map, Option, None, refl, sym, ◌∙◌, ap, subst}
 use Rattle.std.specs.Prelude.{Contains}
 use Rattle.std.proofs.lemmas.List.{length-map}
 use Rattle.fib_union.specs.Marks.{looked, all_passed}
-use Rattle.fib_union.specs.Unions.{owner, into}
+use Rattle.fib_union.specs.Unions.{owner}
 use Rattle.fib_core.specs.declared.word.Word.{Word}
 use Rattle.fib_core.specs.declared.word.Word.TheVariants as words
 use Rattle.fib_core.specs.Union.{Retired as Copy, drop_if, remark, scan_retired}
-use Rattle.fib_pool.specs.declared.object.Object.{Object}
 use Rattle.fib_pool.specs.declared.object.AdjacencyRecord.{AdjacencyRecord}
-use Rattle.fib_pool.specs.Objects.{at, count_of}
-use Rattle.fib_board.specs.Boards.{Board, union_of, word_in, board_scanned, board_scans}
+use Rattle.fib_pool.specs.Objects.{at}
+use Rattle.fib_board.specs.Boards.{Board, word_in, board_scanned, board_scans}
 use Rattle.fib_plane.specs.Planes.{Plane, IsHeld}
 use Rattle.fib_plane.specs.Planes as plane
 use Rattle.fib_plane.specs.Sound as sound
-use Rattle.fib_joined.specs.View.{View, Retired, Goes, IsPlane, IsScanned}
+use Rattle.fib_joined.specs.View.{Retired, Goes, IsPlane, IsScanned}
 use Rattle.fib_shared.specs.Shares.{copy_seen, promise_of, record_in, users_of_record, view_of}
 use Rattle.fib_shared.proofs.Seeing.{held_same}
 use Rattle.fib_shared.proofs.Sweeping.{ply_kept, adjacency_kept, free_kept, sound_swept, swept_seen, swept_held, swept_stores}

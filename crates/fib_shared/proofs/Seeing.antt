@@ -1,17 +1,16 @@
 -- What the view shows is there: edges, holds and records.
-use Rattle.std.proofs.Common.{arith, ◌≡◌, ◌≢◌, ℕ, zero, suc, ◌+◌, ◌*◌, ◌%◌, ◌<◌, ◌≤◌, ◌⊎◌, inl, inr, ⊎_elim, Bool, true, false, not, ◌&&◌, ◌||◌, ltb, eqb, eq-eqb, eqb-true, List, [], ◌∷◌, map, Option, Some, None, refl, sym, ◌∙◌, ap, subst}
-use Rattle.std.specs.Prelude.{Contains, slice_index, slice_get, find, option_map, if◌then◌else◌}
+use Rattle.std.proofs.Common.{arith, ◌≡◌, ◌≢◌, ℕ, zero, suc, ◌+◌, ◌*◌, ◌%◌, ◌<◌, inl, inr, Bool, true, false, not, ◌&&◌, ltb, eqb, eq-eqb, eqb-true, List, [], ◌∷◌, map, Option, Some, None, refl, sym, ◌∙◌, ap, subst}
+use Rattle.std.specs.Prelude.{Contains, slice_index, option_map, if◌then◌else◌}
 use Rattle.std.proofs.lemmas.Bool.{false≢true, lt-ltb, ltb-true}
 use Rattle.fib_list.proofs.Booleans.{and_both}
 use Rattle.fib_interned.specs.Interned.{Kept, kept_of, AreInterned}
-use Rattle.fib_interned.proofs.Finding.{find_place, find_only, some_is, none_some, contains_at}
-use Rattle.fib_interned.proofs.Books.{kept_id}
+use Rattle.fib_interned.proofs.Finding.{find_place, find_only, some_is, none_some}
 use Rattle.fib_union.specs.Unions as edges
 use Rattle.fib_union.specs.Unions.{owner, into}
 use Rattle.fib_union.proofs.Counts.{has_in_counted}
 use Rattle.fib_core.specs.declared.word.Word.{Word}
 use Rattle.fib_core.specs.declared.word.Word.TheVariants as words
-use Rattle.fib_core.specs.Words.{decoded, is_edge, value_of, target}
+use Rattle.fib_core.specs.Words.{decoded, is_edge, value_of}
 use Rattle.fib_core.specs.Union as core
 use Rattle.fib_core.specs.Union.{Retired as Copy, AnyOf}
 use Rattle.fib_core.proofs.Numbers.{goes_of, target_of, cell_of}
@@ -23,7 +22,7 @@ use Rattle.fib_pool.specs.Objects as pool
 use Rattle.fib_board.specs.Boards.{Board, union_of, word_in}
 use Rattle.fib_plane.specs.Planes.{Plane, IsHeld, Holds}
 use Rattle.fib_plane.specs.Sound.{IsPlane}
-use Rattle.fib_joined.specs.View.{View, Retired, Goes, HasIn, IsLive, IsRecord, leads}
+use Rattle.fib_joined.specs.View.{Retired, Goes, IsLive, leads}
 use Rattle.fib_shared.specs.Shares.{cell_in, copy_seen, is_adjacency_at, is_held_in, same_mac, same_record, kept_as, record_in, view_of}
 
 -- edges

@@ -1,36 +1,30 @@
 -- What holds of every plane, as the view shows it.
-use Rattle.std.proofs.Common.{arith, ◌≡◌, ◌≢◌, ℕ, zero, suc, ◌+◌, ◌*◌, ◌<◌, ◌≤◌, inl, inr, Bool, true, false, not, ◌&&◌, ◌||◌, eqb, ne_eqb, List, length, Option, Some, None, refl, sym, ◌∙◌, ap, subst}
-use Rattle.std.specs.Prelude.{option_map, if◌then◌else◌}
-use Rattle.std.proofs.lemmas.Bool.{false≢true}
-use Rattle.std.proofs.lemmas.Bool.{cases_eq}
-use Rattle.fib_interned.specs.Interned.{Kept, users_in, kept_of}
-use Rattle.fib_interned.proofs.Finding.{find_place, some_is, none_some, contains_at}
-use Rattle.fib_interned.proofs.Books.{kept_id}
+use Rattle.std.proofs.Common.{arith, ◌≡◌, ◌≢◌, ℕ, zero, suc, ◌<◌, Bool, true, false, not, ◌&&◌, ◌||◌, eqb, ne_eqb, Option, Some, None, refl, sym, ◌∙◌, ap, subst}
+use Rattle.std.specs.Prelude.{option_map}
+use Rattle.fib_interned.specs.Interned.{Kept, users_in}
+use Rattle.fib_interned.proofs.Finding.{find_place, some_is, contains_at}
 use Rattle.fib_resolve.specs.declared.types.End.TheVariants as answers
 use Rattle.fib_core.specs.declared.word.Word.{Word}
-use Rattle.fib_core.specs.declared.word.Word.TheVariants as words
 use Rattle.fib_core.specs.Words.{value_of}
 use Rattle.fib_core.specs.Union.{IsBucketWord}
 use Rattle.fib_core.specs.Walk.{hop_of, mac_in}
 use Rattle.fib_core.specs.StandsFor.{mac_word}
-use Rattle.fib_pool.specs.declared.object.Object.{Object}
 use Rattle.fib_pool.specs.declared.object.AdjacencyRecord.{AdjacencyRecord}
-use Rattle.fib_pool.specs.Objects.{at, free_in}
+use Rattle.fib_pool.specs.Objects.{at}
 use Rattle.fib_pool.proofs.Pools.{free_few}
-use Rattle.fib_board.specs.Boards.{word_in}
 use Rattle.fib_plane.specs.Planes.{Plane}
 use Rattle.fib_plane.specs.Sound as plane
 use Rattle.fib_plane.specs.Sound.{record_word}
-use Rattle.fib_joined.specs.View.{View, IsPlane, Kinds, IsBalance, adjacency_end, leads}
-use Rattle.fib_shared.specs.Shares.{is_adjacency_at, is_ply_at, is_ply_of, is_held_in, kept_as, record_in, users_of_record, view_of}
-use Rattle.fib_shared.proofs.Seeing.{cell_is, cell_down, goes_down, held_down, kept_down, record_down}
+use Rattle.fib_joined.specs.View.{View, HasRoom, IsPlane, Kinds, IsBalance, adjacency_end, leads}
+use Rattle.fib_shared.specs.Shares.{is_adjacency_at, is_ply_at, kept_as, record_in, view_of}
+use Rattle.fib_shared.proofs.Seeing.{cell_is, cell_down, goes_down, record_down}
 
 mac_no_edge : (m : Option ℕ) (y : ℕ) → leads (mac_word m) y → ⊥
 mac_no_edge None y l = l
 mac_no_edge (Some m) y l = l
 
 -- a record's words are no edges
-record_no_edge : (r : AdjacencyRecord) (s y : ℕ) → leads (record_word r s) y → ⊥
+pub record_no_edge : (r : AdjacencyRecord) (s y : ℕ) → leads (record_word r s) y → ⊥
 record_no_edge r zero y l = l
 record_no_edge r (suc zero) y l = l
 record_no_edge r (suc (suc zero)) y l = mac_no_edge r.mac y l
@@ -55,7 +49,7 @@ or_false false b e f = f
 eqb_not : (x : ℕ) → x ≢ 0 → eqb x 0 ≡ false
 eqb_not x ne = ne_eqb x 0 ne
 
-adjacency_not_held : (root counted adjacency : Bool) → adjacency ≡ true → (not root && (counted && not adjacency)) ≡ false
+pub adjacency_not_held : (root counted adjacency : Bool) → adjacency ≡ true → (not root && (counted && not adjacency)) ≡ false
 adjacency_not_held true counted adjacency e = refl
 adjacency_not_held false true adjacency e = ap not e
 adjacency_not_held false false adjacency e = refl
@@ -113,3 +107,22 @@ module _ (p : Plane) (told : plane.IsPlane p) where
     written = record_written;
     few = (let f = free_few p.objects in let s = told.size in let m = told.board.limits.most in omega arith);
   }
+
+-- room alone changes
+with_spare : (u : View) (n : ℕ) → IsPlane u → IsPlane (record u { spare = n })
+with_spare u n was = record {
+  kinds = record { ply = was.kinds.ply; balance = was.kinds.balance; adjacency = was.kinds.adjacency };
+  slots = was.slots;
+  root = was.root;
+  buckets = was.buckets;
+  recorded = was.recorded;
+  forgotten = was.forgotten;
+  apart = was.apart;
+  records = was.records;
+  plain = was.plain;
+  written = was.written;
+  few = was.few;
+}
+
+pub room_sound : (u v : View) → HasRoom u v → IsPlane u → IsPlane v
+room_sound u v room was = subst IsPlane (sym room.same) (with_spare u v.spare was)

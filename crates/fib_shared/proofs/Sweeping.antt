@@ -3,7 +3,6 @@ use Rattle.std.proofs.Common.{arith, ◌≡◌, ◌≢◌, ℕ, zero, suc, ◌+�
 use Rattle.std.specs.Prelude.{Contains}
 use Rattle.std.proofs.lemmas.Bool.{false≢true, true≢false, cases_eq}
 use Rattle.fib_list.proofs.Lists.{either}
-use Rattle.fib_interned.specs.Interned.{Kept}
 use Rattle.fib_union.specs.Unions.{owner, into}
 use Rattle.fib_union.proofs.Counts.{counted_has_in}
 use Rattle.fib_core.specs.declared.word.Word.{Word}
@@ -22,9 +21,9 @@ use Rattle.fib_board.proofs.Serving.{hangs_aside}
 use Rattle.fib_plane.specs.Planes.{Plane, IsHeld, is_word, filled}
 use Rattle.fib_plane.specs.Planes as plane
 use Rattle.fib_plane.specs.Sound as sound
-use Rattle.fib_joined.specs.View.{View, Retired, Goes, HasIn, IsLive, IsRecord, IsBalance, IsPlane, IsSwept, Stores, Kinds, leads, is_ply_kind}
-use Rattle.fib_shared.specs.Shares.{copy_seen, is_ply_at, is_ply_of, is_adjacency_kind, is_adjacency_at, is_held_in, view_of}
-use Rattle.fib_shared.proofs.Seeing.{leads_edge, edge_leads, cell_is, cell_down, cell_same, goes_down, goes_up, held_down, held_same, live_down, into_down}
+use Rattle.fib_joined.specs.View.{View, Goes, HasIn, IsLive, IsBalance, IsPlane, IsSwept, Stores, Kinds, leads, is_ply_kind}
+use Rattle.fib_shared.specs.Shares.{copy_seen, is_ply_at, is_ply_of, is_adjacency_kind, is_adjacency_at, view_of}
+use Rattle.fib_shared.proofs.Seeing.{edge_leads, cell_is, cell_down, cell_same, goes_down, goes_up, held_same, live_down}
 use Rattle.fib_shared.proofs.Paying.{count_fewer, paid, free_grows}
 use Rattle.fib_shared.proofs.Sounding.{sound_of}
 
@@ -86,14 +85,14 @@ pub edge_live : (u : View) (x s : ℕ) (w : Word) (y : ℕ) → leads w y → Go
 edge_live u x s w y l g = inr (inr (inr (x, s, w, l, g)))
 
 -- where edges only leave and what is in use keeps its kind, what holds of every plane stays
-module _ (u : View) (q : Plane) (told : sound.IsPlane q) (was : IsPlane u) (s : IsSwept u (view_of q)) (held : (y : ℕ) → (view_of q).is_held y ≡ true → u.is_held y ≡ true) (records : (m : AdjacencyRecord) (x : ℕ) → (view_of q).record_of m ≡ Some x → u.record_of m ≡ Some x) where
+module _ (u : View) (q : Plane) (told : sound.IsPlane q) (fits : Kinds u) (filled_in : (x t : ℕ) → IsBalance u x → t < 16 → IsBucketWord (u.cell x t)) (s : IsSwept u (view_of q)) (held : (y : ℕ) → (view_of q).is_held y ≡ true → u.is_held y ≡ true) (records : (m : AdjacencyRecord) (x : ℕ) → (view_of q).record_of m ≡ Some x → u.record_of m ≡ Some x) where
   abbrev seen : View
   seen = view_of q
 
   leaving : (x t c : ℕ) → Goes seen x t (words.ToPly c) → seen.is_ply x ≡ true
   leaving x t c g = elim (ply_leaves q told x t c g) [
     | inl top ↦ ap seen.is_ply top
-    | inr more ↦ s.kinds x (in_live seen x more) ∙ (was.kinds.ply x t c (s.edges x t c (words.ToPly c) refl g)).0
+    | inr more ↦ s.kinds x (in_live seen x more) ∙ (fits.ply x t c (s.edges x t c (words.ToPly c) refl g)).0
   ]
 
   not_held : (o : ℕ) → u.is_held o ≡ false → seen.is_held o ≡ false
@@ -104,20 +103,23 @@ module _ (u : View) (q : Plane) (told : sound.IsPlane q) (was : IsPlane u) (s : 
 
   swept_kinds : Kinds seen
   swept_kinds = record {
-    ply = λ x t c g. (leaving x t c g, s.kinds c (edge_live seen x t (words.ToPly c) c refl g) ∙ (was.kinds.ply x t c (s.edges x t c (words.ToPly c) refl g)).1);
-    balance = λ x t o g. (let k = was.kinds.balance x t o (s.edges x t o (words.ToBalance o) refl g) in
+    ply = λ x t c g. (leaving x t c g, s.kinds c (edge_live seen x t (words.ToPly c) c refl g) ∙ (fits.ply x t c (s.edges x t c (words.ToPly c) refl g)).1);
+    balance = λ x t o g. (let k = fits.balance x t o (s.edges x t o (words.ToBalance o) refl g) in
         (s.kinds o (edge_live seen x t (words.ToBalance o) o refl g) ∙ k.0, λ r. k.1 (r.0, records r.0 o r.1)));
-    adjacency = λ x t o g. (let k = was.kinds.adjacency x t o (s.edges x t o (words.ToAdjacency o) refl g) in
+    adjacency = λ x t o g. (let k = fits.adjacency x t o (s.edges x t o (words.ToAdjacency o) refl g) in
         (s.kinds o (edge_live seen x t (words.ToAdjacency o) o refl g) ∙ k.0, not_held o k.1));
   }
 
   swept_buckets : (x t : ℕ) → IsBalance seen x → t < 16 → IsBucketWord (seen.cell x t)
   swept_buckets x t b lt =
       let live : IsLive seen x = inr (inl b.0) in
-      subst IsBucketWord (sym (s.cells x t live)) (was.buckets x t (held x b.0, sym (s.kinds x live) ∙ b.1) lt)
+      subst IsBucketWord (sym (s.cells x t live)) (filled_in x t (held x b.0, sym (s.kinds x live) ∙ b.1) lt)
 
-  pub sound_swept : IsPlane seen
-  sound_swept = sound_of q told swept_kinds swept_buckets
+  pub sound_kept : IsPlane seen
+  sound_kept = sound_of q told swept_kinds swept_buckets
+
+pub sound_swept : (u : View) (q : Plane) → sound.IsPlane q → IsPlane u → IsSwept u (view_of q) → ((y : ℕ) → (view_of q).is_held y ≡ true → u.is_held y ≡ true) → ((m : AdjacencyRecord) (x : ℕ) → (view_of q).record_of m ≡ Some x → u.record_of m ≡ Some x) → IsPlane (view_of q)
+sound_swept u q told was s held records = sound_kept u q told was.kinds was.buckets s held records
 
 -- a sweep
 module _ (m q : Plane) (s : plane.IsSwept m.board q.board m.objects q.objects) (told : sound.IsPlane q) (size : length q.objects ≡ length m.objects)

@@ -1,7 +1,7 @@
 -- Objects that are taken and let go.
-use Rattle.std.proofs.Common.{arith, ◌≡◌, ◌≢◌, ℕ, zero, suc, ◌+◌, ◌*◌, ◌-◌, ◌%◌, ◌<◌, ◌≤◌, ◌⊎◌, inl, inr, Bool, true, false, not, ◌&&◌, ◌||◌, ltb, eqb, ne_eqb, List, length, set, Option, Some, None, refl, sym, ◌∙◌, ap, subst, get_or-set_same, get_or-set_other, length-set}
+use Rattle.std.proofs.Common.{arith, ◌≡◌, ◌≢◌, ℕ, ◌+◌, ◌*◌, ◌-◌, ◌≤◌, inl, inr, Bool, true, false, not, ◌&&◌, ◌||◌, ltb, eqb, ne_eqb, List, length, Option, Some, None, refl, sym, ◌∙◌, ap, subst, get_or-set_same, get_or-set_other, length-set}
 use Rattle.std.specs.Prelude.{IfSome, IfNone}
-use Rattle.std.proofs.lemmas.Bool.{false≢true, true≢false, cases_eq, lt-ltb}
+use Rattle.std.proofs.lemmas.Bool.{true≢false, cases_eq, lt-ltb}
 use Rattle.fib_list.proofs.Lists.{either}
 use Rattle.fib_interned.specs.Interned.{Kept, kept_of}
 use Rattle.fib_union.specs.Unions.{owner, into}
@@ -21,8 +21,8 @@ use Rattle.fib_plane.specs.Planes.{Plane, IsHeld, released}
 use Rattle.fib_plane.specs.Planes as plane
 use Rattle.fib_plane.specs.Sound as sound
 use Rattle.fib_plane.proofs.Boarding.{at_other, count_same, none_same, kind_same}
-use Rattle.fib_joined.specs.View.{View, Goes, IsLive, IsRecord, IsBalance, IsPlane, IsTaken, IsLetGo, Kinds, leads, is_ply_kind}
-use Rattle.fib_shared.specs.Shares.{is_ply_at, is_ply_of, is_adjacency_kind, is_adjacency_at, is_held_in, record_in, users_of_record, view_of}
+use Rattle.fib_joined.specs.View.{View, Goes, IsPlane, IsTaken, IsLetGo, leads, is_ply_kind}
+use Rattle.fib_shared.specs.Shares.{is_ply_at, is_adjacency_kind, is_adjacency_at, record_in, users_of_record, view_of}
 use Rattle.fib_shared.proofs.Seeing.{cell_is, goes_down, held_down, held_same, record_down, into_down}
 use Rattle.fib_shared.proofs.Sounding.{sound_of}
 use Rattle.fib_shared.proofs.Sweeping.{none_some, ply_kept, adjacency_kept, free_kept, sound_swept, swept_seen, swept_held, swept_stores}

@@ -1,6 +1,6 @@
 -- What holds of every plane has one proof at most, so that a type may keep it.
-use Rattle.std.proofs.Common.{◌≡◌, ◌∙◌, ℕ, zero, suc, refl, Option, Some, None, Bool, sym, ap}
-use mathlib.Core.HLevel.{Σ_prop_path, retract_hlevel}
+use Rattle.std.proofs.Common.{◌≡◌, ◌∙◌, ℕ, zero, suc, refl, Option, Some, None, sym, ap}
+use mathlib.Core.HLevel.{Σ_prop_path, collapsible→set}
 use Rattle.std.proofs.Math.Bool.{Bool-set}
 use Rattle.std.proofs.Math.Nat.{ℕ_set}
 use Rattle.std.proofs.Math.Bridge.{le_prop}
@@ -25,29 +25,32 @@ option_set : IsSet (Option ℕ)
 option_set = hlevel (ℕ_set, ⊎_set)
 
 -- an end by its number and its parts
-coded : End → ℕ × (ℕ × (ℕ × Option ℕ))
+coded : End → ℕ × ℕ × ℕ × Option ℕ
 coded answers.Drop = (0, 0, 0, None)
 coded answers.Receive = (1, 0, 0, None)
 coded (answers.Glean i) = (2, i, 0, None)
 coded (answers.Hop i a m) = (3, i, a, m)
 
-read : ℕ × (ℕ × (ℕ × Option ℕ)) → End
+read : ℕ × ℕ × ℕ × Option ℕ → End
 read (zero, i, a, m) = answers.Drop
 read (suc zero, i, a, m) = answers.Receive
 read (suc (suc zero), i, a, m) = answers.Glean i
 read (suc (suc (suc n)), i, a, m) = answers.Hop i a m
 
 read_coded : (e : End) → read (coded e) ≡ e
+unfolding read coded
 read_coded answers.Drop = refl
 read_coded answers.Receive = refl
 read_coded (answers.Glean i) = refl
 read_coded (answers.Hop i a m) = refl
 
-code_set : IsSet (ℕ × (ℕ × (ℕ × Option ℕ)))
+code_set : IsSet (ℕ × ℕ × ℕ × Option ℕ)
 code_set = hlevel (ℕ_set, option_set)
 
 end_set : IsSet End
-end_set = retract_hlevel 2 read coded read_coded code_set
+end_set = collapsible→set
+    (λ x y p. sym (read_coded x) ∙ (ap read (ap coded p) ∙ read_coded y))
+    (λ x y p q. ap (λ (r : coded x ≡ coded y). sym (read_coded x) ∙ (ap read r ∙ read_coded y)) (code_set (coded x) (coded y) (ap coded p) (ap coded q)))
 
 one_number : (o : Option ℕ) → IsProp ((x : ℕ) × (o ≡ Some x))
 one_number o a b = Σ_prop_path (λ x. option_set o (Some x)) (let e : Some a.0 ≡ Some b.0 = sym a.1 ∙ b.1 in let f : a.0 ≡ b.0 = cc in f)

@@ -6,8 +6,13 @@ ghost use Rattle.fib_joined.specs.View.{IsPlane};
 ghost use Rattle.fib_shared.specs.Props.{IsPlane-prop};
 ghost use Rattle.fib_shared.specs.Shares.{view_of};
 
+use crate::calls;
+use fib_addr::{Addr, Mac};
 use fib_board::Board;
+use fib_core::Word;
+use fib_joined::{Objects, Put};
 use fib_plane::Plane;
+use fib_pool::Kind;
 use std::alloc::{AllocError, Global};
 
 /// A plane whose edges have the kinds of the objects that they join, as the prefix table and the stack of buckets keep it.
@@ -39,4 +44,67 @@ impl<B: Board> Shared<B> {
     {
         self.plane.used()
     }
+}
+
+impl<B: Board> Objects for Shared<B> {
+    ghost use Rattle.fib_shared.specs.Shares.{promise_of, view_of};
+
+    ghost view = { λ s. view_of s.plane };
+
+    ghost promise = { λ s. promise_of s.plane.board };
+
+    fn word(&self, object: u32, slot: u32) -> Word {
+        calls::word(&self.plane, object, slot)
+    }
+
+    fn free(&self) -> u32 {
+        self.plane.free()
+    }
+
+    fn retired(&self) -> u32 {
+        self.plane.retired()
+    }
+
+    fn stored(&self) -> u64 {
+        self.plane.stored()
+    }
+
+    fn spare(&self) -> u32 {
+        self.plane.spare()
+    }
+
+    fn room(&mut self, stores: u32) -> Result<(), AllocError> {
+        calls::room(&mut self.plane, stores)
+    }
+
+    fn put(&mut self, object: u32, slot: u32, word: Word) -> Put {
+        calls::put(&mut self.plane, object, slot, word)
+    }
+
+    fn take(&mut self, kind: Kind) -> Option<u32> {
+        calls::take(&mut self.plane, kind)
+    }
+
+    fn let_go(&mut self, object: u32) {
+        calls::let_go(&mut self.plane, object)
+    }
+
+    fn take_adj(
+        &mut self,
+        interface: u32,
+        next_hop: Addr,
+        mac: Option<Mac>,
+    ) -> Result<Option<u32>, AllocError> {
+        calls::take_adj(&mut self.plane, interface, next_hop, mac)
+    }
+
+    fn give_adj(&mut self, object: u32) {
+        calls::give_adj(&mut self.plane, object)
+    }
+
+    fn scan(&mut self) -> u32 {
+        calls::scan(&mut self.plane)
+    }
+
+    ghost sound = { λ s. s.sound };
 }

@@ -1,7 +1,7 @@
 use Rattle.std.proofs.Common.{arith, ◌∙◌, [], None, ap}
 use Rattle.std.specs.Prelude.{replicate}
 use Rattle.fib_core.specs.declared.word.Word.TheVariants as words
-use Rattle.fib_plane.specs.declared.put.Put.{Put}
+use Rattle.fib_joined.specs.declared.put.Put.{Put}
 use Rattle.fib_plane.specs.Planes.{Holds}
 use Rattle.fib_plane.specs.Puts.{left_by}
 use Rattle.fib_plane.proofs.Firsts.{first_put}

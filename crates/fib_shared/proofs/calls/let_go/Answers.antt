@@ -1,9 +1,5 @@
-use Rattle.std.proofs.Common.{arith, ◌≡◌, ℕ, ◌-◌, true, Some, None, ap, sym, ◌∙◌}
-use Rattle.std.proofs.lemmas.Bool.{cases_eq}
-use Rattle.fib_pool.specs.Objects.{count_of}
-use Rattle.fib_pool.proofs.Pools.{live_at}
-use Rattle.fib_plane.specs.Planes.{Plane, IsHeld, released}
-use Rattle.fib_plane.proofs.Boarding.{at_other}
+use Rattle.std.proofs.Common.{ℕ, Some, ap, ◌∙◌}
+use Rattle.fib_plane.specs.Planes.{IsHeld, released}
 use Rattle.fib_shared.proofs.Seeing.{held_down}
 use Rattle.fib_shared.proofs.Promising.{serves_down, allows_down}
 use Rattle.fib_shared.proofs.Taking.{gone_seen, gone_sound, held_released, unrecorded}

@@ -1,5 +1,3 @@
-use Rattle.std.proofs.Common.{◌≡◌, ℕ, ◌+◌, Option, Some, None, sym, ap, subst}
-use Rattle.std.specs.Prelude.{IfSome, IfNone}
 use Rattle.fib_shared.proofs.Taking.{take_seen, take_sound}
 use Rattle.fib_shared.proofs.calls.take.Goals as goal
 

@@ -9,7 +9,7 @@ use Rattle.fib_pool.specs.Records.{adjacency, IsNew, IsUsedLess, ObjectsFollow, 
 use Rattle.fib_board.specs.May.{Allows, Serves}
 use Rattle.fib_plane.specs.Planes.{Plane, Holds, IsHeld}
 use Rattle.fib_plane.specs.Records.{TookRecord, board_filled}
-use Rattle.fib_plane.proofs.Filling.{same_rest, fresh_idle, fresh_rest, content_is, taken_apart}
+use Rattle.fib_plane.proofs.Filling.{same_rest, fresh_idle, fresh_rest, shared_rest, content_is, taken_apart}
 use Rattle.fib_plane.proofs.plane.Plane.take_adj.Goals as goal
 
 pub take_adj-requires-clause-few : goal.take_adj-requires-clause-few
@@ -47,7 +47,17 @@ invariant_of-self-then-taken g c =
     let is : c.record-record.result ≡ r = content_is (kept_of c.take_adj.new.self o) (record { id = o; content = r; users = users_of rows o + 1 }) c.record-record.result c.record-record.ensures t.takes.taken in
     let e = c.fill.ensures in
     fresh_rest b c.fill.new.board c.self.inside.union c.fill.new.union xs c.take_adj.new.pool rows c.take_adj.new.self c.self.inside.dying.items (vec_capacity c.self.inside.dying) o c.record-record.result
-    c.self.invariant taken (subst (λ (q : AdjacencyRecord). Takes rows c.take_adj.new.self q o) (sym is) t.takes) c.take_adj.ensures.live e.board e.idle e.counts e.interface e.next_hop e.words
+    c.self.invariant taken (subst (λ (q : AdjacencyRecord). Takes rows c.take_adj.new.self q o) (sym is) t.takes) c.take_adj.ensures.live e.board e.idle e.counts e.interface e.next_hop e.words e.mac
+
+pub invariant_of-self-else-taken : goal.invariant_of-self-else-taken
+invariant_of-self-else-taken g c =
+    let xs = c.self.inside.pool in
+    let rows = c.self.inside.table in
+    let o = c.in-Some.taken.object in
+    let r : AdjacencyRecord = adjacency c.args.interface c.args.next_hop c.args.mac in
+    let t : TakesRecord rows c.take_adj.new.self xs c.take_adj.new.pool r c.in-Some.taken = subst (λ (f : Option Taken). IfSome f (λ q. TakesRecord rows c.take_adj.new.self xs c.take_adj.new.pool r q)) c.in-Some.is c.in_ok-found.ensures.taken in
+    let same = subst (λ f. ObjectsFollow f rows r xs c.take_adj.new.pool o) c.if-taken.false t.objects in
+    shared_rest c.self.inside.board c.self.inside.union xs c.take_adj.new.pool rows c.take_adj.new.self c.self.inside.dying.items (vec_capacity c.self.inside.dying) r o t.takes same.0 same.1 c.self.invariant
 
 pub returns-then-taken-clause-took : goal.returns-then-taken-clause-took
 returns-then-taken-clause-took g c =
