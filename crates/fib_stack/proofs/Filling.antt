@@ -8,8 +8,8 @@ use Rattle.fib_core.specs.declared.word.Word.TheVariants as words
 use Rattle.fib_resolve.specs.declared.types.End.{End}
 use Rattle.fib_steady.specs.Names.{Names}
 use Rattle.fib_joined.specs.declared.put.Put.{Put}
-use Rattle.fib_joined.specs.Promise.{Promise, Allows, IsBegun, Serves, EndsIn, IsEndOf, MayPut, adjacency_end}
-use Rattle.fib_joined.specs.View.{View, IsLive, IsBalance, IsPlane, HasKind, IsPut, leads}
+use Rattle.fib_joined.specs.Promise.{Promise, Allows, IsBegun, Serves, EndsIn, IsEndOf, MayPut}
+use Rattle.fib_joined.specs.View.{View, IsLive, IsBalance, IsPlane, HasKind, IsPut, leads, adjacency_end}
 use Rattle.fib_stack.specs.Buckets.{IsLooseBucket}
 use Rattle.fib_stack.specs.Runs.{word_in, Puts, IsReady, AreReady}
 use Rattle.fib_stack.proofs.Promising.{may_put, put_serves}

@@ -8,3 +8,15 @@ pub mod Clearing
 pub mod Listing
 pub mod Filling
 pub mod Cycling
+pub mod Spreading
+pub mod Filled
+pub mod Assembled
+pub mod Taking
+pub mod Woken
+pub mod Readying
+pub mod Ending
+pub mod Joining
+pub mod Underway
+pub mod Left
+pub mod Deferring
+pub mod Finishing

@@ -1,14 +1,26 @@
 -- Lists of records, taken and given one by one.
-use Rattle.std.proofs.Common.{◌≡◌, ◌≢◌, ℕ, zero, suc, ◌+◌, ◌<◌, ◌≤◌, inl, inr, Bool, true, false, true≢false, cond, eq-eqb, eqb-true, List, [], ◌∷◌, length, take, get_or, refl, sym, ap, ◌∙◌, subst, arith, add-one, ⊎_elim}
-use Rattle.std.specs.Prelude.{◌==◌, ◌&&◌, Option, Some, None, Result, Ok, Err}
+use Rattle.std.proofs.Common.{◌≡◌, ◌≢◌, ℕ, zero, suc, ◌+◌, ◌<◌, ◌≤◌, inl, inr, Bool, true, false, true≢false, cond, eq-eqb, eqb-true, List, [], ◌∷◌, ◌++◌, length, take, get_or, map, refl, sym, ap, ◌∙◌, subst, arith, add-one, ⊎_elim}
+use Rattle.std.specs.Prelude.{◌==◌, ◌&&◌, ◌||◌, Option, Some, None, Result, Ok, Err, flat_map, option_to_list}
+use Rattle.std.specs.List.{AllByRecursion, list_any}
+use Rattle.std.proofs.lemmas.List.{length_push}
 use Rattle.std.specs.declared.alloc.AllocError.{AllocError}
 use Rattle.fib_list.proofs.Lists.{either}
 use Rattle.fib_list.proofs.Booleans.{and_both}
 use Rattle.fib_addr.specs.Prefixes.{Prefix}
 use Rattle.fib_resolve.specs.Touched.{same_mac}
+use Rattle.fib_resolve.specs.declared.aims.Aim.{Aim}
+use Rattle.fib_resolve.specs.declared.aims.Aim.TheVariants as aims
+use Rattle.fib_resolve.specs.declared.aims.Marked.{Marked}
+use Rattle.fib_resolve.specs.declared.types.End.{End}
+use Rattle.fib_resolve.specs.declared.types.End.TheVariants as answers
 use Rattle.fib_pool.specs.declared.object.AdjacencyRecord.{AdjacencyRecord}
+use Rattle.fib_ledger.specs.declared.ledger.Use.{Use}
+use Rattle.fib_ledger.specs.Ledgers.{same_record, record_used, times}
+use Rattle.fib_serving.specs.Kept.{same_end}
 use Rattle.fib_joined.specs.View.{View, IsPlane, IsBalance, IsSwept, TookRecord, TookOne, GaveRecord}
-use Rattle.fib_stack.specs.Records.{same_record, times, SameBalances, TookAll, GaveAll, SamePlane}
+use Rattle.fib_stack.specs.Records.{record_at, record_for, records_for, end_used, holds_in, AreObjects, SameBalances, TookAll, GaveAll, SamePlane, TookFor}
+use Rattle.fib_stack.specs.States.{ends_there, has_hop}
+use Rattle.fib_stack.specs.declared.records.Want.{Want}
 use Rattle.fib_stack.proofs.Aiming.{and_join}
 
 same_mac_is : (m k : Option ℕ) → same_mac m k ≡ true → m ≡ k
@@ -39,7 +51,7 @@ one_more f g m n mine others = ⊎_elim
     (λ (isnt : same_record n m ≡ false). let c : ◌≡◌ {A = ℕ} (cond (same_record n m) 1 0) 0 = ap (λ b. cond b 1 0) isnt in let h : g n ≡ f n = others n (λ e. true≢false (sym (ap (λ (k : AdjacencyRecord). same_record k m) e ∙ record_self m) ∙ isnt)) in omega (arith, c, h))
     (either (same_record n m))
 
-times_next : (m d : AdjacencyRecord) (xs : List AdjacencyRecord) (i : ℕ) → i < length xs → times m (take (suc i) xs) ≡ cond (same_record m (get_or xs i d)) 1 0 + times m (take i xs)
+times_next : (m : AdjacencyRecord) (d : Use) (xs : List Use) (i : ℕ) → i < length xs → times m (take (suc i) xs) ≡ cond (same_record m (record_used (get_or xs i d))) 1 0 + times m (take i xs)
 times_next m d [] i lt = absurd (omega arith)
 times_next m d (x ∷ xs) zero lt = refl
 times_next m d (x ∷ xs) (suc i) lt =
@@ -47,25 +59,34 @@ times_next m d (x ∷ xs) (suc i) lt =
     let ih = times_next m d xs i lt' in
     omega (arith, ih)
 
-pub times-take_next : (m d : AdjacencyRecord) (xs : List AdjacencyRecord) (i : ℕ) → i < length xs → times m (take (i + 1) xs) ≡ cond (same_record m (get_or xs i d)) 1 0 + times m (take i xs)
+pub times-take_next : (m : AdjacencyRecord) (d : Use) (xs : List Use) (i : ℕ) → i < length xs → times m (take (i + 1) xs) ≡ cond (same_record m (record_used (get_or xs i d))) 1 0 + times m (take i xs)
 times-take_next m d xs i lt = rw add-one (times_next m d xs i lt)
 
-pub times-take_le : (m : AdjacencyRecord) (xs : List AdjacencyRecord) (i : ℕ) → times m (take i xs) ≤ times m xs
+pub times-take_le : (m : AdjacencyRecord) (xs : List Use) (i : ℕ) → times m (take i xs) ≤ times m xs
 times-take_le m [] zero = omega arith
 times-take_le m [] (suc i) = omega arith
 times-take_le m (x ∷ xs) zero = omega arith
 times-take_le m (x ∷ xs) (suc i) = omega (arith, times-take_le m xs i)
 
+times_push : (m : AdjacencyRecord) (xs : List Use) (u : Use) → times m (xs ++ u ∷ []) ≡ cond (same_record m (record_used u)) 1 0 + times m xs
+times_push m [] u = refl
+times_push m (x ∷ xs) u = let ih = times_push m xs u in omega (arith, ih)
+
+pub times_length : (m : AdjacencyRecord) (us : List Use) → times m us ≤ length us
+times_length m [] = omega arith
+times_length m (u ∷ us) = let h = at_most (same_record m (record_used u)) (times m us) (length us) (times_length m us) in omega (arith, h)
+  where
+    at_most : (b : Bool) (n k : ℕ) → n ≤ k → cond b 1 0 + n ≤ k + 1
+    at_most true n k le = omega (arith, le)
+    at_most false n k le = omega (arith, le)
+
 counts_one : (m : AdjacencyRecord) → 0 < cond (same_record m m) 1 0
 counts_one m = let P : Bool → Type 0 = λ b. 0 < cond b 1 0 in subst P (sym (record_self m)) (omega arith)
 
-take_length : (xs : List AdjacencyRecord) (i : ℕ) → i < length xs → length (take (i + 1) xs) ≡ length (take i xs) + 1
-take_length xs i lt = let e : i + 1 ≡ suc i = omega arith in ap (λ (n : ℕ). length (take n xs)) e ∙ by_list xs i lt
-  where
-    by_list : (ys : List AdjacencyRecord) (j : ℕ) → j < length ys → length (take (suc j) ys) ≡ length (take j ys) + 1
-    by_list [] j l = absurd (omega arith)
-    by_list (y ∷ ys) zero l = omega arith
-    by_list (y ∷ ys) (suc j) l = let l' : j < length ys = omega arith in let ih = by_list ys j l' in omega (arith, ih)
+object_at : (v : View) (xs : List Use) (i : ℕ) (d : Use) → i < length xs → AreObjects v xs → v.record_of (record_used (get_or xs i d)) ≡ Some (get_or xs i d).object
+object_at v [] i d lt h = absurd (omega arith)
+object_at v (x ∷ xs) zero d lt h = h.0
+object_at v (x ∷ xs) (suc i) d lt h = let lt' : i < length xs = omega arith in object_at v xs i d lt' h.1
 
 balances_then : (u v w : View) → SameBalances u v → SameBalances v w → SameBalances u w
 balances_then u v w f g = record {
@@ -91,47 +112,70 @@ took_balances u v m x t = record {
   cells = λ y k b. t.cells y k (inr (inl b.0));
 }
 
-pub user_left : (u v : View) (xs : List AdjacencyRecord) (i : ℕ) (r : AdjacencyRecord) → i < length xs → get_or xs i r ≡ r → ((m : AdjacencyRecord) → times m xs ≤ u.users m) → GaveAll u v (take i xs) → 0 < v.users r
+pub user_left : (u v : View) (xs : List Use) (i : ℕ) (r : Use) → i < length xs → get_or xs i r ≡ r → ((m : AdjacencyRecord) → times m xs ≤ u.users m) → GaveAll u v (take i xs) → 0 < v.users (record_used r)
 user_left u v xs i r lt is enough gave =
-    let next : times r (take (i + 1) xs) ≡ cond (same_record r r) 1 0 + times r (take i xs) = subst (λ (q : AdjacencyRecord). times r (take (i + 1) xs) ≡ cond (same_record r q) 1 0 + times r (take i xs)) is (times-take_next r r xs i lt) in
-    omega (arith, enough r, gave.users r, next, times-take_le r xs (i + 1), counts_one r)
+    let m = record_used r in
+    let next : times m (take (i + 1) xs) ≡ cond (same_record m m) 1 0 + times m (take i xs) = subst (λ (q : Use). times m (take (i + 1) xs) ≡ cond (same_record m (record_used q)) 1 0 + times m (take i xs)) is (times-take_next m r xs i lt) in
+    omega (arith, enough m, gave.users m, next, times-take_le m xs (i + 1), counts_one m)
 
-pub gave_next : (u v w : View) (xs : List AdjacencyRecord) (i : ℕ) (r : AdjacencyRecord) → i < length xs → get_or xs i r ≡ r → GaveAll u v (take i xs) → GaveRecord v w r → GaveAll u w (take (i + 1) xs)
+-- the next one has its object still
+pub object_left : (u v : View) (xs : List Use) (i : ℕ) (r : Use) → i < length xs → get_or xs i r ≡ r → ((m : AdjacencyRecord) → times m xs ≤ u.users m) → AreObjects u xs → GaveAll u v (take i xs) → v.record_of (record_used r) ≡ Some r.object
+object_left u v xs i r lt is enough objects gave =
+    gave.kept (record_used r) (user_left u v xs i r lt is enough gave)
+    ∙ subst (λ (q : Use). u.record_of (record_used q) ≡ Some q.object) is (object_at u xs i r lt objects)
+
+pub gave_next : (u v w : View) (xs : List Use) (i : ℕ) (r : Use) → i < length xs → get_or xs i r ≡ r → GaveAll u v (take i xs) → GaveRecord v w (record_used r) → GaveAll u w (take (i + 1) xs)
 gave_next u v w xs i r lt is gave next = record {
-  users = λ m. let t = subst (λ (q : AdjacencyRecord). times m (take (i + 1) xs) ≡ cond (same_record m q) 1 0 + times m (take i xs)) is (times-take_next m r xs i lt) in let o = one_more w.users v.users r m (sym next.mine) (λ k ne. sym (next.others k ne)) in omega (arith, gave.users m, t, o);
-  kept = λ m left. next.kept m left ∙ gave.kept m (let o = one_more w.users v.users r m (sym next.mine) (λ k ne. sym (next.others k ne)) in omega (arith, o, left));
+  users = λ m. let t = subst (λ (q : Use). times m (take (i + 1) xs) ≡ cond (same_record m (record_used q)) 1 0 + times m (take i xs)) is (times-take_next m r xs i lt) in let o = one_more w.users v.users (record_used r) m (sym next.mine) (λ k ne. sym (next.others k ne)) in omega (arith, gave.users m, t, o);
+  kept = λ m left. next.kept m left ∙ gave.kept m (let o = one_more w.users v.users (record_used r) m (sym next.mine) (λ k ne. sym (next.others k ne)) in omega (arith, o, left));
   balances = balances_then u v w gave.balances (swept_balances v w next.swept next.held);
   free = omega (arith, gave.free, next.swept.free);
   stored = omega (arith, gave.stored, next.stores.more);
   spare = omega (arith, gave.spare, next.swept.spare);
 }
 
-pub took_next : (u v w : View) (xs : List AdjacencyRecord) (i : ℕ) (r : AdjacencyRecord) (x : ℕ) → i < length xs → get_or xs i r ≡ r → TookAll u v (take i xs) → TookRecord v w r x → TookAll u w (take (i + 1) xs)
-took_next u v w xs i r x lt is took next = record {
-  users = λ m. let t = subst (λ (q : AdjacencyRecord). times m (take (i + 1) xs) ≡ cond (same_record m q) 1 0 + times m (take i xs)) is (times-take_next m r xs i lt) in let o = one_more v.users w.users r m next.mine next.others in omega (arith, took.users m, t, o);
-  kept = λ m there. next.kept m (omega (arith, took.users m, there)) ∙ took.kept m there;
-  balances = balances_then u v w took.balances (took_balances v w r x next);
-  free = omega (arith, took.free, next.free, take_length xs i lt);
-  stored = omega (arith, took.stored, next.stores.more);
-  spare = omega (arith, took.spare, next.spare);
-}
+all_pushed : (P : Use → Type 0) (xs : List Use) (y : Use) → AllByRecursion P xs → P y → AllByRecursion P (xs ++ y ∷ [])
+all_pushed P [] y h p = (p, tt)
+all_pushed P (x ∷ xs) y h p = (h.0, all_pushed P xs y h.1 p)
 
-pub gave_none : (u : View) (xs : List AdjacencyRecord) → GaveAll u u (take 0 xs)
+-- records that have users keep their objects
+pub objects_kept : (u v : View) (us : List Use) → ((m : AdjacencyRecord) → 0 < times m us → v.record_of m ≡ u.record_of m) → AreObjects u us → AreObjects v us
+objects_kept u v [] kept h = tt
+objects_kept u v (x ∷ xs) kept h = (
+  kept (record_used x) (let c = counts_one (record_used x) in omega (arith, c)) ∙ h.0,
+  objects_kept u v xs (λ m lt. kept m (omega (arith, lt))) h.1,
+)
+
+pub took_next : (u v w : View) (us : List Use) (m : AdjacencyRecord) (x : ℕ) → TookAll u v us → TookRecord v w m x → TookAll u w (us ++ (record { interface = m.interface; next_hop = m.next_hop; mac = m.mac; object = x }) ∷ [])
+took_next u v w us m x took next =
+    let y : Use = record { interface = m.interface; next_hop = m.next_hop; mac = m.mac; object = x } in
+    record {
+      users = λ n. let t = times_push n us y in let o = one_more v.users w.users m n next.mine next.others in omega (arith, took.users n, t, o);
+      kept = λ n there. next.kept n (omega (arith, took.users n, there)) ∙ took.kept n there;
+      objects = all_pushed (λ u. w.record_of (record_used u) ≡ Some u.object) us y (objects_kept v w us (λ n lt. next.kept n (omega (arith, took.users n, lt))) took.objects) next.here;
+      balances = balances_then u v w took.balances (took_balances v w m x next);
+      free = omega (arith, took.free, next.free, length_push us y);
+      stored = omega (arith, took.stored, next.stores.more);
+      spare = omega (arith, took.spare, next.spare);
+    }
+
+-- a step of the loop: the next mark
+pub took_for : (u v w : View) (us vs : List Use) (a : Aim) (o : Option AdjacencyRecord) → o ≡ record_for a → TookAll u v us → TookFor v w o us vs (Ok tt) → TookAll u w vs
+took_for u v w us vs a None e took (same, is) = subst (λ (q : View). TookAll u q vs) (sym same) (subst (λ (q : List Use). TookAll u v q) (sym is) took)
+took_for u v w us vs a (Some m) e took (x, next, is) = subst (λ (q : List Use). TookAll u w q) (sym is) (took_next u v w us m x took next)
+
+pub gave_none : (u : View) (xs : List Use) → GaveAll u u (take 0 xs)
 gave_none u xs = record { users = λ m. none xs m; kept = λ m h. refl; balances = balances_none u; free = omega arith; stored = omega arith; spare = omega arith }
   where
-    none : (ys : List AdjacencyRecord) (m : AdjacencyRecord) → times m (take 0 ys) + u.users m ≡ u.users m
+    none : (ys : List Use) (m : AdjacencyRecord) → times m (take 0 ys) + u.users m ≡ u.users m
     none [] m = omega arith
     none (y ∷ ys) m = omega arith
 
-pub took_none : (u : View) (xs : List AdjacencyRecord) → TookAll u u (take 0 xs)
-took_none u xs = record { users = λ m. none xs m; kept = λ m h. refl; balances = balances_none u; free = omega arith; stored = omega arith; spare = omega arith }
-  where
-    none : (ys : List AdjacencyRecord) (m : AdjacencyRecord) → u.users m ≡ times m (take 0 ys) + u.users m
-    none [] m = omega arith
-    none (y ∷ ys) m = omega arith
+pub took_none : (u : View) → TookAll u u []
+took_none u = record { users = λ m. omega arith; kept = λ m h. refl; objects = tt; balances = balances_none u; free = omega arith; stored = omega arith; spare = omega arith }
 
 -- taken and given back
-pub same_after : (u v w : View) (xs : List AdjacencyRecord) → IsPlane u → IsPlane w → TookAll u v xs → GaveAll v w xs → SamePlane u w
+pub same_after : (u v w : View) (xs : List Use) → IsPlane u → IsPlane w → TookAll u v xs → GaveAll v w xs → SamePlane u w
 same_after u v w xs before after took gave = record {
   users = users;
   record_of = λ m. by_users m (u.users m) refl;
@@ -147,5 +191,5 @@ same_after u v w xs before after took gave = record {
     by_users m zero e = after.forgotten m (users m ∙ e) ∙ sym (before.forgotten m e)
     by_users m (suc k) e = gave.kept m (omega (arith, users m, e)) ∙ took.kept m (omega (arith, e))
 
-pub enough_users : (u v : View) (xs : List AdjacencyRecord) → TookAll u v xs → (m : AdjacencyRecord) → times m xs ≤ v.users m
+pub enough_users : (u v : View) (xs : List Use) → TookAll u v xs → (m : AdjacencyRecord) → times m xs ≤ v.users m
 enough_users u v xs took m = omega (arith, took.users m)

@@ -23,7 +23,7 @@ use Rattle.fib_stack.specs.Steadiness.{ledger_of, Holding, IsSteady}
 use Rattle.fib_stack.proofs.Aiming.{bucket_on, bucket_hop}
 use Rattle.fib_stack.proofs.Keeping.{word_same, some_there, prefix_discrete}
 
-is_entry : (S : Tables) (e : Prefix) → Contains (entries S) e → has_entry S e ≡ true
+pub is_entry : (S : Tables) (e : Prefix) → Contains (entries S) e → has_entry S e ≡ true
 is_entry S e c = (is_member-Decides same_prefix-Decides (entries S) e).1 c
 
 -- what a bucket leads to

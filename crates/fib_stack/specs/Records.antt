@@ -1,16 +1,43 @@
 -- Adjacency records that are taken, or given back, one user each.
-use Rattle.std.specs.Prelude.{◌≡◌, ℕ, ◌+◌, ◌<◌, ◌≤◌, Bool, ◌==◌, ◌&&◌, cond, List, [], ◌∷◌, length}
-use Rattle.fib_resolve.specs.Touched.{same_mac}
+use Rattle.std.specs.Prelude.{◌≡◌, ℕ, ◌+◌, ◌<◌, ◌≤◌, Bool, List, [], ◌∷◌, ◌++◌, length, map, flat_map, option_to_list, Option, Some, None, Result, Ok, Err}
+use Rattle.std.specs.List.{AllByRecursion, list_any}
+use Rattle.fib_resolve.specs.declared.aims.Aim.{Aim}
+use Rattle.fib_resolve.specs.declared.aims.Aim.TheVariants as aims
+use Rattle.fib_resolve.specs.declared.aims.Marked.{Marked}
+use Rattle.fib_resolve.specs.declared.types.End.{End}
+use Rattle.fib_resolve.specs.declared.types.End.TheVariants as answers
 use Rattle.fib_pool.specs.declared.object.AdjacencyRecord.{AdjacencyRecord}
-use Rattle.fib_joined.specs.View.{View, IsBalance}
+use Rattle.fib_ledger.specs.declared.ledger.Use.{Use}
+use Rattle.fib_ledger.specs.Ledgers.{record_used, times}
+use Rattle.fib_serving.specs.Kept.{same_end}
+use Rattle.fib_joined.specs.View.{View, IsBalance, TookRecord}
+use Rattle.fib_stack.specs.declared.records.Want.{Want}
 
-abbrev pub same_record : AdjacencyRecord → AdjacencyRecord → Bool
-same_record r q = (r.interface == q.interface) && ((r.next_hop == q.next_hop) && same_mac r.mac q.mac)
+-- the record of the end, where it has one
+abbrev pub record_at : End → Option AdjacencyRecord
+record_at answers.Drop = None
+record_at answers.Receive = None
+record_at (answers.Glean i) = None
+record_at (answers.Hop i a m) = Some (record { interface = i; next_hop = a; mac = m })
 
--- how often the record stands in the list
-abbrev pub times : AdjacencyRecord → List AdjacencyRecord → ℕ
-times m [] = 0
-times m (r ∷ rs) = cond (same_record m r) 1 0 + times m rs
+abbrev pub record_for : Aim → Option AdjacencyRecord
+record_for (aims.Ends end) = record_at end
+record_for (aims.On t) = None
+
+-- the records of all paths that end at one
+abbrev pub records_for : List Marked → List AdjacencyRecord
+records_for ms = flat_map (λ m. option_to_list (record_for m.aim)) ms
+
+abbrev pub end_used : Use → End
+end_used u = answers.Hop u.interface u.next_hop u.mac
+
+-- the adjacency is among them
+abbrev pub holds_in : List Use → End → Bool
+holds_in us end = list_any (λ u. same_end (end_used u) end) us
+
+-- the objects are those of the records
+abbrev pub AreObjects : View → List Use → Type 0
+AreObjects v us = AllByRecursion (λ u. v.record_of (record_used u) ≡ Some u.object) us
 
 -- the balances that are held are the same, with their cells
 pub record SameBalances (u v : View) : Type 0 where
@@ -19,17 +46,18 @@ pub record SameBalances (u v : View) : Type 0 where
   pub cells : (x k : ℕ) → IsBalance u x → v.cell x k ≡ u.cell x k
 
 -- each got a user more for each time that it stands in the list; who had users kept its object
-pub record TookAll (u v : View) (records : List AdjacencyRecord) : Type 0 where
-  pub users : (m : AdjacencyRecord) → v.users m ≡ times m records + u.users m
+pub record TookAll (u v : View) (uses : List Use) : Type 0 where
+  pub users : (m : AdjacencyRecord) → v.users m ≡ times m uses + u.users m
   pub kept : (m : AdjacencyRecord) → 0 < u.users m → v.record_of m ≡ u.record_of m
+  pub objects : AreObjects v uses
   pub balances : SameBalances u v
-  pub free : u.free ≤ v.free + length records
+  pub free : u.free ≤ v.free + length uses
   pub stored : u.stored ≤ v.stored
   pub spare : u.spare ≤ v.spare
 
 -- each lost a user for each time that it stands in the list; who has users keeps its object
-pub record GaveAll (u v : View) (records : List AdjacencyRecord) : Type 0 where
-  pub users : (m : AdjacencyRecord) → times m records + v.users m ≡ u.users m
+pub record GaveAll (u v : View) (uses : List Use) : Type 0 where
+  pub users : (m : AdjacencyRecord) → times m uses + v.users m ≡ u.users m
   pub kept : (m : AdjacencyRecord) → 0 < v.users m → v.record_of m ≡ u.record_of m
   pub balances : SameBalances u v
   pub free : u.free ≤ v.free
@@ -43,3 +71,10 @@ pub record SamePlane (u v : View) : Type 0 where
   pub balances : SameBalances u v
   pub stored : u.stored ≤ v.stored
   pub spare : u.spare ≤ v.spare
+
+-- the record of an aim is taken, where there is one; what can't be had leaves all as it is
+abbrev pub TookFor : View → View → Option AdjacencyRecord → List Use → List Use → Result Unit Want → Type 0
+TookFor u v None old new (Ok x) = (v ≡ u) × (new ≡ old)
+TookFor u v None old new (Err e) = ⊥
+TookFor u v (Some m) old new (Ok x) = (o : ℕ) × TookRecord u v m o × (new ≡ old ++ (record { interface = m.interface; next_hop = m.next_hop; mac = m.mac; object = o }) ∷ [])
+TookFor u v (Some m) old new (Err e) = (v ≡ u) × (new ≡ old)

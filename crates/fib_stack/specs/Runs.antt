@@ -1,12 +1,13 @@
 -- The sixteen puts of a turn: what each of them answered, and what they ask.
-use Rattle.std.specs.Prelude.{◌≡◌, ◌⊎◌, ℕ, suc, ◌<◌, ◌≤◌, List, [], ◌∷◌, Option, slice_index_or}
+use Rattle.std.specs.Prelude.{◌≡◌, ◌≢◌, ◌⊎◌, ℕ, suc, ◌+◌, ◌<◌, ◌≤◌, nat_lt, List, [], ◌∷◌, length, Option, Some, None, slice_index_or, if◌then◌else◌}
 use Rattle.fib_addr.specs.Prefixes.{Prefix}
 use Rattle.fib_core.specs.declared.word.Word.{Word}
 use Rattle.fib_core.specs.declared.word.Word.TheVariants as words
 use Rattle.fib_steady.specs.Names.{Names}
 use Rattle.fib_joined.specs.declared.put.Put.{Put}
+use Rattle.fib_joined.specs.declared.put.Put.TheVariants as puts
 use Rattle.fib_joined.specs.Promise.{Promise, Serves, EndsIn}
-use Rattle.fib_joined.specs.View.{View, HasKind, IsPut}
+use Rattle.fib_joined.specs.View.{View, HasKind, IsBalance, IsPut, SameRecords}
 use Rattle.fib_stack.specs.Buckets.{IsLooseBucket}
 
 abbrev pub word_in : List Word → ℕ → Word
@@ -30,3 +31,31 @@ pub record IsReady (p : Promise) (balances : Prefix → Option ℕ) (u : View) (
 pub record AreReady (p : Promise) (n : Names) (u : View) (o start : ℕ) (ws : List Word) : Type 0 where
   pub serves : Serves p n u
   pub ready : (k : ℕ) → start ≤ k → k < 16 → IsReady p n.balance u o k (word_in ws k)
+
+abbrev pub put_in : List Put → ℕ → Put
+put_in gave k = slice_index_or gave k puts.Same
+
+-- a cell after its put
+abbrev pub Settled : Word → Word → Word → Put → Type 0
+Settled before now w puts.Same = (before ≡ w) × (now ≡ w)
+Settled before now w puts.Stored = (before ≢ w) × (now ≡ w)
+Settled before now w puts.Dropped = (before ≢ w) × (now ≡ words.Drop)
+
+-- what so many puts from slot k on leave
+pub record IsFilled (u v : View) (o k : ℕ) (ws : List Word) (gave : List Put) : Type 0 where
+  pub at : (j : ℕ) → j < length ws → Settled (u.cell o (k + j)) (v.cell o (k + j)) (word_in ws j) (put_in gave j)
+  pub rest : (s : ℕ) → ((j : ℕ) → j < length ws → s ≢ k + j) → v.cell o s ≡ u.cell o s
+  pub others : (x s : ℕ) → IsBalance u x → x ≢ o → v.cell x s ≡ u.cell x s
+  pub stay : (x : ℕ) → IsBalance u x → IsBalance v x
+  pub records : SameRecords u v
+  pub free : u.free ≤ v.free
+  pub stored : u.stored ≤ v.stored
+
+-- the word that a put left for later
+abbrev pub late_word : Word → Put → Option Word
+late_word w puts.Same = None
+late_word w puts.Stored = None
+late_word w puts.Dropped = Some w
+
+abbrev pub deferred_at : List Word → List Put → ℕ → Option Word
+deferred_at ws gave k = if nat_lt k 16 then late_word (word_in ws k) (put_in gave k) else None

@@ -8,10 +8,20 @@
 
 pub mod laws;
 mod records;
+mod defer;
+pub mod wanted;
+mod finish;
+mod leave;
+mod stack;
+mod queueing;
+mod words;
 mod sixteen;
 pub mod stores;
 
-pub use records::{Want, give_all, take_all};
+pub use defer::defer as defer_words;
+pub use records::{Want, give_all, give_old, take_all};
+pub use words::words_of;
+pub use stack::Stack;
 pub use sixteen::fill;
 
 #[cfg(test)]

@@ -1,16 +1,20 @@
 // Adjacency records, taken all or none, and given back.
-ghost use Rattle.std.specs.Prelude.{◌≡◌, ◌≤◌, ℕ, OnErr, OnOk, Option};
+ghost use Rattle.std.specs.Prelude.{◌≡◌, ◌+◌, ◌-◌, ◌^◌, ◌<◌, ◌≤◌, ℕ, [], OnErr, OnOk, Option, Some, length, map, vec_capacity};
 ghost use Rattle.fib_addr.specs.Prefixes.{Prefix};
 ghost use Rattle.fib_pool.specs.declared.object.AdjacencyRecord.{AdjacencyRecord as Record};
+ghost use Rattle.fib_pool.specs.Records.{adjacency};
+ghost use Rattle.fib_ledger.specs.Ledgers.{record_used, times, used_by};
 ghost use Rattle.fib_steady.specs.Names.{Names};
 ghost use Rattle.fib_joined.specs.Frames.{IsQuiet};
 ghost use Rattle.fib_joined.specs.Promise.{MayClear, Serves};
-ghost use Rattle.fib_stack.specs.Records.{GaveAll, SamePlane, TookAll, times};
+ghost use Rattle.fib_stack.specs.Records.{AreObjects, GaveAll, SamePlane, TookAll, TookFor, record_for, records_for};
 
+use fib_addr::{Addr, Mac};
 use fib_joined::Objects;
-use fib_pool::AdjacencyRecord;
+use fib_ledger::{Known, Use};
+use fib_resolve::{Aim, End, Marked};
 
-/// What kept records from being taken.
+/// What kept records, or an object, from being taken.
 #[derive(Clone, Copy, PartialEq, Eq, Debug)]
 pub enum Want {
     /// There was no memory.
@@ -19,40 +23,119 @@ pub enum Want {
     Object,
 }
 
-/// Gives a user of each record back. Each must have as many.
-pub fn give_all<P: Objects>(on: &mut P, records: &[AdjacencyRecord])
-    requires users { (m : Record) → times m records.now ≤ (P.view on.old).users m }
+/// Gives a user of each record back. Each must have as many, and its object.
+pub fn give_all<P: Objects>(on: &mut P, uses: &[Use])
+    requires users { (m : Record) → times m uses.now ≤ (P.view on.old).users m }
+    requires objects { AreObjects (P.view on.old) uses.now }
     requires promise { MayClear (P.promise on.old) (P.view on.old) }
-    ensures gave { GaveAll (P.view on.old) (P.view on.new) records.now }
+    ensures gave { GaveAll (P.view on.old) (P.view on.new) uses.now }
     ensures quiet { (look : Prefix → Option ℕ) → IsQuiet look (P.view on.old) (P.view on.new) }
     ensures serves { (n : Names) → Serves (P.promise on.old) n (P.view on.old) → Serves (P.promise on.old) n (P.view on.new) }
     ensures promise { P.promise on.new ≡ P.promise on.old }
 {
-    for adjacency in records {
-        on.give_adj(*adjacency);
+    for held in uses {
+        on.give_adj(held.object);
     }
 }
 
-/// Takes a user of each record, or of none: after a fault all is as it was, but for the count of stores.
-pub fn take_all<P: Objects>(on: &mut P, records: &[AdjacencyRecord]) -> Result<(), Want>
-    requires { MayClear (P.promise on.old) (P.view on.old) }
-    ensures ok { OnOk result (TookAll (P.view on.old) (P.view on.new) records.now) }
+/// Gives back what was used by it.
+pub fn give_old<P: Objects>(on: &mut P, old: &Option<Known>)
+    requires users { (m : Record) → times m (used_by old.now) ≤ (P.view on.old).users m }
+    requires objects { AreObjects (P.view on.old) (used_by old.now) }
+    requires promise { MayClear (P.promise on.old) (P.view on.old) }
+    ensures gave { GaveAll (P.view on.old) (P.view on.new) (used_by old.now) }
+    ensures quiet { (look : Prefix → Option ℕ) → IsQuiet look (P.view on.old) (P.view on.new) }
+    ensures serves { (n : Names) → Serves (P.promise on.old) n (P.view on.old) → Serves (P.promise on.old) n (P.view on.new) }
+    ensures promise { P.promise on.new ≡ P.promise on.old }
+{
+    match old {
+        Some(known) => give_all(on, known.uses.as_slice()),
+        None => give_all(on, &[]),
+    }
+}
+
+/// The same once more.
+fn copy_of(mac: &Option<Mac>) -> Option<Mac>
+    ensures { result ≡ mac.now }
+{
+    match mac {
+        Some(mac) => Some(*mac),
+        None => None,
+    }
+}
+
+/// Takes a user of the record. There must be room for it in the list.
+fn take_hop<P: Objects>(
+    on: &mut P,
+    interface: u32,
+    next_hop: Addr,
+    mac: Option<Mac>,
+    uses: &mut Vec<Use>,
+) -> Result<(), Want>
+    requires room { length uses.old.items < vec_capacity uses.old }
+    requires few { (m : Record) → (P.view on.old).users m < 2 ^ 32 - 1 }
+    requires promise { MayClear (P.promise on.old) (P.view on.old) }
+    ensures took { TookFor (P.view on.old) (P.view on.new) (Some (adjacency interface next_hop mac)) uses.old.items uses.new.items result }
+    ensures capacity { vec_capacity uses.new ≡ vec_capacity uses.old }
+    ensures promise { P.promise on.new ≡ P.promise on.old }
+{
+    match on.take_adj(interface, next_hop, copy_of(&mac)) {
+        Ok(Some(object)) => {
+            uses.push_reserved(Use {
+                interface,
+                next_hop,
+                mac,
+                object,
+            });
+            Ok(())
+        }
+        Ok(None) => Err(Want::Object),
+        Err(_) => Err(Want::Memory),
+    }
+}
+
+/// Takes a user of the record at which the aim ends packets, if it does at one. There must be room for it in the list.
+fn take_for<P: Objects>(on: &mut P, aim: Aim, uses: &mut Vec<Use>) -> Result<(), Want>
+    requires room { length uses.old.items < vec_capacity uses.old }
+    requires few { (m : Record) → (P.view on.old).users m < 2 ^ 32 - 1 }
+    requires promise { MayClear (P.promise on.old) (P.view on.old) }
+    ensures took { TookFor (P.view on.old) (P.view on.new) (record_for aim) uses.old.items uses.new.items result }
+    ensures capacity { vec_capacity uses.new ≡ vec_capacity uses.old }
+    ensures promise { P.promise on.new ≡ P.promise on.old }
+{
+    match aim {
+        Aim::Ends(end) => match end {
+            End::Hop {
+                interface,
+                next_hop,
+                mac,
+            } => take_hop(on, interface, next_hop, mac, uses),
+            End::Drop => Ok(()),
+            End::Receive => Ok(()),
+            End::Glean(_) => Ok(()),
+        },
+        Aim::On(_) => Ok(()),
+    }
+}
+
+/// Takes a user of each record at which a path ends, or of none: after a fault all is as it was, but for the count of stores. There must be
+/// room for them in the list, which must be empty.
+pub fn take_all<P: Objects>(on: &mut P, marks: &[Marked], uses: &mut Vec<Use>) -> Result<(), Want>
+    requires none { uses.old.items ≡ [] }
+    requires room { length marks.now ≤ vec_capacity uses.old }
+    requires few { (m : Record) → (P.view on.old).users m + length marks.now < 2 ^ 32 - 1 }
+    requires promise { MayClear (P.promise on.old) (P.view on.old) }
+    ensures ok { OnOk result (TookAll (P.view on.old) (P.view on.new) uses.new.items) }
+    ensures records { OnOk result (map record_used uses.new.items ≡ records_for marks.now) }
     ensures err { OnErr result (SamePlane (P.view on.old) (P.view on.new)) }
     ensures quiet { (look : Prefix → Option ℕ) → IsQuiet look (P.view on.old) (P.view on.new) }
     ensures serves { (n : Names) → Serves (P.promise on.old) n (P.view on.old) → Serves (P.promise on.old) n (P.view on.new) }
     ensures promise { P.promise on.new ≡ P.promise on.old }
 {
-    for (place, adjacency) in records.iter().enumerate() {
-        match on.take_adj(*adjacency) {
-            Ok(Some(_)) => {}
-            Ok(None) => {
-                give_all(on, &records[..place]);
-                return Err(Want::Object);
-            }
-            Err(_) => {
-                give_all(on, &records[..place]);
-                return Err(Want::Memory);
-            }
+    for mark in marks {
+        if let Err(want) = take_for(on, mark.aim, uses) {
+            give_all(on, uses.as_slice());
+            return Err(want);
         }
     }
     Ok(())

@@ -1,20 +1,26 @@
-use Rattle.std.proofs.Common.{◌∙◌, arith, refl, sym, subst}
+use Rattle.std.proofs.Common.{◌≡◌, ◌∙◌, arith, refl, sym, subst}
+use Rattle.std.specs.Prelude.{Some}
 use Rattle.fib_joined.specs.Promise.{Promise, MayClear, Serves}
+use Rattle.fib_joined.specs.View.{GaveRecord}
+use Rattle.fib_ledger.specs.Ledgers.{record_used}
 use Rattle.fib_stack.proofs.Leaving.{quiet_none, quiet_then, gave_quiet}
 use Rattle.fib_stack.proofs.Clearing.{gave_serves}
-use Rattle.fib_stack.proofs.Listing.{user_left, gave_next, gave_none}
+use Rattle.fib_stack.proofs.Listing.{user_left, object_left, gave_next, gave_none}
 use Rattle.fib_stack.proofs.records.give_all.Goals as goal
 
-pub loop-adjacency-init : goal.loop-adjacency-init
-loop-adjacency-init g c = record { gave = gave_none _ c.args.records.now; quiet = λ look. quiet_none look _; serves = λ n h. h; promise = refl }
+pub loop-held-init : goal.loop-held-init
+loop-held-init g c = record { gave = gave_none _ c.args.uses.now; quiet = λ look. quiet_none look _; serves = λ n h. h; promise = refl }
 
-pub give_adj-requires-clause-users : goal.give_adj-requires-clause-users
-give_adj-requires-clause-users g c = user_left _ _ c.args.records.now c.loop-adjacency.adjacency-index c.adjacency-item.result c.loop-adjacency-test.true (sym c.adjacency-item.is) c.requires.users c.loop-adjacency.invariant.gave
+pub give_adj-requires-clause-record : goal.give_adj-requires-clause-record
+give_adj-requires-clause-record g c = (record_used c.held-item.result, object_left _ _ c.args.uses.now c.loop-held.held-index c.held-item.result c.loop-held-test.true (sym c.held-item.is) c.requires.users c.requires.objects c.loop-held.invariant.gave)
 
-pub loop-adjacency-preserved : goal.loop-adjacency-preserved
-loop-adjacency-preserved g c = record {
-  gave = gave_next _ _ _ c.args.records.now c.loop-adjacency.adjacency-index c.adjacency-item.result c.loop-adjacency-test.true (sym c.adjacency-item.is) c.loop-adjacency.invariant.gave c.give_adj.ensures.gave;
-  quiet = λ look. quiet_then look _ _ _ (c.loop-adjacency.invariant.quiet look) (gave_quiet _ _ c.adjacency-item.result (g.met.P.Objects.sound c.give_adj.new.self) c.give_adj.ensures.gave look);
-  serves = λ n h. gave_serves (g.P.Objects.promise c.args.on.now) n _ _ c.adjacency-item.result c.give_adj.ensures.gave (c.loop-adjacency.invariant.serves n h);
-  promise = c.give_adj.ensures.promise ∙ c.loop-adjacency.invariant.promise;
-}
+pub loop-held-preserved : goal.loop-held-preserved
+loop-held-preserved g c =
+    let gave : GaveRecord (g.P.Objects.view c.loop-held.on) (g.P.Objects.view c.give_adj.new.self) (record_used c.held-item.result) =
+        c.give_adj.ensures.gave (record_used c.held-item.result) (object_left _ _ c.args.uses.now c.loop-held.held-index c.held-item.result c.loop-held-test.true (sym c.held-item.is) c.requires.users c.requires.objects c.loop-held.invariant.gave) in
+    record {
+      gave = gave_next _ _ _ c.args.uses.now c.loop-held.held-index c.held-item.result c.loop-held-test.true (sym c.held-item.is) c.loop-held.invariant.gave gave;
+      quiet = λ look. quiet_then look _ _ _ (c.loop-held.invariant.quiet look) (gave_quiet _ _ (record_used c.held-item.result) (g.met.P.Objects.sound c.give_adj.new.self) gave look);
+      serves = λ n h. gave_serves (g.P.Objects.promise c.args.on.now) n _ _ (record_used c.held-item.result) gave (c.loop-held.invariant.serves n h);
+      promise = c.give_adj.ensures.promise ∙ c.loop-held.invariant.promise;
+    }

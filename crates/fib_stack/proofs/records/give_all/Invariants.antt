@@ -7,9 +7,9 @@ use Rattle.fib_joined.specs.Promise.{Serves}
 use Rattle.fib_stack.specs.Records.{GaveAll}
 use Rattle.fib_stack.proofs.records.give_all.Given as goal
 
-abbrev pub invariant-loop-adjacency : goal.invariant-loop-adjacency
-invariant-loop-adjacency g l = record {
-  gave : GaveAll (g.P.Objects.view l.initial.on) (g.P.Objects.view l.on) (take l.adjacency-index l.records);
+abbrev pub invariant-loop-held : goal.invariant-loop-held
+invariant-loop-held g l = record {
+  gave : GaveAll (g.P.Objects.view l.initial.on) (g.P.Objects.view l.on) (take l.held-index l.uses);
   quiet : (look : Prefix → Option ℕ) → IsQuiet look (g.P.Objects.view l.initial.on) (g.P.Objects.view l.on);
   serves : (n : Names) → Serves (g.P.Objects.promise l.initial.on) n (g.P.Objects.view l.initial.on) → Serves (g.P.Objects.promise l.initial.on) n (g.P.Objects.view l.on);
   promise : g.P.Objects.promise l.on ≡ g.P.Objects.promise l.initial.on;

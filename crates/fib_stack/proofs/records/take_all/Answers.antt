@@ -1,22 +1,65 @@
-use Rattle.std.proofs.Common.{◌∙◌, refl, sym}
-use Rattle.fib_stack.proofs.Leaving.{quiet_none, quiet_then, took_one_quiet}
-use Rattle.fib_stack.proofs.Clearing.{took_serves}
-use Rattle.fib_stack.proofs.Listing.{took_next, took_none}
+use Rattle.std.proofs.Common.{◌≡◌, ◌∙◌, ◌<◌, ◌≤◌, ℕ, List, length, refl, sym, subst, arith, rules, ap}
+use Rattle.std.specs.Prelude.{Result, Ok, Err}
+use Rattle.fib_pool.specs.declared.object.AdjacencyRecord.{AdjacencyRecord}
+use Rattle.fib_ledger.specs.declared.ledger.Use.{Use}
+use Rattle.fib_ledger.specs.Ledgers.{times}
+use Rattle.fib_joined.specs.View.{View}
+use Rattle.fib_stack.specs.Records.{AreObjects, GaveAll, TookAll, TookFor, record_for}
+use Rattle.fib_stack.specs.declared.records.Want.{Want}
+use Rattle.fib_stack.proofs.Leaving.{quiet_none, quiet_then}
+use Rattle.fib_stack.proofs.Listing.{took_none, times_length, enough_users, same_after}
+use Rattle.fib_stack.proofs.Taking.{failed_same, took_quietly, took_serving, took_step, records_next, few_step}
+use Rattle.fib_stack.proofs.records.take_all.Goals.{In-Err}
 use Rattle.fib_stack.proofs.records.take_all.Goals as goal
 
-pub loop-place-init : goal.loop-place-init
-loop-place-init g c = record { took = took_none _ c.args.records.now; quiet = λ look. quiet_none look _; serves = λ n h. h; promise = refl }
-
-pub loop-place-preserved : goal.loop-place-preserved
-loop-place-preserved g c = record {
-  took = took_next _ _ _ c.args.records.now c.loop-place.place c.index-records-place.result c.in-Ok-Some.field-0-0 c.loop-place-test.true (sym c.index-records-place.is) c.loop-place.invariant.took (rw c.in-Ok-Some.field-0-is at c.in-Ok-Some.ensures.took);
-  quiet = λ look. quiet_then look _ _ _ (c.loop-place.invariant.quiet look) (took_one_quiet _ _ c.index-records-place.result c.take_adj.result (g.met.P.Objects.sound c.loop-place.on) (g.met.P.Objects.sound c.take_adj.new.self) c.take_adj.ensures.took look);
-  serves = λ n h. took_serves (g.P.Objects.promise c.args.on.now) n _ _ c.index-records-place.result c.in-Ok-Some.field-0-0 (rw c.in-Ok-Some.field-0-is at c.in-Ok-Some.ensures.took) (c.loop-place.invariant.serves n h);
-  promise = c.take_adj.ensures.promise ∙ c.loop-place.invariant.promise;
+pub loop-mark-init : goal.loop-mark-init
+loop-mark-init g c = record {
+  took = subst (λ (us : List Use). TookAll (g.P.Objects.view c.args.on.now) (g.P.Objects.view c.args.on.now) us) (sym c.requires.none) (took_none (g.P.Objects.view c.args.on.now));
+  records = search rules;
+  few = search rules;
+  capacity = refl;
+  quiet = λ look. quiet_none look _;
+  serves = λ n h. h;
+  promise = refl;
 }
 
-pub returns-in-Ok-None-clause-quiet : goal.returns-in-Ok-None-clause-quiet
-returns-in-Ok-None-clause-quiet g c = λ look. quiet_then look _ _ _ (quiet_then look _ _ _ (c.loop-place.invariant.quiet look) (took_one_quiet _ _ c.index-records-place.result c.take_adj.result (g.met.P.Objects.sound c.loop-place.on) (g.met.P.Objects.sound c.take_adj.new.self) c.take_adj.ensures.took look)) (c.give_all.ensures.quiet look)
+pub take_for-requires-clause-few : goal.take_for-requires-clause-few
+take_for-requires-clause-few g c = λ m.
+    omega (arith, c.loop-mark.invariant.took.users m, times_length m c.loop-mark.uses.items, c.loop-mark.invariant.few, c.requires.few m, c.loop-mark-test.true)
+
+-- a fault left all as the records before it were taken
+still : (g : _) (c : In-Err g) → TookAll (g.P.Objects.view c.args.on.now) (g.P.Objects.view c.take_for.new.on) c.take_for.new.uses.items
+still g c =
+    let h = failed_same _ _ (record_for c.mark-item.result.aim) c.loop-mark.uses.items c.take_for.new.uses.items c.in-Err.want (subst (λ r. TookFor (g.P.Objects.view c.loop-mark.on) (g.P.Objects.view c.take_for.new.on) (record_for c.mark-item.result.aim) c.loop-mark.uses.items c.take_for.new.uses.items r) c.in-Err.is c.take_for.ensures.took) in
+    subst (λ (v : View). TookAll (g.P.Objects.view c.args.on.now) v c.take_for.new.uses.items) (sym h.0) (subst (λ (us : List Use). TookAll (g.P.Objects.view c.args.on.now) (g.P.Objects.view c.loop-mark.on) us) (sym h.1) c.loop-mark.invariant.took)
+
+pub give_all-requires-clause-users : goal.give_all-requires-clause-users
+give_all-requires-clause-users g c = λ m. subst (λ (us : List Use). times m us ≤ (g.P.Objects.view c.take_for.new.on).users m) (sym c.as_slice.ensures.value) (enough_users _ _ c.take_for.new.uses.items (still g c) m)
+
+pub give_all-requires-clause-objects : goal.give_all-requires-clause-objects
+give_all-requires-clause-objects g c = subst (λ (us : List Use). AreObjects (g.P.Objects.view c.take_for.new.on) us) (sym c.as_slice.ensures.value) (still g c).objects
+
+pub returns-in-Err-clause-err : goal.returns-in-Err-clause-err
+returns-in-Err-clause-err g c =
+    same_after _ (g.P.Objects.view c.take_for.new.on) _ c.take_for.new.uses.items (g.met.P.Objects.sound c.args.on.now) (g.met.P.Objects.sound c.give_all.new.on) (still g c)
+    (subst (λ (us : List Use). GaveAll (g.P.Objects.view c.take_for.new.on) (g.P.Objects.view c.give_all.new.on) us) c.as_slice.ensures.value c.give_all.ensures.gave)
 
 pub returns-in-Err-clause-quiet : goal.returns-in-Err-clause-quiet
-returns-in-Err-clause-quiet g c = λ look. quiet_then look _ _ _ (quiet_then look _ _ _ (c.loop-place.invariant.quiet look) (took_one_quiet _ _ c.index-records-place.result c.take_adj.result (g.met.P.Objects.sound c.loop-place.on) (g.met.P.Objects.sound c.take_adj.new.self) c.take_adj.ensures.took look)) (c.give_all-in-Err.ensures.quiet look)
+returns-in-Err-clause-quiet g c = λ look.
+    quiet_then look _ _ _ (quiet_then look _ _ _ (c.loop-mark.invariant.quiet look) (took_quietly _ _ (record_for c.mark-item.result.aim) c.loop-mark.uses.items c.take_for.new.uses.items c.take_for.result (g.met.P.Objects.sound c.loop-mark.on) (g.met.P.Objects.sound c.take_for.new.on) c.take_for.ensures.took look)) (c.give_all.ensures.quiet look)
+
+pub loop-mark-preserved : goal.loop-mark-preserved
+loop-mark-preserved g c =
+    let i = c.loop-mark.invariant in
+    let o = record_for c.mark-item.result.aim in
+    let took : TookFor (g.P.Objects.view c.loop-mark.on) (g.P.Objects.view c.take_for.new.on) o c.loop-mark.uses.items c.take_for.new.uses.items (Ok c.in_default.field-0) =
+        subst (λ r. TookFor (g.P.Objects.view c.loop-mark.on) (g.P.Objects.view c.take_for.new.on) o c.loop-mark.uses.items c.take_for.new.uses.items r) c.in_default.is c.take_for.ensures.took in
+    record {
+      took = took_step _ _ _ c.loop-mark.uses.items c.take_for.new.uses.items o c.in_default.field-0 i.took took;
+      records = records_next _ _ c.loop-mark.uses.items c.take_for.new.uses.items c.args.marks.now c.loop-mark.mark-index c.mark-item.result c.in_default.field-0 c.loop-mark-test.true (sym c.mark-item.is) i.records took;
+      few = omega (arith, i.few, few_step _ _ c.loop-mark.uses.items c.take_for.new.uses.items o c.in_default.field-0 took);
+      capacity = c.take_for.ensures.capacity ∙ i.capacity;
+      quiet = λ look. quiet_then look _ _ _ (i.quiet look) (took_quietly _ _ o c.loop-mark.uses.items c.take_for.new.uses.items c.take_for.result (g.met.P.Objects.sound c.loop-mark.on) (g.met.P.Objects.sound c.take_for.new.on) c.take_for.ensures.took look);
+      serves = λ n h. took_serving (g.P.Objects.promise c.args.on.now) n _ _ o c.loop-mark.uses.items c.take_for.new.uses.items c.take_for.result c.take_for.ensures.took (i.serves n h);
+      promise = c.take_for.ensures.promise ∙ i.promise;
+    }

@@ -1,0 +1,2 @@
+pub mod LateLists
+pub mod Books

@@ -1,0 +1,94 @@
+-- What a bucket ends packets at is a possible end; and words are one or not.
+use Rattle.std.proofs.Common.{◌≡◌, ℕ, zero, suc, List, [], ◌∷◌, refl, sym, ap, ◌∙◌, subst, arith}
+use Rattle.std.specs.Prelude.{Contains, IfSome, Option, Some, None, slice_get, flat_map}
+use native.Mathlib.Decide.{ℕ_discrete}
+use mathlib.Core.Logic.{dite}
+use Rattle.fib_addr.specs.Prefixes.{Prefix}
+use Rattle.fib_resolve.specs.Aims.{aim, kind_aim, path_aim}
+use Rattle.fib_resolve.specs.Buckets.{wanted}
+use Rattle.fib_resolve.specs.Pairs.{entries}
+use Rattle.fib_resolve.specs.Resolution.{attached_end, ends, entry_ends, hop_end}
+use Rattle.fib_resolve.specs.declared.aims.Aim.{Aim}
+use Rattle.fib_resolve.specs.declared.aims.Aim.TheVariants as aims
+use Rattle.fib_resolve.specs.declared.types.End.{End}
+use Rattle.fib_resolve.specs.declared.types.End.TheVariants as answers
+use Rattle.fib_resolve.specs.declared.types.Path.{Path}
+use Rattle.fib_resolve.specs.declared.types.PathKind.{PathKind}
+use Rattle.fib_resolve.specs.declared.types.PathKind.TheVariants as kinds
+use Rattle.fib_resolve.specs.declared.types.Tables.{Tables}
+use Rattle.fib_resolve.proofs.Taken.{IsTaken}
+use Rattle.fib_stands.proofs.Listed.{at_bucket, end_possible, first_in}
+use Rattle.fib_core.specs.declared.word.Word.{Word}
+use Rattle.fib_core.specs.declared.word.Word.TheVariants as words
+
+end_is : (f end : End) → aims.Ends f ≡ aims.Ends end → f ≡ end
+end_is f end e = ap (λ (m : Aim). end_in m) e
+  where
+    end_in : Aim → End
+    end_in (aims.Ends x) = x
+    end_in (aims.On t) = f
+
+drop_possible : (S : Tables) → Contains (ends S) answers.Drop
+unfolding ends
+drop_possible S = first_in answers.Drop (flat_map (entry_ends S) (entries S))
+
+kind_possible : (S : Tables) (e : Prefix) (p : Path) (kind : PathKind) → p.kind ≡ kind → IsTaken S e p → (end : End) → kind_aim S e kind ≡ aims.Ends end → Contains (ends S) end
+kind_possible S e p kinds.Drop k t end is = subst (Contains (ends S)) (end_is answers.Drop end is) (drop_possible S)
+kind_possible S e p kinds.Local k t end is = subst (Contains (ends S)) (end_is answers.Receive end is) (end_possible S e p answers.Receive t (rw k (first_in answers.Receive [])))
+kind_possible S e p (kinds.Attached i) k t end is = subst (Contains (ends S)) (end_is (attached_end S e i) end is) (end_possible S e p (attached_end S e i) t (rw k (first_in (attached_end S e i) [])))
+kind_possible S e p (kinds.Hop a i) k t end is = subst (Contains (ends S)) (end_is (hop_end S i a) end is) (end_possible S e p (hop_end S i a) t (rw k (first_in (hop_end S i a) [])))
+kind_possible S e p (kinds.Recursive a) k t end is = absurd (cc)
+kind_possible S e p kinds.Cover k t end is = absurd (cc)
+
+path_possible : (S : Tables) (e : Prefix) (o : Option Path) → IfSome o (IsTaken S e) → (end : End) → path_aim S e o ≡ aims.Ends end → Contains (ends S) end
+path_possible S e None t end is = subst (Contains (ends S)) (end_is answers.Drop end is) (drop_possible S)
+path_possible S e (Some p) t end is = kind_possible S e p p.kind refl t end is
+
+pub aim_possible : (S : Tables) (e : Prefix) (k : ℕ) (end : End) → aim S e k ≡ aims.Ends end → Contains (ends S) end
+unfolding aim
+aim_possible S e k end is = path_possible S e (slice_get (wanted S e) k) (at_bucket S e k) end is
+
+-- words by a tag and a number
+tag : Word → ℕ
+tag words.Drop = 0
+tag words.Receive = 1
+tag (words.Glean i) = 2
+tag (words.ToPly x) = 3
+tag (words.ToBalance x) = 4
+tag (words.ToAdjacency x) = 5
+tag (words.Plain n) = 6
+
+number : Word → ℕ
+number words.Drop = 0
+number words.Receive = 0
+number (words.Glean i) = i
+number (words.ToPly x) = x
+number (words.ToBalance x) = x
+number (words.ToAdjacency x) = x
+number (words.Plain n) = n
+
+made : ℕ → ℕ → Word
+made zero n = words.Drop
+made (suc zero) n = words.Receive
+made (suc (suc zero)) n = words.Glean n
+made (suc (suc (suc zero))) n = words.ToPly n
+made (suc (suc (suc (suc zero)))) n = words.ToBalance n
+made (suc (suc (suc (suc (suc zero))))) n = words.ToAdjacency n
+made (suc (suc (suc (suc (suc (suc t)))))) n = words.Plain n
+
+made_again : (w : Word) → made (tag w) (number w) ≡ w
+unfolding made tag number
+made_again words.Drop = refl
+made_again words.Receive = refl
+made_again (words.Glean i) = refl
+made_again (words.ToPly x) = refl
+made_again (words.ToBalance x) = refl
+made_again (words.ToAdjacency x) = refl
+made_again (words.Plain n) = refl
+
+pub word_discrete : (v w : Word) → Dec (v ≡ w)
+word_discrete v w = dite (ℕ_discrete (tag v) (tag w))
+    (λ e. dite (ℕ_discrete (number v) (number w))
+    (λ f. yes (sym (made_again v) ∙ ap (λ n. made n (number v)) e ∙ ap (made (tag w)) f ∙ made_again w))
+    (λ ne. no (λ is. ne (ap number is))))
+    (λ ne. no (λ is. ne (ap tag is)))

@@ -1,0 +1,77 @@
+-- What is made ready before the first put.
+use Rattle.std.proofs.Common.{◌≡◌, ℕ, ◌≤◌, inl, inr, true≢false, refl, sym, ap, ◌∙◌, subst, arith}
+use Rattle.std.specs.Prelude.{Option, Some, None}
+use Rattle.fib_addr.specs.Prefixes.{Prefix}
+use Rattle.fib_pool.specs.declared.object.Kind.TheVariants as kinds
+use Rattle.fib_steady.specs.Names.{Names}
+use Rattle.fib_joined.specs.Frames.{IsQuiet}
+use Rattle.fib_joined.specs.Promise.{Promise, Serves}
+use Rattle.fib_joined.specs.View.{View, HasRoom, IsBalance, IsTaken}
+use Rattle.fib_stack.specs.Records.{SameBalances, SamePlane}
+use Rattle.fib_stack.specs.Turns.{GotObject}
+use Rattle.fib_stack.proofs.Clearing.{serves_still}
+use Rattle.fib_stack.proofs.Leaving.{quiet_none, take_quiet}
+
+-- a view with another room
+roomy : View → ℕ → View
+roomy u n = record u { spare = n }
+
+pub room_quiet : (u v : View) → HasRoom u v → (look : Prefix → Option ℕ) → IsQuiet look u v
+room_quiet u v h look = subst (λ (w : View). IsQuiet look u w) (sym h.same) (record { plies = λ x is live. (is, live); cells = λ x t is live. refl; edges = λ x t c g. g; kinds = λ x m k. (k, refl); root = refl })
+
+pub room_serves : (p : Promise) (n : Names) (u v : View) → HasRoom u v → Serves p n u → Serves p n v
+room_serves p n u v h s = subst (λ (w : View). Serves p n w) (sym h.same) (serves_still p n u (roomy u v.spare) (λ y t d z l g. g) (λ y t l l'. refl) (λ b e o lasts is q. q) s)
+
+pub room_balances : (u v : View) → HasRoom u v → SameBalances u v
+room_balances u v h = subst (λ (w : View). SameBalances u w) (sym h.same) (record { stay = λ x b. b; fresh = λ x b. b; cells = λ x k b. refl })
+
+pub room_same : (u v : View) → HasRoom u v → SamePlane u v
+room_same u v h = record {
+  users = λ m. ap (λ (w : View). w.users m) h.same;
+  record_of = λ m. ap (λ (w : View). w.record_of m) h.same;
+  balances = room_balances u v h;
+  stored = let e = ap (λ (w : View). w.stored) h.same in omega (arith, e);
+  spare = h.more;
+}
+
+pub same_then : (u v w : View) → SamePlane u v → SamePlane v w → SamePlane u w
+same_then u v w f g = record {
+  users = λ m. g.users m ∙ f.users m;
+  record_of = λ m. g.record_of m ∙ f.record_of m;
+  balances = record {
+    stay = λ x b. g.balances.stay x (f.balances.stay x b);
+    fresh = λ x b. f.balances.fresh x (g.balances.fresh x b);
+    cells = λ x k b. g.balances.cells x k (f.balances.stay x b) ∙ f.balances.cells x k b;
+  };
+  stored = omega (arith, f.stored, g.stored);
+  spare = omega (arith, f.spare, g.spare);
+}
+
+pub room_none : (u : View) → HasRoom u u
+room_none u = record { more = omega arith; same = refl }
+
+-- the prefix's own balance
+pub own_object : (u : View) (balances : Prefix → Option ℕ) (e : Prefix) (o : ℕ) → balances e ≡ Some o → IsBalance u o → GotObject u u balances e o
+own_object u balances e o is b = record {
+  which = inl is;
+  here = b;
+  stay = λ x h. h;
+  cells = λ x k h. refl;
+  records = record { record_of = refl; users = refl };
+  free = λ none. absurd (let bad : Some o ≡ None = sym is ∙ none in cc);
+  stored = omega arith;
+  spare = omega arith;
+}
+
+-- one that was taken
+pub taken_object : (u v : View) (balances : Prefix → Option ℕ) (e : Prefix) (o : ℕ) → balances e ≡ None → 8 ≤ u.free → IsTaken u v kinds.Balance o → GotObject u v balances e o
+taken_object u v balances e o none enough t = record {
+  which = inr (none, λ b. true≢false (sym b.0 ∙ t.fresh));
+  here = t.held;
+  stay = λ x b. let q = t.others x (λ at. true≢false (sym b.0 ∙ ap u.is_held at ∙ t.fresh)) in (q.0 ∙ b.0, q.1 ∙ b.1);
+  cells = λ x k b. t.cells x k;
+  records = t.records;
+  free = λ z. omega (arith, enough, t.free);
+  stored = omega (arith, t.stored);
+  spare = omega (arith, t.spare);
+}

@@ -1,0 +1,82 @@
+// A turn of an entry, from its first put on: nothing can fail.
+ghost use Rattle.std.specs.Prelude.{◌≡◌, ◌⊎◌, ◌+◌, ◌*◌, ◌<◌, ◌≤◌, ℕ, Bool, None, Some, Option, length};
+ghost use Rattle.fib_addr.specs.Prefixes.{Prefix as PrefixValue};
+ghost use Rattle.fib_resolve.specs.declared.types.Tables.{Tables as TablesValue};
+ghost use Rattle.fib_ledger.specs.Deferred.{late_at, late_count};
+ghost use Rattle.fib_joined.specs.Frames.{Beside};
+ghost use Rattle.fib_joined.specs.Promise.{Allows, IsBegun};
+ghost use Rattle.fib_joined.specs.View.{IsBalance, View};
+ghost use Rattle.fib_ply.specs.Tables.{Stands, object_in};
+ghost use Rattle.fib_serving.specs.Matches.{FitsVersions, IsSometime};
+ghost use Rattle.fib_stack.specs.Joined.{Joined, state_in};
+ghost use Rattle.fib_stack.specs.Turns.{HasRoomFor, IsRestacked, IsUnderway, parts_of};
+
+use crate::defer::defer;
+use crate::records::give_old;
+use crate::sixteen::fill;
+use crate::stack::{Plan, Stack};
+use crate::queueing::wake_all;
+use crate::words::words_of;
+use fib_addr::Prefix;
+use fib_joined::Objects;
+use fib_ledger::Known;
+use fib_list::List;
+use fib_ply::PrefixTable;
+use fib_queue::Queue;
+
+/// Enters the prefix at the balance, unless it is there.
+fn place<P: Objects>(on: &mut P, table: &mut PrefixTable, entry: Prefix, object: u32)
+    requires which { (object_in table.old entry ≡ Some object) ⊎ (object_in table.old entry ≡ None) }
+    requires stands { Stands (P.promise on.old) table.old (P.view on.old) }
+    requires fits { FitsVersions (P.promise on.old).versions (object_in table.old) }
+    requires begun { IsBegun (P.promise on.old) }
+    requires sometime { IsSometime (P.promise on.old).versions entry }
+    requires balance { IsBalance (P.view on.old) object }
+    requires free { object_in table.old entry ≡ None → 7 ≤ (P.view on.old).free }
+    requires spare { 16 * (table.old.plies + 7) ≤ (P.view on.old).spare }
+    requires room { 0 < table.old.rows.spare }
+    ensures here { object_in table.new entry ≡ Some object }
+    ensures others { (d : PrefixValue) → (d ≡ entry → ⊥) → object_in table.new d ≡ object_in table.old d }
+    ensures stands { Stands (P.promise on.new) table.new (P.view on.new) }
+    ensures fits { FitsVersions (P.promise on.new).versions (object_in table.new) }
+    ensures beside { Beside (P.view on.old) (P.view on.new) }
+    ensures stored { (P.view on.old).stored ≤ (P.view on.new).stored }
+    ensures promise { P.promise on.new ≡ P.promise on.old }
+{
+    let _length = entry.len();
+    if table.object(entry).is_none() {
+        table.add(on, entry, object);
+    }
+}
+
+/// The rest of the turn. Answers how many buckets it left deferred.
+pub fn finish<P: Objects>(
+    on: &mut P,
+    stack: &mut Stack,
+    table: &mut PrefixTable,
+    queue: &mut Queue,
+    plan: Plan,
+) -> u32
+    requires underway { (S : TablesValue) × (rank : PrefixValue → ℕ) × (v0 : View) × IsUnderway S rank (P.promise on.old) v0 (P.view on.old) (parts_of table.old stack.old queue.old) plan }
+    requires room { HasRoomFor (P.view on.old) stack.old table.old queue.old (length plan.uses.items) (length plan.woken.items) }
+    ensures turn { (S : TablesValue) (rank : PrefixValue → ℕ) (v0 : View) → IsUnderway S rank (P.promise on.old) v0 (P.view on.old) (parts_of table.old stack.old queue.old) plan → IsRestacked S plan.entry (state_in v0 (parts_of table.old stack.old queue.old)) (state_in (P.view on.new) (parts_of table.new stack.new queue.new)) }
+    ensures joined { (S : TablesValue) (rank : PrefixValue → ℕ) (v0 : View) → IsUnderway S rank (P.promise on.old) v0 (P.view on.old) (parts_of table.old stack.old queue.old) plan → Joined S rank (P.promise on.old) (P.view on.new) (parts_of table.new stack.new queue.new) }
+    ensures count { result ≡ late_count (late_at stack.new.late.members plan.entry) 16 }
+    ensures stored { (P.view on.old).stored ≤ (P.view on.new).stored }
+    ensures promise { P.promise on.new ≡ P.promise on.old }
+{
+    let words = words_of(table, plan.uses.as_slice(), plan.wanted.as_slice());
+    stack.late.clear(plan.entry);
+    let answers = fill(on, plan.object, &words);
+    let deferred = defer(&mut stack.late, plan.entry, &words, &answers);
+    let known = Known {
+        forwarded: plan.forwards,
+        uses: List::from_vec(plan.uses),
+    };
+    let old = stack.ledger.set(plan.entry, known);
+    give_old(on, &old);
+    place(on, table, plan.entry, plan.object);
+    queue.remove(plan.entry);
+    wake_all(queue, plan.woken.as_slice());
+    deferred
+}

@@ -1,0 +1,66 @@
+// A turn of a prefix that left the entries.
+ghost use Rattle.std.specs.Prelude.{◌≡◌, ◌+◌, ◌*◌, ◌<◌, ◌≤◌, ℕ, None, Some, false, Option};
+ghost use Rattle.fib_addr.specs.Prefixes.{Prefix as PrefixValue};
+ghost use Rattle.fib_resolve.specs.declared.types.Tables.{Tables as TablesValue};
+ghost use Rattle.fib_changes.specs.Ranks.{IsRanked, has_entry};
+ghost use Rattle.fib_steady.specs.Aims.{IsLasting};
+ghost use Rattle.fib_joined.specs.Promise.{IsBegun};
+ghost use Rattle.fib_joined.specs.View.{IsBalance, View};
+ghost use Rattle.fib_ply.specs.Tables.{Stands, object_in};
+ghost use Rattle.fib_serving.specs.Matches.{FitsVersions};
+ghost use Rattle.fib_stack.specs.Joined.{Joined, state_in};
+ghost use Rattle.fib_stack.specs.Steps.{IsLeast, Removed};
+ghost use Rattle.fib_stack.specs.Turns.{WentFrom, parts_of};
+
+use crate::records::give_old;
+use crate::stack::Stack;
+use fib_addr::Prefix;
+use fib_joined::Objects;
+use fib_ply::PrefixTable;
+use fib_queue::Queue;
+
+/// Takes the prefix out of the table, if it is there, and lets its balance go.
+fn take_out<P: Objects>(on: &mut P, table: &mut PrefixTable, entry: Prefix)
+    requires stands { Stands (P.promise on.old) table.old (P.view on.old) }
+    requires fits { FitsVersions (P.promise on.old).versions (object_in table.old) }
+    requires changing { (P.promise on.old).settled < (P.promise on.old).applied }
+    requires prefix { 1 ≤ entry.len }
+    requires leaves { IsLasting (P.promise on.old).versions entry → ⊥ }
+    requires held { (o : ℕ) → object_in table.old entry ≡ Some o → IsBalance (P.view on.old) o }
+    requires apart { (d : PrefixValue) (o : ℕ) → object_in table.old entry ≡ Some o → object_in table.old d ≡ Some o → d ≡ entry }
+    requires spare { 16 * table.old.plies ≤ (P.view on.old).spare }
+    ensures went { WentFrom (P.view on.old) (P.view on.new) (object_in table.old entry) }
+    ensures here { object_in table.new entry ≡ None }
+    ensures others { (d : PrefixValue) → (d ≡ entry → ⊥) → object_in table.new d ≡ object_in table.old d }
+    ensures stands { Stands (P.promise on.new) table.new (P.view on.new) }
+    ensures fits { FitsVersions (P.promise on.new).versions (object_in table.new) }
+    ensures promise { P.promise on.new ≡ P.promise on.old }
+{
+    if let Some(object) = table.object(entry) {
+        table.remove(on, entry);
+        on.let_go(object);
+    }
+}
+
+/// The prefix leaves the table with all that it held. There must be room for the edges that this replaces.
+pub fn leave<P: Objects>(
+    on: &mut P,
+    stack: &mut Stack,
+    table: &mut PrefixTable,
+    queue: &mut Queue,
+    entry: Prefix,
+)
+    requires left { (S : TablesValue) × (rank : PrefixValue → ℕ) × IsRanked S rank × Joined S rank (P.promise on.old) (P.view on.old) (parts_of table.old stack.old queue.old) × IsLeast rank (state_in (P.view on.old) (parts_of table.old stack.old queue.old)) entry × (has_entry S entry ≡ false) }
+    requires prefix { 1 ≤ entry.len }
+    requires spare { 16 * table.old.plies ≤ (P.view on.old).spare }
+    ensures turn { (S : TablesValue) (rank : PrefixValue → ℕ) → Joined S rank (P.promise on.old) (P.view on.old) (parts_of table.old stack.old queue.old) → Removed entry (state_in (P.view on.old) (parts_of table.old stack.old queue.old)) (state_in (P.view on.new) (parts_of table.new stack.new queue.new)) }
+    ensures joined { (S : TablesValue) (rank : PrefixValue → ℕ) → IsRanked S rank → Joined S rank (P.promise on.old) (P.view on.old) (parts_of table.old stack.old queue.old) → IsLeast rank (state_in (P.view on.old) (parts_of table.old stack.old queue.old)) entry → has_entry S entry ≡ false → Joined S rank (P.promise on.old) (P.view on.new) (parts_of table.new stack.new queue.new) }
+    ensures stored { (P.view on.old).stored ≤ (P.view on.new).stored }
+    ensures promise { P.promise on.new ≡ P.promise on.old }
+{
+    take_out(on, table, entry);
+    stack.late.clear(entry);
+    let old = stack.ledger.forget(entry);
+    give_old(on, &old);
+    queue.remove(entry);
+}

@@ -1,0 +1,52 @@
+// What the stack keeps, and what a turn makes ready.
+ghost use Rattle.std.specs.Prelude.{◌≡◌, [], length};
+
+use fib_addr::Prefix;
+use fib_ledger::{Ledger, Lates, Use};
+use fib_queue::Queued;
+use fib_resolve::Marked;
+use std::alloc::Global;
+
+/// The buckets of entries, as far as they aren't in the plane: what is known of each prefix since its last turn, and which buckets are
+/// deferred.
+#[derive(Drop)]
+pub struct Stack {
+    pub(crate) ledger: Ledger,
+    pub(crate) late: Lates,
+}
+
+/// What a turn of an entry needs, made ready before its first put.
+#[derive(Drop)]
+pub struct Plan {
+    pub entry: Prefix,
+    /// Its balance.
+    pub object: u32,
+    /// Whether it forwards now.
+    pub forwards: bool,
+    /// The path at each bucket.
+    pub wanted: Vec<Marked>,
+    /// The adjacency records that it uses from now on.
+    pub uses: Vec<Use>,
+    /// Who is woken.
+    pub woken: Vec<Queued>,
+}
+
+impl Stack {
+    /// Nothing is known and nothing is deferred.
+    pub fn new(alloc: Global) -> Stack
+        ensures known { result.ledger.rows ≡ [] }
+        ensures late { result.late.members ≡ [] }
+    {
+        Stack {
+            ledger: Ledger::new(alloc),
+            late: Lates::new(alloc),
+        }
+    }
+
+    /// How many buckets are deferred.
+    pub fn deferred(&self) -> u32
+        ensures { result ≡ length self.now.late.members }
+    {
+        self.late.len()
+    }
+}
