@@ -1,12 +1,11 @@
 -- What holds of a pass as it begins, goes on and ends.
 use Rattle.std.proofs.Common.{◌≡◌, ℕ, suc, ◌+◌, ◌-◌, ◌^◌, ◌<◌, ◌≤◌, true, List, [], ◌∷◌, ◌++◌, length, refl, sym, ap, ◌∙◌, subst, arith}
-use Rattle.std.specs.Prelude.{Some}
 use Rattle.fib_resolve.specs.declared.types.End.{End}
 use Rattle.fib_results.specs.declared.record.Version.{Version}
 use Rattle.fib_core.specs.Words.{decoded, is_edge}
 use Rattle.fib_core.specs.declared.word.Word.{Word}
 use Rattle.fib_core.specs.Walk.{Place, ply, balance, adjacency, ended, next, from_ply, from_balance, root}
-use Rattle.fib_core.specs.Trails.{Load, visited, place, IsGoing, Follows, IsSoundTrail, finished, trail_at}
+use Rattle.fib_core.specs.Trails.{Load, visited, place, IsGoing, Follows, IsSoundTrail}
 use Rattle.fib_core.proofs.Numbers.{goes_of}
 use Rattle.fib_core.proofs.Stands.{balance_moves, goes_on, ply_moves}
 use Rattle.fib_core.proofs.Endings.{at_most}
@@ -18,20 +17,6 @@ use Rattle.fib_board.specs.Crews.{Seated}
 use Rattle.fib_cells.specs.Seats.{seat_learned, seat_started}
 use Rattle.fib_worker.specs.Passes.{FoundEdge, HasHopped, IsHop, Passing, hopped_by, loads_at}
 use Rattle.fib_worker.specs.inner.Runs.{IsOn, IsRunning, IsOnItsWay, IsAtItsEnd, WithTrail, Nears}
-
-pub trail_same : (v : Worker) → WithTrail v v
-trail_same v = record { objects = refl; number = refl; pass = refl; knows = refl; past = refl; claims = refl; lo = refl }
-
-pub trail_then : (u v w : Worker) → WithTrail u v → WithTrail v w → WithTrail u w
-trail_then u v w a b = record {
-  objects = b.objects ∙ a.objects;
-  number = b.number ∙ a.number;
-  pass = b.pass ∙ a.pass;
-  knows = b.knows ∙ a.knows;
-  past = b.past ∙ a.past;
-  claims = b.claims ∙ a.claims;
-  lo = b.lo ∙ a.lo;
-}
 
 pub on_unless : (s : Stage) → ((e : End) → s ≡ stages.Ended e → ⊥) → IsOn s
 on_unless (stages.Ended e) h = h e refl
@@ -131,17 +116,7 @@ module _ (a h : ℕ) (v w : Worker) (s t : Stage) (lo : Version) (hops : ℕ) (p
   kept : WithTrail v w
   kept = hop_keeps a h v w s p.running hop
 
-  -- it goes on
-  pub goes_further : IsOn t → IsOnItsWay a h w t lo (hops + 1)
-  goes_further on = record {
-    running = record { follows = hop.follows; at = at; on = on; sound = sound };
-    low = kept.lo ∙ p.low;
-    knows = kept.knows ∙ p.knows;
-    few = (let all = kept.objects in let few = p.few in omega arith);
-    count = (let more = one_more v w t on near in let count = p.count in omega arith);
-  }
-
-  -- or has its end
+  -- it has its end
   pub comes_to : (e : End) → t ≡ stages.Ended e → IsAtItsEnd a h w e lo (hops + 1)
   comes_to e is = record {
     follows = hop.follows;
@@ -194,17 +169,6 @@ begins_with a h first started learned lo s is then sound few la lh at =
   where
     none : learned.worker.trail ≡ []
     none = ap (λ (x : Seated). x.worker.trail) then ∙ ap (λ (x : Seated). x.worker.trail) is
-
--- a pass that has its end leaves its trail
-lo_loaded : (l : List Load) (e : End) (lo knows : Version) → place l ≡ ended e → lo_at l lo knows ≡ lo
-lo_loaded [] e lo knows at = absurd (subst IsGoing at tt)
-lo_loaded (l ∷ ls) e lo knows at = refl
-
-pub leaves : (a h : ℕ) (v : Worker) (e : End) (lo : Version) (hops : ℕ) → IsAtItsEnd a h v e lo hops → (hi : Version)
-    → finished v.lo v.trail (Some hi) ≡ record { lo = lo; loads = v.trail; hi = hi } ∷ []
-leaves a h v e lo hops p hi =
-    ap (λ q. trail_at q (record { lo = v.lo; loads = v.trail; hi = hi })) p.at
-    ∙ ap (λ (l : Version). record { lo = l; loads = v.trail; hi = hi } ∷ []) (sym (lo_loaded v.trail e v.lo v.knows p.at) ∙ p.low)
 
 pub is_hop : (old : Passing) (v w : Seated) (a h : ℕ) (lo : Version) (n : ℕ) → record { seat = v; addr = a; hash = h; lo = lo; hops = n } ≡ old
     → w.id ≡ v.id → HasHopped a h v.worker w.worker → IsHop old (record { seat = w; addr = a; hash = h; lo = lo; hops = n + 1 })

@@ -21,3 +21,5 @@ pub use worker::Worker;
 mod standing;
 #[cfg(test)]
 mod tests;
+#[cfg(test)]
+mod threads;
