@@ -1,5 +1,5 @@
 // Entries that stand for tables.
-ghost use Rattle.std.specs.Prelude.{◌≡◌, ◌<◌, ◌↔◌, IfOk, IfSome, Some, [], length, map, option_copied, slice_get, Contains};
+ghost use Rattle.std.specs.Prelude.{◌≡◌, ◌<◌, ◌↔◌, IfOk, IfSome, IsSome, Some, ℕ, [], length, map, option_copied, slice_get, Contains};
 ghost use Rattle.fib_reach.specs.Walks.{AllDiffer};
 ghost use Rattle.fib_addr.specs.Prefixes.{Prefix as PrefixValue, IsPrefix};
 ghost use Rattle.fib_resolve.specs.Aims.{marked_list};
@@ -8,6 +8,8 @@ ghost use Rattle.fib_resolve.specs.Loops.{targets, looped_at};
 ghost use Rattle.fib_resolve.specs.Tables.{IsSound, fresh};
 ghost use Rattle.fib_resolve.specs.declared.types.Tables.{Tables as TablesValue};
 ghost use Rattle.fib_entries.specs.Known.{StandsFor, ArePairs, row_of, rank_of, chosen_of, prefix_of};
+ghost use Rattle.fib_resolve.specs.declared.types.FibSource.{FibSource as Source};
+ghost use Rattle.fib_interned.specs.Interned.{kept_of};
 ghost use Rattle.fib_entries.specs.inner.Compare.{AreKept};
 
 use crate::build::take_all;
@@ -117,7 +119,8 @@ impl Entries {
 
     /// The prefix's sources with the numbers of their lists, the best first; empty where the prefix isn't effective.
     pub fn pairs(&self, prefix: Prefix) -> &[(FibSource, PathListId)]
-        ensures { (S : TablesValue) → StandsFor self.now S → ArePairs self.now.lists S prefix result.now }
+        ensures pairs { (S : TablesValue) → StandsFor self.now S → ArePairs self.now.lists S prefix result.now }
+        ensures kept { (p : Source × ℕ) → Contains result.now p → IsSome (kept_of self.now.lists p.1) }
     {
         match row(self.rows.as_slice(), prefix) {
             Some(r) => r.pairs.as_slice(),
