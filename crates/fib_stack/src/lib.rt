@@ -6,23 +6,23 @@
 //! plane's calls.
 #![tactic(auto)]
 
-pub mod laws;
-mod records;
 mod defer;
-pub mod wanted;
 mod finish;
+pub mod laws;
 mod leave;
-mod stack;
 mod queueing;
-mod words;
+mod records;
 mod sixteen;
+mod stack;
 pub mod stores;
+pub mod wanted;
+mod words;
 
 pub use defer::defer as defer_words;
 pub use records::{Want, give_all, give_old, take_all};
-pub use words::words_of;
-pub use stack::Stack;
 pub use sixteen::fill;
+pub use stack::Stack;
+pub use words::words_of;
 
 #[cfg(test)]
 mod tests;

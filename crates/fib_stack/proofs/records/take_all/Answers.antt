@@ -53,7 +53,7 @@ loop-mark-preserved g c =
     let i = c.loop-mark.invariant in
     let o = record_for c.mark-item.result.aim in
     let took : TookFor (g.P.Objects.view c.loop-mark.on) (g.P.Objects.view c.take_for.new.on) o c.loop-mark.uses.items c.take_for.new.uses.items (Ok c.in_default.field-0) =
-        subst (λ r. TookFor (g.P.Objects.view c.loop-mark.on) (g.P.Objects.view c.take_for.new.on) o c.loop-mark.uses.items c.take_for.new.uses.items r) c.in_default.is c.take_for.ensures.took in
+    subst (λ r. TookFor (g.P.Objects.view c.loop-mark.on) (g.P.Objects.view c.take_for.new.on) o c.loop-mark.uses.items c.take_for.new.uses.items r) c.in_default.is c.take_for.ensures.took in
     record {
       took = took_step _ _ _ c.loop-mark.uses.items c.take_for.new.uses.items o c.in_default.field-0 i.took took;
       records = records_next _ _ c.loop-mark.uses.items c.take_for.new.uses.items c.args.marks.now c.loop-mark.mark-index c.mark-item.result c.in_default.field-0 c.loop-mark-test.true (sym c.mark-item.is) i.records took;
