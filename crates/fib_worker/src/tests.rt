@@ -3,7 +3,7 @@ ghost use Rattle.std.specs.Prelude.{IfOk, [], false, replicate, ◌<◌, ◌≡�
 ghost use Rattle.fib_lawful.specs.State.{left_of};
 ghost use Rattle.fib_plainboard.specs.inner.Filling.{IsChanging};
 ghost use Rattle.fib_cells.specs.Seats.{fresh_live, id_in};
-ghost use Rattle.fib_plane.specs.declared.put.Put.TheVariants as puts;
+ghost use Rattle.fib_joined.specs.declared.put.Put.TheVariants as puts;
 ghost use Rattle.fib_plane.specs.Planes.{Holds};
 
 use super::*;
