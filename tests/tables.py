@@ -17,8 +17,8 @@ the tables at the round's opening. The long files (a chain, a ring, a line of ma
 the crate's data are kept, and their answers are made anew by the oracle.
 
 A line of the crate's `args` is the words of one run, joined by colons. A run of the words `follow` and a file has entries follow the
-file's edits, and prints nothing where they are what the plain programs say after each; every generated table and worked file is
-followed so, and further generated command files.
+file's edits, and prints nothing where they are what the plain programs say after each; every generated table and short worked file
+is followed so, and further generated command files.
 """
 import pathlib
 import random
@@ -33,6 +33,7 @@ FOLLOWED = {"recursive": 40, "need": 40, "batch": 20}
 PACKETS = 24
 FIRST_SEED = 2001
 FIRST_FOLLOWED = 4001
+MOST_FOLLOWED = 100
 LINES = 24
 LOOKUPS = 12
 LINK = ["create interface eth0", "set interface state eth0 up", "set interface ip address eth0 10.0.0.1/24"]
@@ -135,6 +136,11 @@ def followed(oracle, crate):
     return names
 
 
+def is_short(crate, words):
+    """Whether the words name one file of few lines: entries are compared pair by pair after each of them."""
+    return words.endswith(".fib") and ":" not in words and (crate / "data" / words).read_bytes().count(b"\n") < MOST_FOLLOWED
+
+
 def is_read(capture):
     from fibref.capture import CaptureRefused, read_capture
 
@@ -190,7 +196,7 @@ def main():
             name = f"table_{profile}_{seed}.fib"
             (crate / "data" / name).write_text(table(oracle, profile, seed), errors="surrogateescape")
             runs.append(name)
-    files = [words for words in runs if words.endswith(".fib") and ":" not in words]
+    files = [words for words in runs if is_short(crate, words)]
     runs += rounds(oracle, crate)
     runs += [f"follow:{name}" for name in files + followed(oracle, crate)]
     (crate / "args").write_text("\n".join(runs) + "\n")
