@@ -80,14 +80,18 @@ give_old-requires-clause-objects g c =
 pub give_old-requires-clause-promise : goal.give_old-requires-clause-promise
 give_old-requires-clause-promise g c =
     let u = c.requires.underway in
-    subst (λ (p : Promise). MayClear p (g.P.Objects.view c.fill-answers.new.on)) (sym c.fill-answers.ensures.promise)
-    (inl (waits u.0 u.1 _ u.2 _ _ c.args.plan u.3), ((the_names u.0 u.1 _ u.2 _ _ c.args.plan u.3).0,
-      (c.fill-answers.ensures.ready (the_names u.0 u.1 _ u.2 _ _ c.args.plan u.3).0
-      (ready u.0 u.1 (g.P.Objects.promise c.args.on.now) u.2 (g.P.Objects.view c.args.on.now) (parts_of c.args.table.now c.args.stack.now c.args.queue.now) c.args.plan u.3 (g.met.P.Objects.sound c.args.on.now) (λ m. times_within c.args.stack.now.ledger.rows c.args.plan.entry m) c.words_of-words.result
-      (λ k lt.
-      c.words_of-words.ensures.words k lt
-      ∙ ap (λ (us : List Use). aim_word (record { balance = object_in c.args.table.now; record_of = found_in us }) (aim_of (slice_get c.as_slice-2.result.now k))) c.as_slice.ensures.value
-      ∙ ap (λ (ms : List Marked). aim_word (record { balance = object_in c.args.table.now; record_of = found_in c.args.plan.uses.items }) (aim_of (slice_get ms k))) c.as_slice-2.ensures.value))).serves))
+    subst (λ (p : Promise). MayClear p (g.P.Objects.view c.fill-answers.new.on)) (sym c.fill-answers.ensures.promise) (
+      inl (waits u.0 u.1 _ u.2 _ _ c.args.plan u.3),
+      (
+        (the_names u.0 u.1 _ u.2 _ _ c.args.plan u.3).0,
+        (c.fill-answers.ensures.ready (the_names u.0 u.1 _ u.2 _ _ c.args.plan u.3).0
+            (ready u.0 u.1 (g.P.Objects.promise c.args.on.now) u.2 (g.P.Objects.view c.args.on.now) (parts_of c.args.table.now c.args.stack.now c.args.queue.now) c.args.plan u.3 (g.met.P.Objects.sound c.args.on.now) (λ m. times_within c.args.stack.now.ledger.rows c.args.plan.entry m) c.words_of-words.result
+            (λ k lt.
+            c.words_of-words.ensures.words k lt
+            ∙ ap (λ (us : List Use). aim_word (record { balance = object_in c.args.table.now; record_of = found_in us }) (aim_of (slice_get c.as_slice-2.result.now k))) c.as_slice.ensures.value
+            ∙ ap (λ (ms : List Marked). aim_word (record { balance = object_in c.args.table.now; record_of = found_in c.args.plan.uses.items }) (aim_of (slice_get ms k))) c.as_slice-2.ensures.value))).serves,
+      ),
+    )
 
 serves4 : (g : _) (c : After-place-arg-3-1 g) (S : Tables) (rank : Prefix → ℕ) (v0 : View) (h : IsUnderway S rank (g.P.Objects.promise c.args.on.now) v0 (g.P.Objects.view c.args.on.now) (parts_of c.args.table.now c.args.stack.now c.args.queue.now) c.args.plan)
     → Serves (g.P.Objects.promise c.args.on.now) (the_names S rank _ v0 _ _ c.args.plan h).0 (g.P.Objects.view c.give_old.new.on)
