@@ -47,7 +47,7 @@ pub may_clear : (p : Promise) (n : Names) (v : View) → p.settled < p.applied �
 may_clear p n v lt s = (inl lt, (n, s))
 
 -- what is kept beside the plies, for names of the table
-kept_by : (p q : Promise) (t : Table) (u v : View) (n : Names) → Allows q → q.applied ≡ p.applied → q.versions ≡ p.versions → IsKept (watch_of p t) u → n.balance ≡ held t.rows.members → Serves q n v → IsKept (watch_of q t) v
+pub kept_by : (p q : Promise) (t : Table) (u v : View) (n : Names) → Allows q → q.applied ≡ p.applied → q.versions ≡ p.versions → IsKept (watch_of p t) u → n.balance ≡ held t.rows.members → Serves q n v → IsKept (watch_of q t) v
 kept_by p q t u v n allowed applied versions k names s = record {
   allowed = allowed;
   newest = k.newest;
@@ -57,7 +57,7 @@ kept_by p q t u v n allowed applied versions k names s = record {
   still = s.still;
 }
 
-serves_change : (p : Promise) (n : Names) (v : View) → Serves p n v → Serves (in_change p) n v
+pub serves_change : (p : Promise) (n : Names) (v : View) → Serves p n v → Serves (in_change p) n v
 serves_change p n v s = record { paths = s.paths; promised = s.promised; still = s.still }
 
 -- what is quiet keeps the table
