@@ -9,3 +9,6 @@ mod ledger;
 
 pub use late::{Late, Lates};
 pub use ledger::{Known, Ledger, Use};
+
+#[cfg(test)]
+mod tests;

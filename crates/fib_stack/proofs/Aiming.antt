@@ -1,6 +1,6 @@
 -- What a marked list wants depends on whether the entries on which it counts forward.
-use Rattle.std.proofs.Common.{◌≡◌, ℕ, zero, suc, ◌<◌, Bool, true, false, ◌&&◌, ◌||◌, cond, eq-eqb, List, [], ◌∷◌, refl, sym, ap, ◌∙◌, arith}
-use Rattle.std.specs.Prelude.{Option, Some, None, IfSome, slice_get, filter, option_to_list, map, ◌==◌}
+use Rattle.std.proofs.Common.{inl, inr, ◌≡◌, ℕ, zero, suc, ◌<◌, Bool, true, false, ◌&&◌, ◌||◌, cond, eq-eqb, List, [], ◌∷◌, refl, sym, ap, ◌∙◌, arith}
+use Rattle.std.specs.Prelude.{Contains, ◌⊎◌, Option, Some, None, IfSome, slice_get, filter, option_to_list, map, ◌==◌}
 use Rattle.std.specs.List.{AllByRecursion}
 use Rattle.fib_list.proofs.Lists.{each-filter, each-weaker, each-flat_map, each-at}
 use Rattle.fib_list.proofs.Booleans.{or_left, or_right, and_both}
@@ -69,22 +69,26 @@ settled_below S rank was sound (suc r) each e lt =
 pub record Good (f : Prefix → Bool) (ms : List Marked) (m : Aim) : Type 0 where
   pub go_on : (t : Prefix) → m ≡ aims.On t → (counts_on ms t ≡ true) × (f t ≡ true)
   pub hop : (i a : ℕ) (x : Option ℕ) → m ≡ aims.Ends (answers.Hop i a x) → has_hop ms (answers.Hop i a x) ≡ true
+  pub ends : (end : End) → m ≡ aims.Ends end → (end ≡ answers.Drop) ⊎ ((q : Marked) × Contains ms q × (q.counts ≡ true) × (q.aim ≡ aims.Ends end))
 
 -- a mark of the list
 record Member (ms : List Marked) (m : Marked) : Type 0 where
   open_on : (t : Prefix) → m.counts && is_aimed_at t m.aim ≡ true → counts_on ms t ≡ true
   hops : (end : End) → ends_there end m.aim ≡ true → has_hop ms end ≡ true
+  listed : Contains ms m
 
-members : (qs ms : List Marked) → ((t : Prefix) → counts_on ms t ≡ true → counts_on qs t ≡ true) → ((end : End) → has_hop ms end ≡ true → has_hop qs end ≡ true) → AllByRecursion (Member qs) ms
-members qs [] on_them hop_them = tt
-members qs (m ∷ ms) on_them hop_them = (
+members : (qs ms : List Marked) → ((t : Prefix) → counts_on ms t ≡ true → counts_on qs t ≡ true) → ((end : End) → has_hop ms end ≡ true → has_hop qs end ≡ true) → ((q : Marked) → Contains ms q → Contains qs q) → AllByRecursion (Member qs) ms
+members qs [] on_them hop_them list_them = tt
+members qs (m ∷ ms) on_them hop_them list_them = (
   record {
     open_on = λ t e. on_them t (or_left (m.counts && is_aimed_at t m.aim) (counts_on ms t) e);
     hops = λ end e. hop_them end (or_left (ends_there end m.aim) (has_hop ms end) e);
+    listed = list_them m (0, omega arith, refl);
   },
   members qs ms
       (λ t e. on_them t (or_right (m.counts && is_aimed_at t m.aim) (counts_on ms t) e))
-      (λ end e. hop_them end (or_right (ends_there end m.aim) (has_hop ms end) e)),
+      (λ end e. hop_them end (or_right (ends_there end m.aim) (has_hop ms end) e))
+      (λ q c. list_them q (suc c.0, omega (arith, c.1), c.2)),
 )
 
 same_mac_self : (x : Option ℕ) → same_mac x x ≡ true
@@ -100,18 +104,26 @@ drops_on t e = cc
 drops_hop : (i a : ℕ) (x : Option ℕ) → aims.Ends answers.Drop ≡ aims.Ends (answers.Hop i a x) → ⊥
 drops_hop i a x e = cc
 
+drop_is : (end : End) → aims.Ends answers.Drop ≡ aims.Ends end → answers.Drop ≡ end
+drop_is end e = ap end_in e
+  where
+    end_in : Aim → End
+    end_in (aims.Ends f) = f
+    end_in (aims.On t) = answers.Drop
+
 good_mark : (f : Prefix → Bool) (qs : List Marked) (m : Marked) → Member qs m → is_usable_mark f m ≡ true → Good f qs m.aim
 good_mark f qs m member usable =
     let both = and_both m.counts (leads_on f m.aim) usable in
     record {
       go_on = λ t is. (member.open_on t (and_join m.counts (is_aimed_at t m.aim) both.0 (ap (is_aimed_at t) is ∙ self_same t)), sym (ap (leads_on f) is) ∙ both.1);
       hop = λ i a x is. member.hops (answers.Hop i a x) (ap (ends_there (answers.Hop i a x)) is ∙ same_end_self i a x);
+      ends = λ end is. inr (m, member.listed, both.0, is);
     }
 
 module _ (f : Prefix → Bool) (ms : List Marked) where
   usable_good : AllByRecursion (λ m. Good f ms m.aim) (filter (is_usable_mark f) ms)
   usable_good = each-weaker (λ m. Member ms m × (is_usable_mark f m ≡ true)) (λ m. Good f ms m.aim) (λ m h. good_mark f ms m h.0 h.1) (filter (is_usable_mark f) ms)
-      (each-filter (Member ms) (is_usable_mark f) ms (members ms ms (λ t o. o) (λ end o. o)))
+      (each-filter (Member ms) (is_usable_mark f) ms (members ms ms (λ t o. o) (λ end o. o) (λ q c. c)))
 
   least_good : AllByRecursion (λ m. Good f ms m.aim) (of_least_mark (filter (is_usable_mark f) ms))
   least_good =
@@ -131,7 +143,7 @@ module _ (f : Prefix → Bool) (ms : List Marked) where
       each_place (j ∷ js) = (of_option (slice_get us j) (each-at (λ m. Good f ms m.aim) us j h), each_place js)
 
   good_of : (o : Option Marked) → IfSome o (λ m. Good f ms m.aim) → Good f ms (aim_of o)
-  good_of None g = record { go_on = λ t is. absurd (drops_on t is); hop = λ i a x is. absurd (drops_hop i a x is) }
+  good_of None g = record { go_on = λ t is. absurd (drops_on t is); hop = λ i a x is. absurd (drops_hop i a x is); ends = λ end is. inl (sym (drop_is end is)) }
   good_of (Some m) g = g
 
   pub good_at : (k : ℕ) → Good f ms (aim_by f ms k)
@@ -142,6 +154,9 @@ module _ (f : Prefix → Bool) (ms : List Marked) where
 
 pub bucket_on : (f : Prefix → Bool) (ms : List Marked) (k : ℕ) (t : Prefix) → aim_by f ms k ≡ aims.On t → (counts_on ms t ≡ true) × (f t ≡ true)
 bucket_on f ms k t e = (good_at f ms k).go_on t e
+
+pub bucket_end : (f : Prefix → Bool) (ms : List Marked) (k : ℕ) (end : End) → aim_by f ms k ≡ aims.Ends end → (end ≡ answers.Drop) ⊎ ((q : Marked) × Contains ms q × (q.counts ≡ true) × (q.aim ≡ aims.Ends end))
+bucket_end f ms k end e = (good_at f ms k).ends end e
 
 pub bucket_hop : (f : Prefix → Bool) (ms : List Marked) (k i a : ℕ) (x : Option ℕ) → aim_by f ms k ≡ aims.Ends (answers.Hop i a x) → has_hop ms (answers.Hop i a x) ≡ true
 bucket_hop f ms k i a x e = (good_at f ms k).hop i a x e

@@ -1,6 +1,6 @@
 -- One put more is deferred, or not.
 use Rattle.std.proofs.Common.{◌≡◌, ◌≢◌, ℕ, zero, suc, ◌+◌, ◌<◌, ◌≤◌, List, length, set, refl, sym, ap, ◌∙◌, subst, arith, add-one}
-use Rattle.std.specs.Prelude.{Option, Some, None, if◌then◌else◌, nat_lt}
+use Rattle.std.specs.Prelude.{Option, None}
 use Rattle.std.proofs.lemmas.List.{get_or-set_other, get_or-set_same}
 use Rattle.std.proofs.lemmas.Bool.Decides.{nat_tests}
 use native.Mathlib.Decide.{ℕ_discrete}
@@ -42,3 +42,10 @@ pub word_set : (f : ℕ → Word) (ws : List Word) (i : ℕ) (w : Word) → i < 
 word_set f ws i w lt is done k below = dite (ℕ_discrete k i)
     (λ e. subst (λ (j : ℕ). word_in (set ws i w) j ≡ f j) (sym e) (get_or-set_same ws i w words.Drop lt ∙ is))
     (λ ne. get_or-set_other ws i k w words.Drop ne ∙ done k (omega (arith, below, ne)))
+
+pub none_late : (l : ℕ → Option Word) (n : ℕ) → ((k : ℕ) → l k ≡ None) → 0 ≡ late_count l n
+none_late l zero none = refl
+none_late l (suc n) none =
+    let e : one_late (l n) ≡ one_late None = ap one_late (none n) in
+    let ih = none_late l n none in
+    omega (arith, e, ih)

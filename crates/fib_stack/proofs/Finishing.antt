@@ -1,6 +1,6 @@
 -- What a turn leaves is what stood before it.
-use Rattle.std.proofs.Common.{◌≡◌, ◌≢◌, ℕ, ◌%◌, ◌<◌, ◌≤◌, inl, inr, ⊎_elim, Bool, true, false, true≢false, not, ◌&&◌, ◌||◌, List, refl, sym, ap, ◌∙◌, subst, arith}
-use Rattle.std.specs.Prelude.{Contains, Option, Some, None, ◌⊎◌, if◌then◌else◌}
+use Rattle.std.proofs.Common.{◌≡◌, ℕ, ◌%◌, ◌<◌, ◌≤◌, inl, ⊎_elim, Bool, true, false, true≢false, not, ◌&&◌, List, refl, sym, ap, ◌∙◌, subst, arith}
+use Rattle.std.specs.Prelude.{Contains, Err, Ok, OnOk, Option, Result, Some, None, ◌⊎◌, if◌then◌else◌}
 use Rattle.std.proofs.lemmas.Map.Made.{is_member-Decides}
 use native.Mathlib.Decide.{ℕ_discrete}
 use mathlib.Core.Logic.{dite}
@@ -12,8 +12,7 @@ use Rattle.fib_resolve.specs.declared.types.Tables.{Tables}
 use Rattle.fib_changes.specs.Ranks.{IsRanked, has_entry}
 use Rattle.fib_stands.proofs.Nibbles.{everything_entry}
 use Rattle.fib_steady.specs.Aims.{IsLasting}
-use Rattle.fib_steady.specs.Names.{Names}
-use Rattle.fib_joined.specs.Promise.{Promise, IsBegun, MayClear, MayLetGo, Serves}
+use Rattle.fib_joined.specs.Promise.{Promise, MayClear, MayLetGo}
 use Rattle.fib_joined.specs.View.{View, IsBalance, IsLetGo, IsPlane}
 use Rattle.fib_ply.specs.Rows.{held}
 use Rattle.fib_ply.specs.Tables.{Table, Stands, object_in}
@@ -156,3 +155,7 @@ some_rank (Some r) h = (r, refl)
 
 pub waits_of : (S : Tables) (rank : Prefix → ℕ) (p : Promise) (v : View) (s : Parts) (e : Prefix) → Joined S rank p v s → IsLeast rank (state_in v s) e → p.settled < p.applied
 waits_of S rank p v s e j least = let q = some_rank (rank_in s.queue e) least.queued in j.waiting e q.0 q.1
+
+pub on_ok : {A B : Type 0} {P Q : Type 0} (r : Result A B) → (P → Q) → OnOk r P → OnOk r Q
+on_ok (Ok x) f h = f h
+on_ok (Err e) f h = tt

@@ -20,3 +20,6 @@ pub mod Underway
 pub mod Left
 pub mod Deferring
 pub mod Finishing
+pub mod Moving
+pub mod Beginning
+pub mod Turning

@@ -1,19 +1,19 @@
 -- What is made ready before the first put.
 use Rattle.std.proofs.Common.{◌≡◌, ℕ, ◌≤◌, inl, inr, true≢false, refl, sym, ap, ◌∙◌, subst, arith}
-use Rattle.std.specs.Prelude.{Option, Some, None}
+use Rattle.std.specs.Prelude.{IfNone, IfSome, Option, Some, None}
 use Rattle.fib_addr.specs.Prefixes.{Prefix}
 use Rattle.fib_pool.specs.declared.object.Kind.TheVariants as kinds
 use Rattle.fib_steady.specs.Names.{Names}
 use Rattle.fib_joined.specs.Frames.{IsQuiet}
 use Rattle.fib_joined.specs.Promise.{Promise, Serves}
-use Rattle.fib_joined.specs.View.{View, HasRoom, IsBalance, IsTaken}
+use Rattle.fib_joined.specs.View.{View, HasRoom, IsBalance, IsPlane, IsTaken}
 use Rattle.fib_stack.specs.Records.{SameBalances, SamePlane}
 use Rattle.fib_stack.specs.Turns.{GotObject}
-use Rattle.fib_stack.proofs.Clearing.{serves_still}
+use Rattle.fib_stack.proofs.Clearing.{serves_still, take_serves}
 use Rattle.fib_stack.proofs.Leaving.{quiet_none, take_quiet}
 
 -- a view with another room
-roomy : View → ℕ → View
+abbrev roomy : View → ℕ → View
 roomy u n = record u { spare = n }
 
 pub room_quiet : (u v : View) → HasRoom u v → (look : Prefix → Option ℕ) → IsQuiet look u v
@@ -75,3 +75,16 @@ taken_object u v balances e o none enough t = record {
   stored = omega (arith, t.stored);
   spare = omega (arith, t.spare);
 }
+
+-- one was taken, or not
+pub maybe_quiet : (u v : View) (r : Option ℕ) → IsPlane v → IfSome r (IsTaken u v kinds.Balance) → IfNone r (v ≡ u) → (look : Prefix → Option ℕ) → IsQuiet look u v
+maybe_quiet u v None plane some none look = subst (λ (w : View). IsQuiet look u w) (sym none) (quiet_none look u)
+maybe_quiet u v (Some c) plane some none look = take_quiet u v c plane some look
+
+pub maybe_serves : (p : Promise) (n : Names) (u v : View) (r : Option ℕ) → IfSome r (IsTaken u v kinds.Balance) → IfNone r (v ≡ u) → Serves p n u → Serves p n v
+maybe_serves p n u v None some none s = subst (λ (w : View). Serves p n w) (sym none) s
+maybe_serves p n u v (Some c) some none s = take_serves p n u v c some s
+
+pub none_same : (u v : View) (r : Option ℕ) → IfNone r (v ≡ u) → r ≡ None → v ≡ u
+none_same u v None h e = h
+none_same u v (Some c) h e = absurd (cc)

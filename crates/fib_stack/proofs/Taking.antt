@@ -1,7 +1,7 @@
 -- A mark's record is taken, where there is one.
 use Rattle.std.proofs.Common.{◌≡◌, ℕ, zero, suc, ◌+◌, ◌<◌, ◌≤◌, List, [], ◌∷◌, ◌++◌, length, map, take, get_or, refl, sym, ap, ◌∙◌, subst, arith, add-one}
-use Rattle.std.specs.Prelude.{Option, Some, None, Result, Ok, Err, flat_map, option_to_list}
-use Rattle.std.proofs.lemmas.List.{length_push}
+use Rattle.std.specs.Prelude.{Option, Some, None, Result, Ok, Err, option_to_list}
+use Rattle.std.proofs.lemmas.List.{length-map, length_push}
 use Rattle.fib_addr.specs.Prefixes.{Prefix}
 use Rattle.fib_resolve.specs.declared.aims.Marked.{Marked}
 use Rattle.fib_pool.specs.declared.object.AdjacencyRecord.{AdjacencyRecord}
@@ -70,3 +70,20 @@ records_next v w us vs ms i m x lt is before h =
 pub few_step : (v w : View) (us vs : List Use) (o : Option AdjacencyRecord) (x : Unit) → TookFor v w o us vs (Ok x) → length vs ≤ length us + 1
 few_step v w us vs None x h = let e = ap length h.1 in omega (arith, e)
 few_step v w us vs (Some m) x h = let e = ap length h.2 in omega (arith, e, length_push us (record { interface = m.interface; next_hop = m.next_hop; mac = m.mac; object = h.0 }))
+
+-- after what could not be had, all is as the records before it were taken
+pub failed_took : (u0 u v : View) (o : Option AdjacencyRecord) (us vs : List Use) (e : Want) (r : Result Unit Want) → r ≡ Err e → TookAll u0 u us → TookFor u v o us vs r → TookAll u0 v vs
+failed_took u0 u v o us vs e r is took h =
+    let same = failed_same u v o us vs e (subst (λ (q : Result Unit Want). TookFor u v o us vs q) is h) in
+    subst (λ (w : View). TookAll u0 w vs) (sym same.0) (subst (λ (l : List Use). TookAll u0 u l) (sym same.1) took)
+
+one_record : (o : Option AdjacencyRecord) (rs : List AdjacencyRecord) → length (option_to_list o ++ rs) ≤ length rs + 1
+one_record None rs = omega arith
+one_record (Some m) rs = omega arith
+
+records_few : (ms : List Marked) → length (records_for ms) ≤ length ms
+records_few [] = omega arith
+records_few (m ∷ ms) = omega (arith, one_record (record_for m.aim) (records_for ms), records_few ms)
+
+pub uses_few : (us : List Use) (ms : List Marked) → map record_used us ≡ records_for ms → length us ≤ length ms
+uses_few us ms e = let l = ap length e in omega (arith, l, length-map us record_used, records_few ms)

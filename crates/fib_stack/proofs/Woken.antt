@@ -1,10 +1,10 @@
 -- Who is woken stands among the dependants.
-use Rattle.std.proofs.Common.{inl, inr, zero, suc, ◌≡◌, ℕ, ◌+◌, ◌<◌, Bool, true, false, true≢false, ◌&&◌, ◌||◌, List, [], ◌∷◌, ◌++◌, length, take, get_or, refl, sym, ap, ◌∙◌, subst, arith}
+use Rattle.std.proofs.Common.{inr, zero, suc, ◌≡◌, ℕ, ◌+◌, ◌<◌, ◌≤◌, Bool, true, false, ◌&&◌, ◌||◌, List, [], ◌∷◌, ◌++◌, length, take, get_or, refl, sym, ap, ◌∙◌, subst, arith}
 use Rattle.std.specs.Prelude.{Contains, Option, Some, if◌then◌else◌, ◌↔◌, ◌⊎◌}
-use Rattle.std.specs.List.{AllByRecursion, list_any}
+use Rattle.std.specs.List.{list_any}
 use Rattle.std.proofs.lemmas.List.Folds.{list_any_more, list_any-append}
 use Rattle.fib_list.proofs.Lists.{Contains-flat_map}
-use Rattle.fib_list.proofs.Booleans.{and_both, or_left, or_right}
+use Rattle.fib_list.proofs.Booleans.{and_both}
 use Rattle.fib_addr.specs.Prefixes.{Prefix, same_prefix}
 use Rattle.fib_addr.proofs.PrefixLaws.{same_prefix-Decides}
 use Rattle.fib_resolve.specs.Loops.{kind_targets, targets}
@@ -98,3 +98,17 @@ rank_next rank q d new now first n r e is before at = by (same_prefix q d) refl
     by : (b : Bool) → same_prefix q d ≡ b → (first ≡ Some r) ⊎ (r ≡ rank d)
     by true t = inr (let both : Some n ≡ Some r = sym (ap (λ b. if b then Some n else now) t) ∙ sym e ∙ at in let same : n ≡ r = cc in sym same ∙ is ∙ ap rank ((same_prefix-Decides q d).0 t))
     by false f = before r (sym (ap (λ b. if b then Some n else now) f) ∙ sym e ∙ at)
+
+pub take_whole : (ds : List Prefix) (i : ℕ) → length ds ≤ i → take i ds ≡ ds
+take_whole [] zero le = refl
+take_whole [] (suc i) le = refl
+take_whole (x ∷ ds) zero le = absurd (omega (arith, le))
+take_whole (x ∷ ds) (suc i) le = ap (λ l. x ∷ l) (take_whole ds i (omega (arith, le)))
+
+-- the one that is meant is the other
+pub same_woken : (S : Tables) (e x d : Prefix) → same_prefix x d && wakes S d e ≡ same_prefix x d && wakes S x e
+same_woken S e x d = by (same_prefix x d) refl
+  where
+    by : (b : Bool) → same_prefix x d ≡ b → b && wakes S d e ≡ b && wakes S x e
+    by true is = ap (λ (y : Prefix). wakes S y e) (sym ((same_prefix-Decides x d).0 is))
+    by false is = refl

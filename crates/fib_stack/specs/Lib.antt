@@ -8,3 +8,4 @@ pub mod Runs
 pub mod Waking
 pub mod Joined
 pub mod Turns
+pub mod Done

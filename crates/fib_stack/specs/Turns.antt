@@ -1,5 +1,5 @@
 -- What a turn does.
-use Rattle.std.specs.Prelude.{◌≡◌, ◌⊎◌, ℕ, ◌+◌, ◌-◌, ◌*◌, ◌^◌, ◌<◌, ◌≤◌, Bool, true, false, not, ◌&&◌, ◌||◌, List, [], ◌∷◌, Option, Some, None, filter, map, length, slice_get, vec_capacity, if◌then◌else◌}
+use Rattle.std.specs.Prelude.{◌≡◌, ◌⊎◌, ℕ, ◌+◌, ◌-◌, ◌*◌, ◌^◌, ◌<◌, ◌≤◌, Bool, true, not, ◌&&◌, ◌||◌, List, [], ◌∷◌, Option, Some, None, filter, map, length, slice_get, vec_capacity, if◌then◌else◌}
 use Rattle.fib_addr.specs.Prefixes.{Prefix, same_prefix}
 use Rattle.fib_resolve.specs.Touched.{differ}
 use Rattle.fib_resolve.specs.declared.types.End.{End}
@@ -163,3 +163,12 @@ pub record IsLeft (v0 v1 v2 : View) (e : Prefix) (s t : Parts) : Type 0 where
   pub back : GaveAll v1 v2 (used_by (s.known e))
   pub plane : IsPlane v2
   pub queue : (d : Prefix) → queued_in t d ≡ (queued_in s d && not (same_prefix d e))
+
+-- what others may do to the plane while nothing is put: balances that are held keep their cells, and records with users their objects
+pub record IsMoved (p : Promise) (u v : View) : Type 0 where
+  pub users : (m : AdjacencyRecord) → v.users m ≡ u.users m
+  pub records : (m : AdjacencyRecord) → 0 < u.users m → v.record_of m ≡ u.record_of m
+  pub stay : (x : ℕ) → IsBalance u x → IsBalance v x
+  pub cells : (x k : ℕ) → IsBalance u x → v.cell x k ≡ u.cell x k
+  pub quiet : (look : Prefix → Option ℕ) → IsQuiet look u v
+  pub serves : (n : Names) → Serves p n u → Serves p n v

@@ -12,10 +12,10 @@ ghost use Rattle.fib_stack.specs.Joined.{Joined, state_in};
 ghost use Rattle.fib_stack.specs.Turns.{HasRoomFor, IsRestacked, IsUnderway, parts_of};
 
 use crate::defer::defer;
+use crate::queueing::wake_all;
 use crate::records::give_old;
 use crate::sixteen::fill;
 use crate::stack::{Plan, Stack};
-use crate::queueing::wake_all;
 use crate::words::words_of;
 use fib_addr::Prefix;
 use fib_joined::Objects;

@@ -3,6 +3,7 @@ ghost use Rattle.std.specs.Prelude.{◌≡◌, ◌+◌, ◌*◌, ◌<◌, ◌≤
 ghost use Rattle.fib_addr.specs.Prefixes.{Prefix as PrefixValue};
 ghost use Rattle.fib_resolve.specs.declared.types.Tables.{Tables as TablesValue};
 ghost use Rattle.fib_changes.specs.Ranks.{IsRanked, has_entry};
+ghost use Rattle.fib_ledger.specs.Deferred.{late_at};
 ghost use Rattle.fib_steady.specs.Aims.{IsLasting};
 ghost use Rattle.fib_joined.specs.Promise.{IsBegun};
 ghost use Rattle.fib_joined.specs.View.{IsBalance, View};
@@ -55,6 +56,7 @@ pub fn leave<P: Objects>(
     requires spare { 16 * table.old.plies ≤ (P.view on.old).spare }
     ensures turn { (S : TablesValue) (rank : PrefixValue → ℕ) → Joined S rank (P.promise on.old) (P.view on.old) (parts_of table.old stack.old queue.old) → Removed entry (state_in (P.view on.old) (parts_of table.old stack.old queue.old)) (state_in (P.view on.new) (parts_of table.new stack.new queue.new)) }
     ensures joined { (S : TablesValue) (rank : PrefixValue → ℕ) → IsRanked S rank → Joined S rank (P.promise on.old) (P.view on.old) (parts_of table.old stack.old queue.old) → IsLeast rank (state_in (P.view on.old) (parts_of table.old stack.old queue.old)) entry → has_entry S entry ≡ false → Joined S rank (P.promise on.old) (P.view on.new) (parts_of table.new stack.new queue.new) }
+    ensures clear { (k : ℕ) → late_at stack.new.late.members entry k ≡ None }
     ensures stored { (P.view on.old).stored ≤ (P.view on.new).stored }
     ensures promise { P.promise on.new ≡ P.promise on.old }
 {

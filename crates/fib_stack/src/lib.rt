@@ -1,28 +1,33 @@
-//! The stack: what a turn, a retry and a change of the tables do to the buckets of entries, and what they keep.
+//! The stack: what a turn, a retry and a change of the tables do to the buckets of entries, what they keep, and the turn.
 //!
 //! `specs/States.antt` says what stands of each prefix, `specs/Steps.antt` what a step does, `specs/Steadiness.antt` which buckets keep their
 //! word while the versions change, `specs/Orders.antt` in which order prefixes are restacked, `specs/Buckets.antt` how the plane
-//! is read, `specs/Records.antt` and `specs/Runs.antt` what taking records and filling an object do. `laws` are over values, `stores` over the
-//! plane's calls.
+//! is read, `specs/Records.antt` and `specs/Runs.antt` what taking records and filling an object do, `specs/Joined.antt` what stands between
+//! plane, prefix table, stack and queue, and `specs/Done.antt` what a turn answers; `specs/Turns.antt` has what its parts do. `laws` are over
+//! values, `stores` over the plane's calls, `between` on what others do in between.
 #![tactic(auto)]
 
-pub mod laws;
-mod records;
+mod begin;
+pub mod between;
 mod defer;
-pub mod wanted;
 mod finish;
+pub mod laws;
 mod leave;
-mod stack;
 mod queueing;
-mod words;
+mod ready;
+mod records;
 mod sixteen;
+mod stack;
 pub mod stores;
+mod turn;
+mod waking;
+mod wanted;
+mod words;
 
-pub use defer::defer as defer_words;
-pub use records::{Want, give_all, give_old, take_all};
-pub use words::words_of;
-pub use stack::Stack;
+pub use records::{Want, give_all, take_all};
 pub use sixteen::fill;
+pub use stack::Stack;
+pub use turn::Turn;
 
 #[cfg(test)]
 mod tests;

@@ -2,7 +2,7 @@
 ghost use Rattle.std.specs.Prelude.{◌≡◌, [], length};
 
 use fib_addr::Prefix;
-use fib_ledger::{Ledger, Lates, Use};
+use fib_ledger::{Lates, Ledger, Use};
 use fib_queue::Queued;
 use fib_resolve::Marked;
 use std::alloc::Global;

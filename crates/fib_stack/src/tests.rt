@@ -1,5 +1,13 @@
-// Each law once.
+// Each law once, and a new stack.
 use super::*;
+use std::test::Fail;
+
+#[test]
+fn a_new_stack_has_nothing_deferred(rt: HostRuntime) -> Result<(), Fail> {
+    let stack = Stack::new(rt.alloc());
+    assert_eq!(rt; stack.deferred(), 0);
+    Ok(())
+}
 
 #[test]
 fn each_law() {
@@ -34,4 +42,6 @@ fn each_law() {
     stores::letting_an_object_go_keeps_it();
     stores::taking_a_balance_keeps_it();
     stores::where_all_is_calm_nothing_closes_a_cycle();
+    between::a_scan_keeps_what_stands();
+    between::so_does_room();
 }

@@ -1,11 +1,9 @@
-use Rattle.std.proofs.Common.{◌≡◌, ◌∙◌, arith, refl, sym, subst}
-use Rattle.std.specs.Prelude.{Some}
-use Rattle.fib_joined.specs.Promise.{Promise, MayClear, Serves}
+use Rattle.std.proofs.Common.{◌∙◌, refl, sym}
 use Rattle.fib_joined.specs.View.{GaveRecord}
 use Rattle.fib_ledger.specs.Ledgers.{record_used}
 use Rattle.fib_stack.proofs.Leaving.{quiet_none, quiet_then, gave_quiet}
 use Rattle.fib_stack.proofs.Clearing.{gave_serves}
-use Rattle.fib_stack.proofs.Listing.{user_left, object_left, gave_next, gave_none}
+use Rattle.fib_stack.proofs.Listing.{object_left, gave_next, gave_none}
 use Rattle.fib_stack.proofs.records.give_all.Goals as goal
 
 pub loop-held-init : goal.loop-held-init
@@ -17,7 +15,7 @@ give_adj-requires-clause-record g c = (record_used c.held-item.result, object_le
 pub loop-held-preserved : goal.loop-held-preserved
 loop-held-preserved g c =
     let gave : GaveRecord (g.P.Objects.view c.loop-held.on) (g.P.Objects.view c.give_adj.new.self) (record_used c.held-item.result) =
-        c.give_adj.ensures.gave (record_used c.held-item.result) (object_left _ _ c.args.uses.now c.loop-held.held-index c.held-item.result c.loop-held-test.true (sym c.held-item.is) c.requires.users c.requires.objects c.loop-held.invariant.gave) in
+    c.give_adj.ensures.gave (record_used c.held-item.result) (object_left _ _ c.args.uses.now c.loop-held.held-index c.held-item.result c.loop-held-test.true (sym c.held-item.is) c.requires.users c.requires.objects c.loop-held.invariant.gave) in
     record {
       gave = gave_next _ _ _ c.args.uses.now c.loop-held.held-index c.held-item.result c.loop-held-test.true (sym c.held-item.is) c.loop-held.invariant.gave gave;
       quiet = λ look. quiet_then look _ _ _ (c.loop-held.invariant.quiet look) (gave_quiet _ _ (record_used c.held-item.result) (g.met.P.Objects.sound c.give_adj.new.self) gave look);

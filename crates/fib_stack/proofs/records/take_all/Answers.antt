@@ -1,15 +1,11 @@
-use Rattle.std.proofs.Common.{◌≡◌, ◌∙◌, ◌<◌, ◌≤◌, ℕ, List, length, refl, sym, subst, arith, rules, ap}
-use Rattle.std.specs.Prelude.{Result, Ok, Err}
-use Rattle.fib_pool.specs.declared.object.AdjacencyRecord.{AdjacencyRecord}
+use Rattle.std.proofs.Common.{◌∙◌, ◌≤◌, List, refl, sym, subst, arith, rules}
+use Rattle.std.specs.Prelude.{Ok}
 use Rattle.fib_ledger.specs.declared.ledger.Use.{Use}
 use Rattle.fib_ledger.specs.Ledgers.{times}
-use Rattle.fib_joined.specs.View.{View}
 use Rattle.fib_stack.specs.Records.{AreObjects, GaveAll, TookAll, TookFor, record_for}
-use Rattle.fib_stack.specs.declared.records.Want.{Want}
 use Rattle.fib_stack.proofs.Leaving.{quiet_none, quiet_then}
 use Rattle.fib_stack.proofs.Listing.{took_none, times_length, enough_users, same_after}
-use Rattle.fib_stack.proofs.Taking.{failed_same, took_quietly, took_serving, took_step, records_next, few_step}
-use Rattle.fib_stack.proofs.records.take_all.Goals.{In-Err}
+use Rattle.fib_stack.proofs.Taking.{failed_took, took_quietly, took_serving, took_step, records_next, few_step}
 use Rattle.fib_stack.proofs.records.take_all.Goals as goal
 
 pub loop-mark-init : goal.loop-mark-init
@@ -27,21 +23,15 @@ pub take_for-requires-clause-few : goal.take_for-requires-clause-few
 take_for-requires-clause-few g c = λ m.
     omega (arith, c.loop-mark.invariant.took.users m, times_length m c.loop-mark.uses.items, c.loop-mark.invariant.few, c.requires.few m, c.loop-mark-test.true)
 
--- a fault left all as the records before it were taken
-still : (g : _) (c : In-Err g) → TookAll (g.P.Objects.view c.args.on.now) (g.P.Objects.view c.take_for.new.on) c.take_for.new.uses.items
-still g c =
-    let h = failed_same _ _ (record_for c.mark-item.result.aim) c.loop-mark.uses.items c.take_for.new.uses.items c.in-Err.want (subst (λ r. TookFor (g.P.Objects.view c.loop-mark.on) (g.P.Objects.view c.take_for.new.on) (record_for c.mark-item.result.aim) c.loop-mark.uses.items c.take_for.new.uses.items r) c.in-Err.is c.take_for.ensures.took) in
-    subst (λ (v : View). TookAll (g.P.Objects.view c.args.on.now) v c.take_for.new.uses.items) (sym h.0) (subst (λ (us : List Use). TookAll (g.P.Objects.view c.args.on.now) (g.P.Objects.view c.loop-mark.on) us) (sym h.1) c.loop-mark.invariant.took)
-
 pub give_all-requires-clause-users : goal.give_all-requires-clause-users
-give_all-requires-clause-users g c = λ m. subst (λ (us : List Use). times m us ≤ (g.P.Objects.view c.take_for.new.on).users m) (sym c.as_slice.ensures.value) (enough_users _ _ c.take_for.new.uses.items (still g c) m)
+give_all-requires-clause-users g c = λ m. subst (λ (us : List Use). times m us ≤ (g.P.Objects.view c.take_for.new.on).users m) (sym c.as_slice.ensures.value) (enough_users _ _ c.take_for.new.uses.items (failed_took (g.P.Objects.view c.args.on.now) (g.P.Objects.view c.loop-mark.on) (g.P.Objects.view c.take_for.new.on) (record_for c.mark-item.result.aim) c.loop-mark.uses.items c.take_for.new.uses.items c.in-Err.want c.take_for.result c.in-Err.is c.loop-mark.invariant.took c.take_for.ensures.took) m)
 
 pub give_all-requires-clause-objects : goal.give_all-requires-clause-objects
-give_all-requires-clause-objects g c = subst (λ (us : List Use). AreObjects (g.P.Objects.view c.take_for.new.on) us) (sym c.as_slice.ensures.value) (still g c).objects
+give_all-requires-clause-objects g c = subst (λ (us : List Use). AreObjects (g.P.Objects.view c.take_for.new.on) us) (sym c.as_slice.ensures.value) (failed_took (g.P.Objects.view c.args.on.now) (g.P.Objects.view c.loop-mark.on) (g.P.Objects.view c.take_for.new.on) (record_for c.mark-item.result.aim) c.loop-mark.uses.items c.take_for.new.uses.items c.in-Err.want c.take_for.result c.in-Err.is c.loop-mark.invariant.took c.take_for.ensures.took).objects
 
 pub returns-in-Err-clause-err : goal.returns-in-Err-clause-err
 returns-in-Err-clause-err g c =
-    same_after _ (g.P.Objects.view c.take_for.new.on) _ c.take_for.new.uses.items (g.met.P.Objects.sound c.args.on.now) (g.met.P.Objects.sound c.give_all.new.on) (still g c)
+    same_after _ (g.P.Objects.view c.take_for.new.on) _ c.take_for.new.uses.items (g.met.P.Objects.sound c.args.on.now) (g.met.P.Objects.sound c.give_all.new.on) (failed_took (g.P.Objects.view c.args.on.now) (g.P.Objects.view c.loop-mark.on) (g.P.Objects.view c.take_for.new.on) (record_for c.mark-item.result.aim) c.loop-mark.uses.items c.take_for.new.uses.items c.in-Err.want c.take_for.result c.in-Err.is c.loop-mark.invariant.took c.take_for.ensures.took)
     (subst (λ (us : List Use). GaveAll (g.P.Objects.view c.take_for.new.on) (g.P.Objects.view c.give_all.new.on) us) c.as_slice.ensures.value c.give_all.ensures.gave)
 
 pub returns-in-Err-clause-quiet : goal.returns-in-Err-clause-quiet
@@ -53,7 +43,7 @@ loop-mark-preserved g c =
     let i = c.loop-mark.invariant in
     let o = record_for c.mark-item.result.aim in
     let took : TookFor (g.P.Objects.view c.loop-mark.on) (g.P.Objects.view c.take_for.new.on) o c.loop-mark.uses.items c.take_for.new.uses.items (Ok c.in_default.field-0) =
-        subst (λ r. TookFor (g.P.Objects.view c.loop-mark.on) (g.P.Objects.view c.take_for.new.on) o c.loop-mark.uses.items c.take_for.new.uses.items r) c.in_default.is c.take_for.ensures.took in
+    subst (λ r. TookFor (g.P.Objects.view c.loop-mark.on) (g.P.Objects.view c.take_for.new.on) o c.loop-mark.uses.items c.take_for.new.uses.items r) c.in_default.is c.take_for.ensures.took in
     record {
       took = took_step _ _ _ c.loop-mark.uses.items c.take_for.new.uses.items o c.in_default.field-0 i.took took;
       records = records_next _ _ c.loop-mark.uses.items c.take_for.new.uses.items c.args.marks.now c.loop-mark.mark-index c.mark-item.result c.in_default.field-0 c.loop-mark-test.true (sym c.mark-item.is) i.records took;

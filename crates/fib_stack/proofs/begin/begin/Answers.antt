@@ -1,0 +1,123 @@
+use Rattle.std.proofs.Common.{◌≡◌, ◌∙◌, ◌&&◌, ℕ, List, map, ap, inl, sym, subst, arith}
+use Rattle.std.specs.Prelude.{Option, filter}
+use Rattle.fib_addr.specs.Prefixes.{Prefix}
+use Rattle.fib_resolve.specs.Aims.{marked_list}
+use Rattle.fib_resolve.specs.Touched.{differ}
+use Rattle.fib_changes.specs.Ranks.{is_usable_mark, wakes}
+use Rattle.fib_changes.specs.Wanted.{of_least_mark, spread_marks}
+use Rattle.fib_changes.proofs.Ranking.{ranked}
+use Rattle.fib_entries.specs.Known.{rank_of}
+use Rattle.fib_ledger.specs.declared.ledger.Use.{Use}
+use Rattle.fib_ledger.specs.Ledgers.{record_used}
+use Rattle.fib_ledger.proofs.Books.{total_few}
+use Rattle.fib_joined.specs.Promise.{Promise, MayClear, Serves}
+use Rattle.fib_joined.specs.View.{View}
+use Rattle.fib_stack.specs.Joined.{Parts, balance_in, table_of, was_by}
+use Rattle.fib_stack.specs.Records.{GaveAll, records_for}
+use Rattle.fib_stack.specs.States.{forwards_by}
+use Rattle.fib_stack.specs.Turns.{GotObject, IsTurnOf, IsUnderway, parts_of}
+use Rattle.fib_stack.specs.Waking.{are_among}
+use Rattle.fib_stack.specs.declared.stack.Plan.{Plan}
+use Rattle.fib_stack.proofs.Beginning.{underway}
+use Rattle.fib_stack.proofs.Finishing.{waits_of}
+use Rattle.fib_stack.proofs.Joining.{table_names}
+use Rattle.fib_stack.proofs.Leaving.{quiet_then}
+use Rattle.fib_stack.proofs.Listing.{same_after}
+use Rattle.fib_stack.proofs.Readying.{none_same, room_quiet, room_same, room_serves, same_then}
+use Rattle.fib_stack.proofs.Taking.{uses_few}
+use Rattle.fib_stack.proofs.begin.begin.Goals as goal
+
+pub returns-in_default-make_room-clause-quiet : goal.returns-in_default-make_room-clause-quiet
+returns-in_default-make_room-clause-quiet g c = room_quiet _ _ c.make_room.ensures.same
+
+pub take_all-requires-clause-few : goal.take_all-requires-clause-few
+take_all-requires-clause-few g c = λ m.
+    let t = c.requires.turn.2 in
+    let u = (room_same (g.P.Objects.view c.args.on.now) (g.P.Objects.view c.make_room.new.on) c.make_room.ensures.same).users m in
+    let s = ap (λ (q : Parts). q.total m) c.make_room.ensures.parts in
+    omega (arith, u, s, t.joined.laid.counted m, total_few c.make_room.new.stack.ledger.rows m, c.in-Ok-make_room.ensures.room.few, c.len.ensures)
+
+pub take_all-requires-clause-promise : goal.take_all-requires-clause-promise
+take_all-requires-clause-promise g c =
+    let t = c.requires.turn.2 in
+    let p = g.P.Objects.promise c.args.on.now in
+    let s = parts_of c.args.table.now c.args.stack.now c.args.queue.now in
+    let n = table_names p (table_of s) (g.P.Objects.view c.args.on.now) t.joined.table in
+    subst (λ (q : Promise). MayClear q (g.P.Objects.view c.make_room.new.on)) (sym c.make_room.ensures.promise)
+    (inl (waits_of c.requires.turn.0 _ p _ s c.args.entry t.joined t.least), (n.0, room_serves p n.0 _ _ c.make_room.ensures.same n.2))
+
+pub returns-in_err-take_all-clause-quiet : goal.returns-in_err-take_all-clause-quiet
+returns-in_err-take_all-clause-quiet g c = λ look. quiet_then look _ (g.P.Objects.view c.make_room.new.on) _ (room_quiet _ _ c.make_room.ensures.same look) (c.take_all.ensures.quiet look)
+
+pub give_all-requires-clause-promise : goal.give_all-requires-clause-promise
+give_all-requires-clause-promise g c =
+    let t = c.requires.turn.2 in
+    let p = g.P.Objects.promise c.args.on.now in
+    let s = parts_of c.args.table.now c.args.stack.now c.args.queue.now in
+    let n = table_names p (table_of s) (g.P.Objects.view c.args.on.now) t.joined.table in
+    let s1 = room_serves p n.0 _ (g.P.Objects.view c.make_room.new.on) c.make_room.ensures.same n.2 in
+    let s2 = subst (λ (q : Promise). Serves q n.0 (g.P.Objects.view c.make_room.new.on) → Serves q n.0 (g.P.Objects.view c.take_all.new.on)) c.make_room.ensures.promise (c.take_all.ensures.serves n.0) s1 in
+    let s3 = subst (λ (q : Promise). Serves q n.0 (g.P.Objects.view c.take_all.new.on) → Serves q n.0 (g.P.Objects.view c.object_for.new.on)) (c.take_all.ensures.promise ∙ c.make_room.ensures.promise) (c.object_for.ensures.serves n.0) s2 in
+    subst (λ (q : Promise). MayClear q (g.P.Objects.view c.object_for.new.on)) (sym (c.object_for.ensures.promise ∙ c.take_all.ensures.promise ∙ c.make_room.ensures.promise))
+    (inl (waits_of c.requires.turn.0 _ p _ s c.args.entry t.joined t.least), (n.0, s3))
+
+pub returns-in_default-object_for-clause-err : goal.returns-in_default-object_for-clause-err
+returns-in_default-object_for-clause-err g c =
+    let v1 = g.P.Objects.view c.make_room.new.on in
+    let v2 = g.P.Objects.view c.take_all.new.on in
+    let v5 = g.P.Objects.view c.give_all.new.on in
+    let same : g.P.Objects.view c.object_for.new.on ≡ v2 = none_same v2 (g.P.Objects.view c.object_for.new.on) c.object_for.result c.object_for.ensures.none c.in_default-object_for.is in
+    same_then _ v1 v5 (room_same _ v1 c.make_room.ensures.same)
+    (same_after v1 v2 v5 c.take_all.new.uses.items (g.met.P.Objects.sound c.make_room.new.on) (g.met.P.Objects.sound c.give_all.new.on) c.in_ok-take_all.ensures.ok
+    (subst (λ (w : View). GaveAll w v5 c.take_all.new.uses.items) same (subst (λ (us : List Use). GaveAll (g.P.Objects.view c.object_for.new.on) v5 us) c.as_slice.ensures.value c.give_all.ensures.gave)))
+
+pub returns-in_default-object_for-clause-quiet : goal.returns-in_default-object_for-clause-quiet
+returns-in_default-object_for-clause-quiet g c = λ look.
+    quiet_then look _ (g.P.Objects.view c.make_room.new.on) _ (room_quiet _ _ c.make_room.ensures.same look)
+    (quiet_then look _ (g.P.Objects.view c.take_all.new.on) _ (c.take_all.ensures.quiet look)
+    (quiet_then look _ (g.P.Objects.view c.object_for.new.on) _ (c.object_for.ensures.quiet look) (c.give_all.ensures.quiet look)))
+
+pub returns-clause-quiet : goal.returns-clause-quiet
+returns-clause-quiet g c = λ look.
+    quiet_then look _ (g.P.Objects.view c.make_room.new.on) _ (room_quiet _ _ c.make_room.ensures.same look)
+    (quiet_then look _ (g.P.Objects.view c.take_all.new.on) _ (c.take_all.ensures.quiet look) (c.object_for.ensures.quiet look))
+
+pub returns-clause-room : goal.returns-clause-room
+returns-clause-room g c =
+    let r = c.in-Ok-make_room.ensures.room in
+    let few = uses_few c.take_all.new.uses.items c.marked-marks.result.now c.in_ok-take_all.ensures.records in
+    record {
+      late = r.late;
+      known = r.known;
+      rows = r.rows;
+      queue = omega (arith, r.queue, c.len.ensures);
+      spare = omega (arith, r.spare, c.in_ok-take_all.ensures.ok.spare, c.in-Some.ensures.some.spare);
+      few = omega (arith, r.few, few);
+    }
+
+pub returns-clause-underway : goal.returns-clause-underway
+returns-clause-underway g c = λ S st t.
+    let e = c.args.entry in
+    let rank = rank_of c.args.entries.now.rows in
+    let p = g.P.Objects.promise c.args.on.now in
+    let v0 = g.P.Objects.view c.args.on.now in
+    let v1 = g.P.Objects.view c.make_room.new.on in
+    let v2 = g.P.Objects.view c.take_all.new.on in
+    let v3 = g.P.Objects.view c.object_for.new.on in
+    let s = parts_of c.args.table.now c.args.stack.now c.args.queue.now in
+    let plan : Plan = record { entry = c.in-Ok.plan.entry; object = c.in-Some.object; forwards = c.in-Ok.plan.forwards; wanted = c.in-Ok.plan.wanted; uses = c.take_all.new.uses; woken = c.in-Ok.plan.woken } in
+    let r = c.in-Ok.ensures S st in
+    let balances = ap balance_in c.make_room.ensures.parts in
+    subst (λ (q : Parts). IsUnderway S rank p v0 v3 q plan) (sym c.make_room.ensures.parts)
+    (underway S rank p v0 v1 v2 v3 s plan (ranked S rank st.falls)
+    (subst (λ (x : Prefix). IsTurnOf S rank p v0 s x) (sym r.entry) t)
+    (subst (λ (x : Prefix). plan.forwards ≡ forwards_by (was_by s) (marked_list S x)) (sym r.entry) r.does)
+    (subst (λ (x : Prefix). plan.wanted.items ≡ spread_marks (of_least_mark (filter (is_usable_mark (was_by s)) (marked_list S x)))) (sym r.entry) r.wanted)
+    (subst (λ (x : Prefix). (d : Prefix) → are_among plan.woken.items d ≡ differ (was_by s x) plan.forwards && wakes S d x) (sym r.entry) r.woken)
+    r.ranks c.make_room.ensures.same c.in_ok-take_all.ensures.ok
+    (subst (λ (x : Prefix). map record_used plan.uses.items ≡ records_for (marked_list S x)) (sym r.entry) (c.in_ok-take_all.ensures.records ∙ ap records_for (c.marked-marks.ensures S st)))
+    c.take_all.ensures.quiet
+    (λ n. subst (λ (q : Promise). Serves q n v1 → Serves q n v2) c.make_room.ensures.promise (c.take_all.ensures.serves n))
+    (subst (λ (x : Prefix). GotObject v2 v3 (balance_in s) x plan.object) (sym r.entry) (subst (λ (f : Prefix → Option ℕ). GotObject v2 v3 f e plan.object) balances c.in-Some.ensures.some))
+    c.object_for.ensures.quiet
+    (λ n. subst (λ (q : Promise). Serves q n v2 → Serves q n v3) (c.take_all.ensures.promise ∙ c.make_room.ensures.promise) (c.object_for.ensures.serves n)))

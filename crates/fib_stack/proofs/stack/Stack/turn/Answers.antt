@@ -1,0 +1,28 @@
+use Rattle.std.proofs.Common.{refl, sym, subst}
+use Rattle.fib_entries.specs.Known.{rank_of}
+use Rattle.fib_joined.specs.Promise.{Promise}
+use Rattle.fib_ply.proofs.Tables.{wraps}
+use Rattle.fib_stack.specs.Joined.{Joined}
+use Rattle.fib_stack.specs.Turns.{parts_of}
+use Rattle.fib_stack.proofs.Turning.{least_of, none_queued}
+use Rattle.fib_stack.proofs.stack.Stack.turn.Goals as goal
+
+pub take-requires : goal.take-requires
+take-requires g c =
+    record { turn = (c.args.tables.now, c.requires.stands, c.requires.joined, least_of c.args.tables.now (rank_of c.args.entries.now.rows) _ _ _ c.in-Some.next c.requires.joined c.in-Some.ensures.least) }
+
+pub returns-in_default-clause-turn : goal.returns-in_default-clause-turn
+returns-in_default-clause-turn g c = (refl, λ d. none_queued c.args.queue.now.members c.least.result c.least.ensures.value c.in_default.is d)
+
+pub returns-clause-turn : goal.returns-clause-turn
+returns-clause-turn g c = c.in_ok-dropped.ensures.turn c.args.tables.now c.requires.stands c.requires.joined (least_of c.args.tables.now (rank_of c.args.entries.now.rows) _ _ _ c.in-Some.next c.requires.joined c.in-Some.ensures.least)
+
+pub returns-clause-joined : goal.returns-clause-joined
+returns-clause-joined g c =
+    subst (λ (p : Promise). Joined c.args.tables.now (rank_of c.args.entries.now.rows) p (g.P.Objects.view c.take.new.on) (parts_of c.take.new.table c.take.new.stack c.take.new.queue)) (sym c.take.ensures.promise)
+    (c.in_ok-dropped.ensures.joined c.args.tables.now c.requires.stands c.requires.joined (least_of c.args.tables.now (rank_of c.args.entries.now.rows) _ _ _ c.in-Some.next c.requires.joined c.in-Some.ensures.least))
+
+pub returns-clause-stores : goal.returns-clause-stores
+returns-clause-stores g c =
+    let le = c.in_ok-dropped.ensures.stored in
+    (le, wraps (g.P.Objects.view c.args.on.now).stored (g.P.Objects.view c.take.new.on).stored c.stored-before.result c.stored.result le c.stored-before.ensures c.stored.ensures)

@@ -1,0 +1,58 @@
+use Rattle.std.proofs.Common.{sym, subst, arith}
+use Rattle.fib_joined.specs.Promise.{Promise}
+use Rattle.fib_ledger.proofs.Books.{times_within}
+use Rattle.fib_stack.specs.Joined.{Joined}
+use Rattle.fib_stack.specs.Turns.{parts_of}
+use Rattle.fib_ledger.specs.Deferred.{late_at}
+use Rattle.fib_stack.proofs.Deferring.{none_late}
+use Rattle.fib_stack.proofs.Moving.{moved_joined, room_moved, roomy_least, roomy_removed}
+use Rattle.fib_stack.proofs.Readying.{room_quiet, room_same}
+use Rattle.fib_stack.proofs.turn.drop_out.Goals as goal
+
+pub leave-requires-clause-left : goal.leave-requires-clause-left
+leave-requires-clause-left g c =
+    let l = c.requires.left in
+    let s = parts_of c.args.table.now c.args.stack.now c.args.queue.now in
+    let u = g.P.Objects.view c.args.on.now in
+    let v = g.P.Objects.view c.room_for.new.on in (
+      l.0,
+      l.1,
+      l.2,
+      subst (λ (p : Promise). Joined l.0 l.1 p v s) (sym c.room_for.ensures.promise) (moved_joined l.0 l.1 (g.P.Objects.promise c.args.on.now) u v s l.3 (room_moved _ u v c.room_for.ensures.same) (g.met.P.Objects.sound c.room_for.new.on) (λ d r. times_within c.args.stack.now.ledger.rows d r)),
+      roomy_least l.1 u v s c.args.entry c.room_for.ensures.same l.4,
+      l.5,
+    )
+
+pub leave-requires-clause-spare : goal.leave-requires-clause-spare
+leave-requires-clause-spare g c = let r = c.in-Ok.ensures.room in omega (arith, r, c.plies.ensures)
+
+pub returns-clause-turn : goal.returns-clause-turn
+returns-clause-turn g c = λ S rank j.
+    let s = parts_of c.args.table.now c.args.stack.now c.args.queue.now in
+    let u = g.P.Objects.view c.args.on.now in
+    let v = g.P.Objects.view c.room_for.new.on in
+    roomy_removed u v s c.args.entry _ c.room_for.ensures.same
+    (c.leave.ensures.turn S rank
+    (subst (λ (p : Promise). Joined S rank p v s) (sym c.room_for.ensures.promise) (moved_joined S rank (g.P.Objects.promise c.args.on.now) u v s j (room_moved _ u v c.room_for.ensures.same) (g.met.P.Objects.sound c.room_for.new.on) (λ d r. times_within c.args.stack.now.ledger.rows d r))))
+
+pub returns-clause-joined : goal.returns-clause-joined
+returns-clause-joined g c = λ S rank ranked j least left.
+    let s = parts_of c.args.table.now c.args.stack.now c.args.queue.now in
+    let u = g.P.Objects.view c.args.on.now in
+    let v = g.P.Objects.view c.room_for.new.on in
+    subst (λ (p : Promise). Joined S rank p (g.P.Objects.view c.leave.new.on) (parts_of c.leave.new.table c.leave.new.stack c.leave.new.queue)) c.room_for.ensures.promise
+    (c.leave.ensures.joined S rank ranked
+    (subst (λ (p : Promise). Joined S rank p v s) (sym c.room_for.ensures.promise) (moved_joined S rank (g.P.Objects.promise c.args.on.now) u v s j (room_moved _ u v c.room_for.ensures.same) (g.met.P.Objects.sound c.room_for.new.on) (λ d r. times_within c.args.stack.now.ledger.rows d r)))
+    (roomy_least rank u v s c.args.entry c.room_for.ensures.same least) left)
+
+pub returns-clause-count : goal.returns-clause-count
+returns-clause-count g c = none_late (late_at c.leave.new.stack.late.members c.args.entry) 16 c.leave.ensures.clear
+
+pub returns-clause-stored : goal.returns-clause-stored
+returns-clause-stored g c = let r = (room_same (g.P.Objects.view c.args.on.now) (g.P.Objects.view c.room_for.new.on) c.room_for.ensures.same).stored in omega (arith, r, c.leave.ensures.stored)
+
+pub returns-in_default-clause-err : goal.returns-in_default-clause-err
+returns-in_default-clause-err g c = room_same _ _ c.room_for.ensures.same
+
+pub returns-in_default-clause-quiet : goal.returns-in_default-clause-quiet
+returns-in_default-clause-quiet g c = room_quiet _ _ c.room_for.ensures.same

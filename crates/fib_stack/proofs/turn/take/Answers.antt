@@ -1,0 +1,36 @@
+use Rattle.std.proofs.Common.{◌∙◌, inl, inr, sym}
+use Rattle.fib_changes.proofs.Ranking.{ranked}
+use Rattle.fib_entries.specs.Known.{rank_of}
+use Rattle.fib_stack.proofs.Finishing.{on_ok, some_length_left}
+use Rattle.fib_stack.proofs.turn.take.Goals as goal
+
+pub restack-requires : goal.restack-requires
+restack-requires g c =
+    let t = c.requires.turn in
+    record { turn = (t.0, t.1, record { joined = t.2; least = t.3; effective = sym (c.is_entry.ensures t.0 t.1) ∙ c.if-is_entry.true }) }
+
+pub returns-then-is_entry-clause-turn : goal.returns-then-is_entry-clause-turn
+returns-then-is_entry-clause-turn g c = λ S st j least. on_ok c.restack.result
+    (λ r. (least, inl (sym (c.is_entry.ensures S st) ∙ c.if-is_entry.true, r)))
+    (c.restack.ensures.turn S st (record { joined = j; least = least; effective = sym (c.is_entry.ensures S st) ∙ c.if-is_entry.true }))
+
+pub returns-then-is_entry-clause-joined : goal.returns-then-is_entry-clause-joined
+returns-then-is_entry-clause-joined g c = λ S st j least. c.restack.ensures.joined S st (record { joined = j; least = least; effective = sym (c.is_entry.ensures S st) ∙ c.if-is_entry.true })
+
+pub drop_out-requires-clause-left : goal.drop_out-requires-clause-left
+drop_out-requires-clause-left g c =
+    let t = c.requires.turn in
+    (t.0, rank_of c.args.entries.now.rows, ranked t.0 (rank_of c.args.entries.now.rows) t.1.falls, t.2, t.3, sym (c.is_entry.ensures t.0 t.1) ∙ c.if-is_entry.false)
+
+pub drop_out-requires-clause-prefix : goal.drop_out-requires-clause-prefix
+drop_out-requires-clause-prefix g c =
+    let t = c.requires.turn in
+    some_length_left t.0 c.args.entry c.len-length.ensures.prefix (sym (c.is_entry.ensures t.0 t.1) ∙ c.if-is_entry.false)
+
+pub returns-clause-turn : goal.returns-clause-turn
+returns-clause-turn g c = λ S st j least. on_ok c.drop_out.result
+    (λ r. (least, inr (sym (c.is_entry.ensures S st) ∙ c.if-is_entry.false, r)))
+    (c.drop_out.ensures.turn S (rank_of c.args.entries.now.rows) j)
+
+pub returns-clause-joined : goal.returns-clause-joined
+returns-clause-joined g c = λ S st j least. c.drop_out.ensures.joined S (rank_of c.args.entries.now.rows) (ranked S (rank_of c.args.entries.now.rows) st.falls) j least (sym (c.is_entry.ensures S st) ∙ c.if-is_entry.false)

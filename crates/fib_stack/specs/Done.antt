@@ -1,0 +1,31 @@
+-- What a turn answers.
+use Rattle.std.specs.Prelude.{◌≡◌, ◌⊎◌, ℕ, ◌-◌, ◌%◌, ◌^◌, ◌≤◌, true, false, List}
+use Rattle.fib_addr.specs.Prefixes.{Prefix}
+use Rattle.fib_resolve.specs.declared.types.Tables.{Tables}
+use Rattle.fib_changes.specs.Ranks.{has_entry}
+use Rattle.fib_ledger.specs.declared.late.Late.{Late}
+use Rattle.fib_ledger.specs.Deferred.{late_at, late_count}
+use Rattle.fib_stack.specs.declared.turn.Turn.{Turn}
+use Rattle.fib_stack.specs.declared.turn.Turn.TheVariants as turns
+use Rattle.fib_stack.specs.States.{State}
+use Rattle.fib_stack.specs.Steps.{IsLeast, Removed}
+use Rattle.fib_stack.specs.Turns.{IsRestacked}
+
+-- a prefix of the least rank was taken
+abbrev pub IsTaken : Tables → (Prefix → ℕ) → Prefix → State → State → Type 0
+IsTaken S rank e s t = IsLeast rank s e × (((has_entry S e ≡ true) × IsRestacked S e s t) ⊎ ((has_entry S e ≡ false) × Removed e s t))
+
+-- idle exactly where nothing is queued
+abbrev pub TurnDone : Tables → (Prefix → ℕ) → Turn → State → State → Type 0
+TurnDone S rank turns.Idle s t = (t ≡ s) × ((d : Prefix) → s.queued d ≡ false)
+TurnDone S rank (turns.Restacked e stores dropped) s t = IsTaken S rank e s t
+
+-- the buckets that the turn left deferred are counted
+abbrev pub IsCounted : Turn → List Late → Type 0
+IsCounted turns.Idle late = Unit {0}
+IsCounted (turns.Restacked e stores dropped) late = dropped ≡ late_count (late_at late e) 16
+
+-- and the stores, modulo 2^64
+abbrev pub IsStored : Turn → ℕ → ℕ → Type 0
+IsStored turns.Idle old new = new ≡ old
+IsStored (turns.Restacked e stores dropped) old new = (old ≤ new) × (stores ≡ (new - old) % 2 ^ 64)

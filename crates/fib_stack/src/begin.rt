@@ -1,0 +1,52 @@
+// A turn of an entry, up to its first put.
+ghost use Rattle.std.specs.Prelude.{◌≡◌, ◌≤◌, ℕ, true, IfOk, OnErr, OnOk, Option, length};
+ghost use Rattle.fib_addr.specs.Prefixes.{Prefix as PrefixValue};
+ghost use Rattle.fib_resolve.specs.declared.types.Tables.{Tables as TablesValue};
+ghost use Rattle.fib_changes.specs.Ranks.{has_entry};
+ghost use Rattle.fib_entries.specs.Known.{StandsFor, rank_of};
+ghost use Rattle.fib_joined.specs.Frames.{IsQuiet};
+ghost use Rattle.fib_stack.specs.Records.{SamePlane};
+ghost use Rattle.fib_stack.specs.Turns.{HasRoomFor, IsTurnOf, IsUnderway, parts_of};
+
+use crate::ready::{make_room, object_for, read};
+use crate::records::{Want, give_all, take_all};
+use crate::stack::{Plan, Stack};
+use fib_addr::Prefix;
+use fib_entries::Entries;
+use fib_joined::Objects;
+use fib_ply::PrefixTable;
+use fib_queue::Queue;
+
+/// Makes the turn of an entry ready. After a fault all is as before, but for the room and the count of stores.
+pub fn begin<P: Objects>(
+    on: &mut P,
+    stack: &mut Stack,
+    entries: &Entries,
+    table: &mut PrefixTable,
+    queue: &mut Queue,
+    entry: Prefix,
+) -> Result<Plan, Want>
+    requires turn { (S : TablesValue) × StandsFor entries.now S × IsTurnOf S (rank_of entries.now.rows) (P.promise on.old) (P.view on.old) (parts_of table.old stack.old queue.old) entry }
+    ensures entry { IfOk result (λ plan. plan.entry ≡ entry) }
+    ensures underway { (S : TablesValue) → StandsFor entries.now S → IsTurnOf S (rank_of entries.now.rows) (P.promise on.old) (P.view on.old) (parts_of table.old stack.old queue.old) entry → IfOk result (IsUnderway S (rank_of entries.now.rows) (P.promise on.old) (P.view on.old) (P.view on.new) (parts_of table.new stack.new queue.new)) }
+    ensures room { IfOk result (λ plan. HasRoomFor (P.view on.new) stack.new table.new queue.new (length plan.uses.items) (length plan.woken.items)) }
+    ensures parts { parts_of table.new stack.new queue.new ≡ parts_of table.old stack.old queue.old }
+    ensures err { OnErr result (SamePlane (P.view on.old) (P.view on.new)) }
+    ensures quiet { (look : PrefixValue → Option ℕ) → IsQuiet look (P.view on.old) (P.view on.new) }
+    ensures promise { P.promise on.new ≡ P.promise on.old }
+{
+    let Ok(mut plan) = read(stack.late.allocator(), &stack.ledger, entries, entry) else {
+        return Err(Want::Memory);
+    };
+    let marks = entries.marked(entry);
+    let Ok(()) = make_room(on, stack, table, queue, marks.len(), plan.woken.len()) else {
+        return Err(Want::Memory);
+    };
+    take_all(on, marks, &mut plan.uses)?;
+    let Some(object) = object_for(on, table, entry) else {
+        give_all(on, plan.uses.as_slice());
+        return Err(Want::Object);
+    };
+    plan.object = object;
+    Ok(plan)
+}

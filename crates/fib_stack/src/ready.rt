@@ -1,0 +1,137 @@
+// What a turn of an entry makes ready: all that may fail comes before its first put.
+ghost use Rattle.std.specs.Prelude.{◌≡◌, ◌⊎◌, ◌+◌, ◌-◌, ◌*◌, ◌^◌, ◌<◌, ◌≤◌, ℕ, Bool, true, ◌&&◌, [], IfOk, IfSome, IfNone, OnErr, OnOk, Option, None, Some, length, vec_capacity};
+ghost use Rattle.fib_addr.specs.Prefixes.{Prefix as PrefixValue};
+ghost use Rattle.fib_resolve.specs.Aims.{marked_list};
+ghost use Rattle.fib_resolve.specs.Touched.{differ};
+ghost use Rattle.fib_resolve.specs.declared.types.Tables.{Tables as TablesValue};
+ghost use Rattle.fib_changes.specs.Ranks.{has_entry, wakes};
+ghost use Rattle.fib_entries.specs.Known.{StandsFor, rank_of};
+ghost use Rattle.fib_ledger.specs.Ledgers.{was_in};
+ghost use Rattle.fib_steady.specs.Names.{Names};
+ghost use Rattle.fib_joined.specs.Frames.{IsQuiet};
+ghost use Rattle.fib_joined.specs.Promise.{MayClear, Serves};
+ghost use Rattle.fib_joined.specs.View.{HasRoom, IsBalance};
+ghost use Rattle.fib_ply.specs.Tables.{object_in};
+ghost use Rattle.fib_stack.specs.Joined.{Joined, state_in};
+ghost use Rattle.fib_stack.specs.Records.{SamePlane};
+ghost use Rattle.fib_stack.specs.Steps.{IsLeast};
+ghost use Rattle.fib_stack.specs.Turns.{GotObject, HasRoomFor, IsRead, IsUnderway, parts_of};
+ghost use Rattle.fib_stack.specs.Waking.{are_among, have_ranks};
+
+use crate::records::{Want, give_all, take_all};
+use crate::stack::{Plan, Stack};
+use crate::waking::woken_by;
+use crate::wanted::{forwards, wanted};
+use fib_addr::Prefix;
+use fib_entries::Entries;
+use fib_joined::Objects;
+use fib_ledger::Ledger;
+use fib_ply::PrefixTable;
+use fib_pool::Kind;
+use fib_queue::{Queue, Queued};
+use std::alloc::{AllocError, Global};
+
+/// Those that are woken, if the entry forwards otherwise than before.
+fn woken_where(
+    alloc: Global,
+    entries: &Entries,
+    entry: Prefix,
+    changed: bool,
+) -> Result<Vec<Queued>, AllocError>
+    ensures ranks { IfOk result (λ v. have_ranks (rank_of entries.now.rows) v.items) }
+    ensures among { (S : TablesValue) (d : PrefixValue) → StandsFor entries.now S → IfOk result (λ v. are_among v.items d ≡ changed && wakes S d entry) }
+{
+    if changed {
+        woken_by(alloc, entries, entry)
+    } else {
+        Ok(Vec::new(alloc))
+    }
+}
+
+fn differs(left: bool, right: bool) -> bool
+    ensures { result ≡ differ left right }
+{
+    if left { !right } else { right }
+}
+
+/// What the entry wants, and who is woken.
+pub fn read(
+    alloc: Global,
+    ledger: &Ledger,
+    entries: &Entries,
+    entry: Prefix,
+) -> Result<Plan, AllocError>
+    requires { (S : TablesValue) × StandsFor entries.now S }
+    ensures { (S : TablesValue) → StandsFor entries.now S → IfOk result (IsRead S (rank_of entries.now.rows) (was_in ledger.now.rows) entry) }
+{
+    let marks = entries.marked(entry);
+    let does = forwards(ledger, marks);
+    let wanted = wanted(alloc, ledger, marks)?;
+    let uses = Vec::with_capacity(alloc, marks.len())?;
+    let changed = differs(ledger.forwarded(entry), does);
+    let woken = woken_where(alloc, entries, entry, changed)?;
+    Ok(Plan {
+        entry,
+        object: 0,
+        forwards: does,
+        wanted,
+        uses,
+        woken,
+    })
+}
+
+/// Room in the plane for the puts, and for a change of a table with so many plies. A plane has fewer objects than that.
+pub fn room_for<P: Objects>(on: &mut P, plies: u32) -> Result<(), AllocError>
+    ensures room { OnOk result (16 * (plies + 7) + 16 ≤ (P.view on.new).spare) }
+    ensures same { HasRoom (P.view on.old) (P.view on.new) }
+    ensures promise { P.promise on.new ≡ P.promise on.old }
+{
+    if plies > 131_072 {
+        // No ply more is ever asked for.
+        on.room(0)?;
+        return Err(AllocError);
+    }
+    on.room(16 * (plies + 7) + 16)
+}
+
+/// All room for the rest of a turn.
+pub fn make_room<P: Objects>(
+    on: &mut P,
+    stack: &mut Stack,
+    table: &mut PrefixTable,
+    queue: &mut Queue,
+    uses: usize,
+    woken: usize,
+) -> Result<(), AllocError>
+    ensures room { OnOk result (HasRoomFor (P.view on.new) stack.new table.new queue.new uses woken) }
+    ensures parts { parts_of table.new stack.new queue.new ≡ parts_of table.old stack.old queue.old }
+    ensures same { HasRoom (P.view on.old) (P.view on.new) }
+    ensures promise { P.promise on.new ≡ P.promise on.old }
+{
+    let alloc = stack.late.allocator();
+    room_for(on, table.plies())?;
+    stack.late.reserve(16)?;
+    stack.ledger.reserve(uses)?;
+    table.reserve(alloc, 1)?;
+    queue.reserve(alloc, woken)
+}
+
+/// The entry's balance, or one that is taken for it. For a new one the prefix table may need seven plies.
+pub fn object_for<P: Objects>(on: &mut P, table: &PrefixTable, entry: Prefix) -> Option<u32>
+    requires { (o : ℕ) → object_in table.now entry ≡ Some o → IsBalance (P.view on.old) o }
+    ensures some { IfSome result (GotObject (P.view on.old) (P.view on.new) (object_in table.now) entry) }
+    ensures none { IfNone result (P.view on.new ≡ P.view on.old) }
+    ensures quiet { (look : PrefixValue → Option ℕ) → IsQuiet look (P.view on.old) (P.view on.new) }
+    ensures serves { (n : Names) → Serves (P.promise on.old) n (P.view on.old) → Serves (P.promise on.old) n (P.view on.new) }
+    ensures promise { P.promise on.new ≡ P.promise on.old }
+{
+    match table.object(entry) {
+        Some(object) => Some(object),
+        None => {
+            if on.free() < 8 {
+                return None;
+            }
+            on.take(Kind::Balance)
+        }
+    }
+}

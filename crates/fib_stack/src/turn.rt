@@ -1,0 +1,162 @@
+// Turns.
+ghost use Rattle.std.specs.Prelude.{◌≡◌, ◌≤◌, ℕ, false, IfOk, OnErr, OnOk, Option};
+ghost use Rattle.fib_addr.specs.Prefixes.{Prefix as PrefixValue};
+ghost use Rattle.fib_resolve.specs.declared.types.Tables.{Tables as TablesValue};
+ghost use Rattle.fib_changes.specs.Ranks.{IsRanked, has_entry};
+ghost use Rattle.fib_ledger.specs.Deferred.{late_at, late_count};
+ghost use Rattle.fib_entries.specs.Known.{StandsFor, rank_of};
+ghost use Rattle.fib_joined.specs.Frames.{IsQuiet};
+ghost use Rattle.fib_stack.specs.Done.{IsCounted, IsStored, IsTaken, TurnDone};
+ghost use Rattle.fib_stack.specs.Joined.{Joined, state_in};
+ghost use Rattle.fib_stack.specs.Records.{SamePlane};
+ghost use Rattle.fib_stack.specs.Steps.{IsLeast, Removed};
+ghost use Rattle.fib_stack.specs.Turns.{IsRestacked, IsTurnOf, parts_of};
+
+use crate::begin::begin;
+use crate::finish::finish;
+use crate::leave::leave;
+use crate::ready::room_for;
+use crate::records::Want;
+use crate::stack::Stack;
+use fib_addr::Prefix;
+use fib_entries::Entries;
+use fib_joined::Objects;
+use fib_ply::PrefixTable;
+use fib_queue::Queue;
+use fib_resolve::Tables;
+
+/// What a turn did.
+#[derive(Clone, Copy, Debug, PartialEq, Eq)]
+pub enum Turn {
+    /// A queued prefix was taken: its buckets are as wanted, or it left.
+    Restacked {
+        entry: Prefix,
+        /// How many cells were stored, modulo 2^64.
+        stores: u64,
+        /// How many buckets drop in place of an edge that would close a cycle.
+        dropped: u32,
+    },
+    /// Nothing is queued.
+    Idle,
+}
+
+/// Whether the prefix is an entry.
+fn is_entry(entries: &Entries, prefix: Prefix) -> bool
+    ensures { (S : TablesValue) → StandsFor entries.now S → result ≡ has_entry S prefix }
+{
+    entries.chosen(prefix).is_some()
+}
+
+/// The turn of an entry. Answers how many buckets it left deferred.
+fn restack<P: Objects>(
+    on: &mut P,
+    stack: &mut Stack,
+    entries: &Entries,
+    table: &mut PrefixTable,
+    queue: &mut Queue,
+    entry: Prefix,
+) -> Result<u32, Want>
+    requires turn { (S : TablesValue) × StandsFor entries.now S × IsTurnOf S (rank_of entries.now.rows) (P.promise on.old) (P.view on.old) (parts_of table.old stack.old queue.old) entry }
+    ensures turn { (S : TablesValue) → StandsFor entries.now S → IsTurnOf S (rank_of entries.now.rows) (P.promise on.old) (P.view on.old) (parts_of table.old stack.old queue.old) entry → OnOk result (IsRestacked S entry (state_in (P.view on.old) (parts_of table.old stack.old queue.old)) (state_in (P.view on.new) (parts_of table.new stack.new queue.new))) }
+    ensures joined { (S : TablesValue) → StandsFor entries.now S → IsTurnOf S (rank_of entries.now.rows) (P.promise on.old) (P.view on.old) (parts_of table.old stack.old queue.old) entry → OnOk result (Joined S (rank_of entries.now.rows) (P.promise on.old) (P.view on.new) (parts_of table.new stack.new queue.new)) }
+    ensures count { IfOk result (λ n. n ≡ late_count (late_at stack.new.late.members entry) 16) }
+    ensures stored { OnOk result ((P.view on.old).stored ≤ (P.view on.new).stored) }
+    ensures err { OnErr result (SamePlane (P.view on.old) (P.view on.new)) }
+    ensures parts { OnErr result (parts_of table.new stack.new queue.new ≡ parts_of table.old stack.old queue.old) }
+    ensures quiet { OnErr result ((look : PrefixValue → Option ℕ) → IsQuiet look (P.view on.old) (P.view on.new)) }
+    ensures promise { P.promise on.new ≡ P.promise on.old }
+{
+    let plan = begin(on, stack, entries, table, queue, entry)?;
+    Ok(finish(on, stack, table, queue, plan))
+}
+
+/// The turn of a prefix that left the entries.
+fn drop_out<P: Objects>(
+    on: &mut P,
+    stack: &mut Stack,
+    table: &mut PrefixTable,
+    queue: &mut Queue,
+    entry: Prefix,
+) -> Result<u32, Want>
+    requires left { (S : TablesValue) × (rank : PrefixValue → ℕ) × IsRanked S rank × Joined S rank (P.promise on.old) (P.view on.old) (parts_of table.old stack.old queue.old) × IsLeast rank (state_in (P.view on.old) (parts_of table.old stack.old queue.old)) entry × (has_entry S entry ≡ false) }
+    requires prefix { 1 ≤ entry.len }
+    ensures turn { (S : TablesValue) (rank : PrefixValue → ℕ) → Joined S rank (P.promise on.old) (P.view on.old) (parts_of table.old stack.old queue.old) → OnOk result (Removed entry (state_in (P.view on.old) (parts_of table.old stack.old queue.old)) (state_in (P.view on.new) (parts_of table.new stack.new queue.new))) }
+    ensures joined { (S : TablesValue) (rank : PrefixValue → ℕ) → IsRanked S rank → Joined S rank (P.promise on.old) (P.view on.old) (parts_of table.old stack.old queue.old) → IsLeast rank (state_in (P.view on.old) (parts_of table.old stack.old queue.old)) entry → has_entry S entry ≡ false → OnOk result (Joined S rank (P.promise on.old) (P.view on.new) (parts_of table.new stack.new queue.new)) }
+    ensures count { IfOk result (λ n. n ≡ late_count (late_at stack.new.late.members entry) 16) }
+    ensures stored { OnOk result ((P.view on.old).stored ≤ (P.view on.new).stored) }
+    ensures err { OnErr result (SamePlane (P.view on.old) (P.view on.new)) }
+    ensures parts { OnErr result (parts_of table.new stack.new queue.new ≡ parts_of table.old stack.old queue.old) }
+    ensures quiet { OnErr result ((look : PrefixValue → Option ℕ) → IsQuiet look (P.view on.old) (P.view on.new)) }
+    ensures promise { P.promise on.new ≡ P.promise on.old }
+{
+    let Ok(()) = room_for(on, table.plies()) else {
+        return Err(Want::Memory);
+    };
+    leave(on, stack, table, queue, entry);
+    Ok(0)
+}
+
+/// The turn of the prefix that is queued under the least rank. Answers how many buckets it left deferred.
+fn take<P: Objects>(
+    on: &mut P,
+    stack: &mut Stack,
+    entries: &Entries,
+    table: &mut PrefixTable,
+    queue: &mut Queue,
+    entry: Prefix,
+) -> Result<u32, Want>
+    requires turn { (S : TablesValue) × StandsFor entries.now S × Joined S (rank_of entries.now.rows) (P.promise on.old) (P.view on.old) (parts_of table.old stack.old queue.old) × IsLeast (rank_of entries.now.rows) (state_in (P.view on.old) (parts_of table.old stack.old queue.old)) entry }
+    ensures turn { (S : TablesValue) → StandsFor entries.now S → Joined S (rank_of entries.now.rows) (P.promise on.old) (P.view on.old) (parts_of table.old stack.old queue.old) → IsLeast (rank_of entries.now.rows) (state_in (P.view on.old) (parts_of table.old stack.old queue.old)) entry → OnOk result (IsTaken S (rank_of entries.now.rows) entry (state_in (P.view on.old) (parts_of table.old stack.old queue.old)) (state_in (P.view on.new) (parts_of table.new stack.new queue.new))) }
+    ensures joined { (S : TablesValue) → StandsFor entries.now S → Joined S (rank_of entries.now.rows) (P.promise on.old) (P.view on.old) (parts_of table.old stack.old queue.old) → IsLeast (rank_of entries.now.rows) (state_in (P.view on.old) (parts_of table.old stack.old queue.old)) entry → OnOk result (Joined S (rank_of entries.now.rows) (P.promise on.old) (P.view on.new) (parts_of table.new stack.new queue.new)) }
+    ensures count { IfOk result (λ n. n ≡ late_count (late_at stack.new.late.members entry) 16) }
+    ensures stored { OnOk result ((P.view on.old).stored ≤ (P.view on.new).stored) }
+    ensures err { OnErr result (SamePlane (P.view on.old) (P.view on.new)) }
+    ensures parts { OnErr result (parts_of table.new stack.new queue.new ≡ parts_of table.old stack.old queue.old) }
+    ensures quiet { OnErr result ((look : PrefixValue → Option ℕ) → IsQuiet look (P.view on.old) (P.view on.new)) }
+    ensures promise { P.promise on.new ≡ P.promise on.old }
+{
+    let _length = entry.len();
+    if is_entry(entries, entry) {
+        return restack(on, stack, entries, table, queue, entry);
+    }
+    drop_out(on, stack, table, queue, entry)
+}
+
+impl Stack {
+    /// Takes the queued prefix of the least rank. An entry's balance gets its wanted buckets, and then it is added to the prefix table if it
+    /// isn't there; a prefix that left the entries leaves the table, and its balance is let go.
+    ///
+    /// After a fault the prefix is still queued and all is as before, but for the count of stores.
+    pub fn turn<P: Objects>(
+        &mut self,
+        on: &mut P,
+        tables: &Tables,
+        entries: &Entries,
+        table: &mut PrefixTable,
+        queue: &mut Queue,
+    ) -> Result<Turn, Want>
+        requires stands { StandsFor entries.now tables.now }
+        requires joined { Joined tables.now (rank_of entries.now.rows) (P.promise on.old) (P.view on.old) (parts_of table.old self.old queue.old) }
+        ensures turn { IfOk result (λ t. TurnDone tables.now (rank_of entries.now.rows) t (state_in (P.view on.old) (parts_of table.old self.old queue.old)) (state_in (P.view on.new) (parts_of table.new self.new queue.new))) }
+        ensures joined { OnOk result (Joined tables.now (rank_of entries.now.rows) (P.promise on.new) (P.view on.new) (parts_of table.new self.new queue.new)) }
+        ensures dropped { IfOk result (λ t. IsCounted t self.new.late.members) }
+        ensures stores { IfOk result (λ t. IsStored t (P.view on.old).stored (P.view on.new).stored) }
+        ensures err { OnErr result (SamePlane (P.view on.old) (P.view on.new)) }
+        ensures parts { OnErr result (parts_of table.new self.new queue.new ≡ parts_of table.old self.old queue.old) }
+        ensures quiet { OnErr result ((look : PrefixValue → Option ℕ) → IsQuiet look (P.view on.old) (P.view on.new)) }
+        ensures promise { P.promise on.new ≡ P.promise on.old }
+    {
+        let before = on.stored();
+        let Some(next) = queue.least() else {
+            return Ok(Turn::Idle);
+        };
+        let entry = next.prefix;
+        let dropped = take(on, self, entries, table, queue, entry)?;
+        let stores = on.stored().wrapping_sub(before);
+        Ok(Turn::Restacked {
+            entry,
+            stores,
+            dropped,
+        })
+    }
+}
