@@ -1,15 +1,13 @@
 -- The steps of a turn make a turn of the definition.
-use Rattle.std.proofs.Common.{◌≡◌, ◌≢◌, ℕ, ◌+◌, ◌<◌, ◌≤◌, inl, inr, ⊎_elim, Bool, true, false, true≢false, not, ◌&&◌, ◌||◌, cond, List, [], ◌∷◌, ◌++◌, length, map, refl, sym, ap, ◌∙◌, subst, arith}
-use Rattle.std.specs.Prelude.{Option, Some, None, filter, slice_get, ◌⊎◌, ◌==◌, flat_map, option_to_list, if◌then◌else◌, nat_lt}
+use Rattle.std.proofs.Common.{◌≡◌, ◌≢◌, ℕ, ◌+◌, ◌<◌, ◌≤◌, inl, inr, ⊎_elim, Bool, true, false, true≢false, not, ◌&&◌, ◌||◌, cond, List, [], ◌∷◌, ◌++◌, map, refl, sym, ap, ◌∙◌, subst, arith}
+use Rattle.std.specs.Prelude.{Option, Some, None, filter, slice_get, option_to_list, if◌then◌else◌}
 use Rattle.std.proofs.lemmas.Bool.Decides.{nat_tests}
-use Rattle.std.specs.List.{list_any, AllByRecursion}
+use Rattle.std.specs.List.{list_any}
 use mathlib.Core.Logic.{dite}
-use Rattle.fib_list.proofs.Booleans.{and_both}
-use Rattle.fib_list.proofs.Lists.{either}
 use Rattle.fib_addr.specs.Prefixes.{Prefix, same_prefix}
 use Rattle.fib_resolve.specs.Aims.{aim, marked_list}
 use Rattle.fib_resolve.specs.Forwarding.{forwards}
-use Rattle.fib_resolve.specs.Touched.{differ, same_mac}
+use Rattle.fib_resolve.specs.Touched.{differ}
 use Rattle.fib_resolve.specs.declared.aims.Aim.{Aim}
 use Rattle.fib_resolve.specs.declared.aims.Aim.TheVariants as aims
 use Rattle.fib_resolve.specs.declared.aims.Marked.{Marked}
@@ -17,9 +15,8 @@ use Rattle.fib_resolve.specs.declared.types.End.{End}
 use Rattle.fib_resolve.specs.declared.types.End.TheVariants as answers
 use Rattle.fib_resolve.specs.declared.types.Tables.{Tables}
 use Rattle.fib_core.specs.declared.word.Word.{Word}
-use Rattle.fib_core.specs.declared.word.Word.TheVariants as words
 use Rattle.fib_pool.specs.declared.object.AdjacencyRecord.{AdjacencyRecord}
-use Rattle.fib_changes.specs.Ranks.{counts_on, has_entry, is_usable_mark, wakes, IsRanked}
+use Rattle.fib_changes.specs.Ranks.{counts_on, is_usable_mark, wakes, IsRanked}
 use Rattle.fib_changes.specs.Wanted.{aim_by, aim_of, of_least_mark, spread_marks}
 use Rattle.fib_changes.proofs.MarkLaws.{aim_is}
 use Rattle.fib_ledger.specs.declared.ledger.Known.{Known}
@@ -31,15 +28,15 @@ use Rattle.fib_serving.specs.Stack.{Objects, aim_word, is_some}
 use Rattle.fib_joined.specs.declared.put.Put.{Put}
 use Rattle.fib_joined.specs.declared.put.Put.TheVariants as puts
 use Rattle.fib_joined.specs.Promise.{Promise}
-use Rattle.fib_joined.specs.View.{View, IsBalance, IsPlane}
+use Rattle.fib_joined.specs.View.{View, IsBalance}
 use Rattle.fib_stack.specs.Buckets.{recorded}
 use Rattle.fib_stack.specs.Joined.{Parts, IsLaid, balance_in, holds_by, queued_in, state_in, was_by}
 use Rattle.fib_stack.specs.Records.{AreObjects, end_used, holds_in, record_for, records_for}
 use Rattle.fib_stack.specs.Runs.{word_in, put_in, Settled, IsFilled, deferred_at, late_word}
-use Rattle.fib_stack.specs.States.{State, Fits, Kept, ends_there, forwards_by, has_hop, is_recorded}
+use Rattle.fib_stack.specs.States.{Fits, Kept, ends_there, has_hop, is_recorded}
 use Rattle.fib_stack.specs.Steps.{IsLeast, Restacked}
-use Rattle.fib_stack.specs.Turns.{IsReadied, IsFinished, IsRestacked, IsRun, found_in, names_for}
-use Rattle.fib_stack.proofs.Aiming.{aim_agree, and_join, bucket_on, bucket_hop, forwards_agree}
+use Rattle.fib_stack.specs.Turns.{IsReadied, IsFinished, IsRestacked, found_in, names_for}
+use Rattle.fib_stack.proofs.Aiming.{aim_agree, forwards_agree}
 use Rattle.fib_stack.proofs.Filled.{filled_by, settled_at}
 use Rattle.fib_stack.proofs.Keeping.{prefix_discrete, was_true, word_same}
 use Rattle.fib_stack.proofs.Listing.{objects_kept, record_is}

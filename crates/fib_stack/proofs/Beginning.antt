@@ -1,6 +1,6 @@
 -- A turn of an entry is made ready.
-use Rattle.std.proofs.Common.{◌≡◌, ℕ, ◌+◌, ◌<◌, ◌≤◌, Bool, ◌&&◌, List, inl, inr, ⊎_elim, map, refl, sym, ap, ◌∙◌, subst, arith}
-use Rattle.std.specs.Prelude.{Option, Some, None, ◌⊎◌, filter}
+use Rattle.std.proofs.Common.{◌≡◌, ℕ, ◌&&◌, inl, inr, ⊎_elim, map, ap, ◌∙◌, arith}
+use Rattle.std.specs.Prelude.{Option, Some, None, filter}
 use Rattle.fib_addr.specs.Prefixes.{Prefix}
 use Rattle.fib_resolve.specs.Aims.{marked_list}
 use Rattle.fib_resolve.specs.Touched.{differ}

@@ -1,15 +1,13 @@
 -- One put more.
-use Rattle.std.proofs.Common.{◌≡◌, ◌≢◌, ℕ, zero, suc, ◌+◌, ◌<◌, ◌≤◌, inl, inr, true, false, true≢false, List, [], ◌∷◌, ◌++◌, length, take, set, get_or, refl, sym, ap, ◌∙◌, subst, arith, add-one, Option}
-use Rattle.std.specs.Prelude.{◌⊎◌, Contains}
-use Rattle.fib_addr.specs.Prefixes.{Prefix}
+use Rattle.std.proofs.Common.{◌≡◌, ◌≢◌, ℕ, zero, suc, ◌+◌, ◌<◌, inl, inr, true≢false, List, [], ◌∷◌, ◌++◌, length, take, set, get_or, refl, sym, ap, ◌∙◌, subst, arith}
+use Rattle.std.specs.Prelude.{◌⊎◌}
 use Rattle.fib_core.specs.Walk.{hop_of}
 use Rattle.fib_core.specs.declared.word.Word.{Word}
 use Rattle.fib_core.specs.declared.word.Word.TheVariants as words
-use Rattle.fib_resolve.specs.declared.types.End.{End}
 use Rattle.fib_steady.specs.Names.{Names}
 use Rattle.fib_joined.specs.declared.put.Put.{Put}
-use Rattle.fib_joined.specs.Promise.{Promise, Allows, IsBegun, Serves, EndsIn, IsEndOf, MayPut}
-use Rattle.fib_joined.specs.View.{View, IsLive, IsBalance, IsPlane, HasKind, IsPut, leads, adjacency_end}
+use Rattle.fib_joined.specs.Promise.{Promise, Allows, IsBegun, EndsIn, IsEndOf, MayPut}
+use Rattle.fib_joined.specs.View.{View, IsBalance, IsPlane, HasKind, IsPut, adjacency_end}
 use Rattle.fib_stack.specs.Buckets.{IsLooseBucket}
 use Rattle.fib_stack.specs.Runs.{word_in, Puts, IsReady, AreReady}
 use Rattle.fib_stack.proofs.Promising.{may_put, put_serves}

@@ -1,5 +1,5 @@
 -- What a turn leaves is what stood before it.
-use Rattle.std.proofs.Common.{◌≡◌, ◌≢◌, ℕ, ◌%◌, ◌<◌, ◌≤◌, inl, inr, ⊎_elim, Bool, true, false, true≢false, not, ◌&&◌, ◌||◌, List, refl, sym, ap, ◌∙◌, subst, arith}
+use Rattle.std.proofs.Common.{◌≡◌, ℕ, ◌%◌, ◌<◌, ◌≤◌, inl, ⊎_elim, Bool, true, false, true≢false, not, ◌&&◌, List, refl, sym, ap, ◌∙◌, subst, arith}
 use Rattle.std.specs.Prelude.{Contains, Err, Ok, OnOk, Option, Result, Some, None, ◌⊎◌, if◌then◌else◌}
 use Rattle.std.proofs.lemmas.Map.Made.{is_member-Decides}
 use native.Mathlib.Decide.{ℕ_discrete}
@@ -12,8 +12,7 @@ use Rattle.fib_resolve.specs.declared.types.Tables.{Tables}
 use Rattle.fib_changes.specs.Ranks.{IsRanked, has_entry}
 use Rattle.fib_stands.proofs.Nibbles.{everything_entry}
 use Rattle.fib_steady.specs.Aims.{IsLasting}
-use Rattle.fib_steady.specs.Names.{Names}
-use Rattle.fib_joined.specs.Promise.{Promise, IsBegun, MayClear, MayLetGo, Serves}
+use Rattle.fib_joined.specs.Promise.{Promise, MayClear, MayLetGo}
 use Rattle.fib_joined.specs.View.{View, IsBalance, IsLetGo, IsPlane}
 use Rattle.fib_ply.specs.Rows.{held}
 use Rattle.fib_ply.specs.Tables.{Table, Stands, object_in}

@@ -1,18 +1,11 @@
 -- From what stands between all to what the plane's calls and the table's ask.
-use Rattle.std.proofs.Common.{◌≡◌, ◌≢◌, ℕ, ◌<◌, ◌≤◌, inl, inr, ⊎_elim, Bool, true, false, true≢false, List, [], ◌∷◌, refl, sym, ap, ◌∙◌, subst, arith}
-use Rattle.std.specs.Prelude.{Contains, Option, Some, None, ◌⊎◌, if◌then◌else◌}
-use mathlib.Core.Logic.{dite}
+use Rattle.std.proofs.Common.{◌≡◌, ℕ, ◌<◌, inl, Bool, true, false, List, [], ◌∷◌, refl, sym, ap, ◌∙◌, subst, arith}
+use Rattle.std.specs.Prelude.{Option, Some, None, if◌then◌else◌}
 use Rattle.fib_addr.specs.Prefixes.{Prefix}
-use Rattle.fib_resolve.specs.Aims.{aim, marked_list}
-use Rattle.fib_resolve.specs.Resolution.{ends}
 use Rattle.fib_resolve.specs.declared.aims.Aim.{Aim}
 use Rattle.fib_resolve.specs.declared.aims.Aim.TheVariants as aims
 use Rattle.fib_resolve.specs.declared.types.End.{End}
 use Rattle.fib_resolve.specs.declared.types.End.TheVariants as answers
-use Rattle.fib_resolve.specs.declared.types.Tables.{Tables}
-use Rattle.fib_core.specs.declared.word.Word.{Word}
-use Rattle.fib_core.specs.declared.word.Word.TheVariants.{Drop}
-use Rattle.fib_pool.specs.declared.object.AdjacencyRecord.{AdjacencyRecord}
 use Rattle.fib_ledger.specs.declared.ledger.Use.{Use}
 use Rattle.fib_ledger.specs.Ledgers.{record_used}
 use Rattle.fib_ply.specs.Rows.{held}
@@ -23,16 +16,14 @@ use Rattle.fib_ply.proofs.Quiet.{quiet_stands}
 use Rattle.fib_ply.proofs.Rewatching.{rewatch}
 use Rattle.fib_serving.specs.Kept.{same_end}
 use Rattle.fib_serving.specs.Matches.{look_of}
-use Rattle.fib_serving.specs.Stack.{Objects, aim_word, is_some, to_adjacency, to_balance}
+use Rattle.fib_serving.specs.Stack.{Objects, aim_word, to_adjacency, to_balance}
 use Rattle.fib_steady.specs.Names.{Names}
 use Rattle.fib_joined.specs.Frames.{IsQuiet}
 use Rattle.fib_joined.specs.Promise.{Promise, Allows, EndsIn, IsBegun, IsEndOf, KeepsBuckets, MayClear, Serves}
-use Rattle.fib_joined.specs.View.{View, HasKind, IsBalance, IsPlane, IsRecord, adjacency_end}
-use Rattle.fib_stack.specs.Buckets.{IsLooseBucket}
-use Rattle.fib_stack.specs.Joined.{in_change, table_of, Parts, balance_in}
-use Rattle.fib_stack.specs.Records.{AreObjects, end_used, holds_in}
+use Rattle.fib_joined.specs.View.{View, HasKind, IsBalance, IsPlane, IsRecord}
+use Rattle.fib_stack.specs.Joined.{in_change}
+use Rattle.fib_stack.specs.Records.{AreObjects, end_used}
 use Rattle.fib_stack.specs.Turns.{found_in}
-use Rattle.fib_stack.proofs.Assembled.{found_object}
 
 -- names for which the promise holds, the table's own
 pub table_names : (p : Promise) (t : Table) (v : View) → Stands (in_change p) t v → (n : Names) × (n.balance ≡ held t.rows.members) × Serves p n v

@@ -1,26 +1,17 @@
 -- Lists of records, taken and given one by one.
-use Rattle.std.proofs.Common.{◌≡◌, ◌≢◌, ℕ, zero, suc, ◌+◌, ◌<◌, ◌≤◌, inl, inr, Bool, true, false, true≢false, cond, eq-eqb, eqb-true, List, [], ◌∷◌, ◌++◌, length, take, get_or, map, refl, sym, ap, ◌∙◌, subst, arith, add-one, ⊎_elim}
-use Rattle.std.specs.Prelude.{◌==◌, ◌&&◌, ◌||◌, Option, Some, None, Result, Ok, Err, flat_map, option_to_list}
-use Rattle.std.specs.List.{AllByRecursion, list_any}
+use Rattle.std.proofs.Common.{◌≡◌, ◌≢◌, ℕ, zero, suc, ◌+◌, ◌<◌, ◌≤◌, inl, inr, Bool, true, false, true≢false, cond, eq-eqb, eqb-true, List, [], ◌∷◌, ◌++◌, length, take, get_or, refl, sym, ap, ◌∙◌, subst, arith, add-one, ⊎_elim}
+use Rattle.std.specs.Prelude.{◌==◌, ◌&&◌, Option, Some, None, Ok}
+use Rattle.std.specs.List.{AllByRecursion}
 use Rattle.std.proofs.lemmas.List.{length_push}
-use Rattle.std.specs.declared.alloc.AllocError.{AllocError}
 use Rattle.fib_list.proofs.Lists.{either}
 use Rattle.fib_list.proofs.Booleans.{and_both}
-use Rattle.fib_addr.specs.Prefixes.{Prefix}
 use Rattle.fib_resolve.specs.Touched.{same_mac}
 use Rattle.fib_resolve.specs.declared.aims.Aim.{Aim}
-use Rattle.fib_resolve.specs.declared.aims.Aim.TheVariants as aims
-use Rattle.fib_resolve.specs.declared.aims.Marked.{Marked}
-use Rattle.fib_resolve.specs.declared.types.End.{End}
-use Rattle.fib_resolve.specs.declared.types.End.TheVariants as answers
 use Rattle.fib_pool.specs.declared.object.AdjacencyRecord.{AdjacencyRecord}
 use Rattle.fib_ledger.specs.declared.ledger.Use.{Use}
 use Rattle.fib_ledger.specs.Ledgers.{same_record, record_used, times}
-use Rattle.fib_serving.specs.Kept.{same_end}
-use Rattle.fib_joined.specs.View.{View, IsPlane, IsBalance, IsSwept, TookRecord, TookOne, GaveRecord}
-use Rattle.fib_stack.specs.Records.{record_at, record_for, records_for, end_used, holds_in, AreObjects, SameBalances, TookAll, GaveAll, SamePlane, TookFor}
-use Rattle.fib_stack.specs.States.{ends_there, has_hop}
-use Rattle.fib_stack.specs.declared.records.Want.{Want}
+use Rattle.fib_joined.specs.View.{View, IsPlane, IsSwept, TookRecord, GaveRecord}
+use Rattle.fib_stack.specs.Records.{record_for, AreObjects, SameBalances, TookAll, GaveAll, SamePlane, TookFor}
 use Rattle.fib_stack.proofs.Aiming.{and_join}
 
 same_mac_is : (m k : Option ℕ) → same_mac m k ≡ true → m ≡ k

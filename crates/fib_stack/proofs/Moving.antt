@@ -1,6 +1,6 @@
 -- What others do in between keeps what stands.
-use Rattle.std.proofs.Common.{◌≡◌, ℕ, ◌+◌, ◌*◌, ◌-◌, ◌^◌, ◌<◌, ◌≤◌, inl, inr, true, List, refl, sym, ap, ◌∙◌, subst, arith}
-use Rattle.std.specs.Prelude.{Option, Some, None, ◌⊎◌}
+use Rattle.std.proofs.Common.{◌≡◌, ℕ, ◌<◌, ◌≤◌, inl, inr, true, refl, sym, ap, ◌∙◌, subst, arith}
+use Rattle.std.specs.Prelude.{Option}
 use native.Mathlib.Decide.{ℕ_discrete}
 use mathlib.Core.Logic.{dite}
 use Rattle.fib_addr.specs.Prefixes.{Prefix}
@@ -10,8 +10,6 @@ use Rattle.fib_resolve.specs.declared.aims.Aim.TheVariants as aims
 use Rattle.fib_resolve.specs.declared.types.End.{End}
 use Rattle.fib_resolve.specs.declared.types.End.TheVariants as answers
 use Rattle.fib_resolve.specs.declared.types.Tables.{Tables}
-use Rattle.fib_core.specs.declared.word.Word.{Word}
-use Rattle.fib_core.specs.declared.word.Word.TheVariants.{Drop}
 use Rattle.fib_pool.specs.declared.object.AdjacencyRecord.{AdjacencyRecord}
 use Rattle.fib_changes.specs.Wanted.{aim_by}
 use Rattle.fib_ledger.specs.Ledgers.{times, used_by}
@@ -20,15 +18,15 @@ use Rattle.fib_steady.specs.Names.{Names}
 use Rattle.fib_serving.specs.Stack.{Anchored, Objects, aim_word, is_some}
 use Rattle.fib_joined.specs.Frames.{IsQuiet}
 use Rattle.fib_joined.specs.Promise.{Allows, Promise, Serves}
-use Rattle.fib_joined.specs.View.{View, HasRoom, IsBalance, IsPlane, IsScanned}
-use Rattle.fib_ply.specs.Tables.{Table, Stands, watch_of}
+use Rattle.fib_joined.specs.View.{View, HasRoom, IsPlane, IsScanned}
+use Rattle.fib_ply.specs.Tables.{Stands}
 use Rattle.fib_ply.proofs.Quiet.{quiet_stands}
 use Rattle.fib_stack.specs.Buckets.{recorded}
-use Rattle.fib_stack.specs.Joined.{IsLaid, Joined, Parts, balance_in, holds_by, in_change, state_in, table_of, was_by}
+use Rattle.fib_stack.specs.Joined.{Joined, Parts, balance_in, holds_by, in_change, state_in, table_of, was_by}
 use Rattle.fib_stack.specs.Records.{SamePlane}
-use Rattle.fib_stack.specs.States.{IsDone, IsPlaced, Kept, State}
+use Rattle.fib_stack.specs.States.{IsDone, State}
 use Rattle.fib_stack.specs.Steps.{IsLeast, Removed}
-use Rattle.fib_stack.specs.Steadiness.{Holding, IsSteady, ledger_of}
+use Rattle.fib_stack.specs.Steadiness.{Holding, ledger_of}
 use Rattle.fib_stack.specs.Turns.{IsMoved}
 use Rattle.fib_stack.proofs.Aiming.{bucket_hop}
 use Rattle.fib_stack.proofs.Assembled.{holds_hop_only, some_times}

@@ -1,5 +1,5 @@
 -- Sixteen buckets are shared among the used paths of a list.
-use Rattle.std.proofs.Common.{◌≡◌, ℕ, ◌<◌, ◌≤◌, Bool, List, [], ◌∷◌, length, map, refl, sym, ap, ◌∙◌, arith}
+use Rattle.std.proofs.Common.{◌≡◌, ◌<◌, ◌≤◌, Bool, List, [], ◌∷◌, length, map, sym, ap, arith}
 use Rattle.std.specs.Prelude.{All, filter, sum, ◌==◌}
 use Rattle.std.proofs.lemmas.List.{length-map}
 use Rattle.std.proofs.lemmas.List.Elements.{All-filter, All-head, All-map}
@@ -7,11 +7,9 @@ use Rattle.std.proofs.lemmas.List.Sums.{length-filter, count_by-le-length, sum_b
 use Rattle.fib_buckets.specs.Shares.{buckets}
 use Rattle.fib_addr.specs.Prefixes.{Prefix}
 use Rattle.fib_resolve.specs.Aims.{marked, marked_list}
-use Rattle.fib_resolve.specs.Buckets.{IsShort}
 use Rattle.fib_resolve.specs.Pairs.{chosen}
 use Rattle.fib_resolve.specs.Tables.{IsSound}
 use Rattle.fib_resolve.specs.declared.aims.Marked.{Marked}
-use Rattle.fib_resolve.specs.declared.types.Path.{Path}
 use Rattle.fib_resolve.specs.declared.types.Tables.{Tables}
 use Rattle.fib_resolve.proofs.PairLaws.{chosen_short}
 use Rattle.fib_changes.specs.Wanted.{least_mark, of_least_mark, spread_marks}

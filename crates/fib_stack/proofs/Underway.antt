@@ -1,11 +1,9 @@
 -- A turn of an entry that is under way meets what its puts ask.
-use Rattle.std.proofs.Common.{◌≡◌, ◌≢◌, ℕ, ◌<◌, ◌≤◌, inl, inr, ⊎_elim, true, List, refl, sym, ap, ◌∙◌, subst, arith}
-use Rattle.std.specs.Prelude.{Contains, Option, Some, None, ◌⊎◌, length, slice_get}
+use Rattle.std.proofs.Common.{◌≡◌, ℕ, ◌<◌, ◌≤◌, inl, inr, ⊎_elim, true, List, refl, sym, ap, ◌∙◌, subst, arith}
+use Rattle.std.specs.Prelude.{Option, Some, None, ◌⊎◌, slice_get}
 use mathlib.Core.Logic.{dite}
 use Rattle.fib_addr.specs.Prefixes.{Prefix}
 use Rattle.fib_resolve.specs.Aims.{aim, marked_list}
-use Rattle.fib_resolve.specs.declared.aims.Aim.{Aim}
-use Rattle.fib_resolve.specs.declared.aims.Aim.TheVariants as aims
 use Rattle.fib_resolve.specs.declared.types.End.{End}
 use Rattle.fib_resolve.specs.declared.types.End.TheVariants as answers
 use Rattle.fib_resolve.specs.declared.types.Tables.{Tables}
@@ -15,10 +13,10 @@ use Rattle.fib_changes.specs.Wanted.{aim_of}
 use Rattle.fib_ledger.specs.Ledgers.{times, used_by}
 use Rattle.fib_serving.specs.Stack.{Objects, aim_word, is_some}
 use Rattle.fib_steady.specs.Names.{Names}
-use Rattle.fib_joined.specs.Promise.{Promise, IsEndOf, Serves}
+use Rattle.fib_joined.specs.Promise.{Promise, Serves}
 use Rattle.fib_joined.specs.View.{View, IsBalance, IsPlane, IsRecord}
 use Rattle.fib_stack.specs.Buckets.{IsLooseBucket, recorded}
-use Rattle.fib_stack.specs.Joined.{Joined, Parts, balance_in, queued_in, state_in, table_of, was_by}
+use Rattle.fib_stack.specs.Joined.{Parts, balance_in, state_in, table_of}
 use Rattle.fib_stack.specs.Records.{holds_in}
 use Rattle.fib_stack.specs.Runs.{AreReady, IsReady, word_in}
 use Rattle.fib_stack.specs.Turns.{IsUnderway, names_for}

@@ -1,21 +1,17 @@
-use Rattle.std.proofs.Common.{◌≡◌, ◌∙◌, ◌<◌, ◌≤◌, ◌+◌, ◌*◌, ◌&&◌, ℕ, Bool, List, length, map, ap, inl, sym, subst, arith}
+use Rattle.std.proofs.Common.{◌≡◌, ◌∙◌, ◌&&◌, ℕ, List, map, ap, inl, sym, subst, arith}
 use Rattle.std.specs.Prelude.{Option, filter}
 use Rattle.fib_addr.specs.Prefixes.{Prefix}
 use Rattle.fib_resolve.specs.Aims.{marked_list}
 use Rattle.fib_resolve.specs.Touched.{differ}
-use Rattle.fib_resolve.specs.declared.aims.Marked.{Marked}
-use Rattle.fib_resolve.specs.declared.types.Tables.{Tables}
 use Rattle.fib_changes.specs.Ranks.{is_usable_mark, wakes}
 use Rattle.fib_changes.specs.Wanted.{of_least_mark, spread_marks}
 use Rattle.fib_changes.proofs.Ranking.{ranked}
-use Rattle.fib_entries.specs.Known.{StandsFor, rank_of}
+use Rattle.fib_entries.specs.Known.{rank_of}
 use Rattle.fib_ledger.specs.declared.ledger.Use.{Use}
 use Rattle.fib_ledger.specs.Ledgers.{record_used}
 use Rattle.fib_ledger.proofs.Books.{total_few}
-use Rattle.fib_steady.specs.Names.{Names}
 use Rattle.fib_joined.specs.Promise.{Promise, MayClear, Serves}
 use Rattle.fib_joined.specs.View.{View}
-use Rattle.fib_ply.specs.Tables.{object_in}
 use Rattle.fib_stack.specs.Joined.{Parts, balance_in, table_of, was_by}
 use Rattle.fib_stack.specs.Records.{GaveAll, records_for}
 use Rattle.fib_stack.specs.States.{forwards_by}

@@ -1,12 +1,9 @@
-use Rattle.std.proofs.Common.{◌≡◌, ◌∙◌, ◌<◌, ◌≤◌, ◌+◌, ◌||◌, ◌&&◌, not, ℕ, List, ap, inl, inr, ⊎_elim, sym, subst, arith}
-use Rattle.std.specs.Prelude.{Option, Some, None, ◌⊎◌, Contains, slice_get}
+use Rattle.std.proofs.Common.{◌≡◌, ◌∙◌, ◌<◌, ◌+◌, ◌||◌, ◌&&◌, not, ℕ, List, ap, inl, inr, ⊎_elim, sym, subst, arith}
+use Rattle.std.specs.Prelude.{Option, Some, slice_get}
 use Rattle.fib_addr.specs.Prefixes.{Prefix, same_prefix}
-use Rattle.fib_resolve.specs.Touched.{differ}
 use Rattle.fib_resolve.specs.declared.aims.Marked.{Marked}
 use Rattle.fib_resolve.specs.declared.types.Tables.{Tables}
-use Rattle.fib_changes.specs.Ranks.{wakes}
 use Rattle.fib_changes.specs.Wanted.{aim_of}
-use Rattle.fib_core.specs.declared.word.Word.{Word}
 use Rattle.fib_pool.specs.declared.object.AdjacencyRecord.{AdjacencyRecord}
 use Rattle.fib_ledger.specs.declared.ledger.Known.{Known}
 use Rattle.fib_ledger.specs.declared.ledger.Use.{Use}
@@ -14,22 +11,19 @@ use Rattle.fib_ledger.specs.Ledgers.{known_of, times, total, used_by}
 use Rattle.fib_ledger.proofs.Books.{times_within}
 use Rattle.fib_serving.specs.Matches.{FitsVersions, IsSometime}
 use Rattle.fib_serving.specs.Stack.{aim_word, is_some}
-use Rattle.fib_steady.specs.Names.{Names}
-use Rattle.fib_joined.specs.Frames.{IsQuiet}
 use Rattle.fib_joined.specs.Promise.{Promise, MayClear, Serves}
-use Rattle.fib_joined.specs.View.{View, IsPlane}
+use Rattle.fib_joined.specs.View.{View}
 use Rattle.fib_ply.specs.Rows.{held}
 use Rattle.fib_ply.specs.Tables.{Stands, object_in}
 use Rattle.fib_queue.specs.Queues.{rank_in}
-use Rattle.fib_stack.specs.Joined.{Joined, Parts, balance_in, was_by}
 use Rattle.fib_stack.specs.Records.{AreObjects, GaveAll}
-use Rattle.fib_stack.specs.Runs.{AreReady, IsFilled, word_in}
+use Rattle.fib_stack.specs.Runs.{AreReady, word_in}
 use Rattle.fib_stack.specs.Turns.{IsFinished, IsUnderway, found_in, names_for, parts_of}
 use Rattle.fib_stack.specs.Waking.{are_among, have_ranks}
 use Rattle.fib_stack.proofs.Assembled.{is_restacked, laid_after, restacked}
 use Rattle.fib_stack.proofs.Filled.{filled_by}
 use Rattle.fib_stack.proofs.Finishing.{entry_there, joined_restacked, queue_removed, rank_left}
-use Rattle.fib_stack.proofs.Joining.{begun_of, may_clear, table_quiet, to_change, to_now}
+use Rattle.fib_stack.proofs.Joining.{begun_of, table_quiet, to_change, to_now}
 use Rattle.fib_stack.proofs.Leaving.{quiet_then}
 use Rattle.fib_stack.proofs.Listing.{objects_kept}
 use Rattle.fib_stack.proofs.Underway.{ready, the_names, waits}

@@ -1,4 +1,4 @@
-use Rattle.std.proofs.Common.{◌∙◌, ℕ, ap, sym, rules}
+use Rattle.std.proofs.Common.{◌∙◌, ℕ, ap, rules}
 use Rattle.std.specs.Prelude.{Option}
 use Rattle.fib_addr.specs.Prefixes.{Prefix}
 use Rattle.fib_ply.specs.Tables.{object_in}

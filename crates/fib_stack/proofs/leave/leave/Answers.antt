@@ -1,17 +1,14 @@
-use Rattle.std.proofs.Common.{◌≡◌, ◌∙◌, ◌<◌, ◌≤◌, ◌+◌, ℕ, ap, inl, sym, subst, arith}
-use Rattle.std.specs.Prelude.{Option, Some}
-use Rattle.fib_addr.specs.Prefixes.{Prefix}
-use Rattle.fib_resolve.specs.declared.types.Tables.{Tables}
+use Rattle.std.proofs.Common.{◌∙◌, ◌<◌, ◌+◌, ℕ, ap, inl, sym, subst, arith}
+use Rattle.std.specs.Prelude.{Option}
 use Rattle.fib_pool.specs.declared.object.AdjacencyRecord.{AdjacencyRecord}
 use Rattle.fib_ledger.specs.declared.ledger.Known.{Known}
 use Rattle.fib_ledger.specs.Ledgers.{known_of, times, total, used_by}
 use Rattle.fib_ledger.proofs.Books.{times_within}
 use Rattle.fib_joined.specs.Promise.{Promise, MayClear, Serves}
-use Rattle.fib_joined.specs.View.{View}
 use Rattle.fib_ply.specs.Tables.{Stands}
 use Rattle.fib_queue.specs.Queues.{rank_in}
 use Rattle.fib_serving.specs.Matches.{FitsVersions}
-use Rattle.fib_stack.specs.Joined.{Joined, balance_in}
+use Rattle.fib_stack.specs.Joined.{balance_in}
 use Rattle.fib_stack.specs.Records.{AreObjects, GaveAll}
 use Rattle.fib_stack.specs.Turns.{IsLeft, parts_of}
 use Rattle.fib_stack.proofs.Finishing.{joined_removed, not_lasting, queue_removed, rank_left, stands_clear, waits_of}

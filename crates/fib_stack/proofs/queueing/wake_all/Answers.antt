@@ -1,5 +1,4 @@
-use Rattle.std.proofs.Common.{◌≡◌, ◌<◌, arith, sym, ap, ◌∙◌, length}
-use Rattle.fib_stack.specs.Waking.{are_among}
+use Rattle.std.proofs.Common.{arith, sym}
 use Rattle.fib_stack.proofs.Woken.{among_next, queued_next, rank_at, rank_next}
 use Rattle.fib_stack.proofs.queueing.wake_all.Goals as goal
 

@@ -1,11 +1,9 @@
-use Rattle.std.proofs.Common.{◌≡◌, ◌∙◌, arith, refl, sym, subst}
-use Rattle.std.specs.Prelude.{Some}
-use Rattle.fib_joined.specs.Promise.{Promise, MayClear, Serves}
+use Rattle.std.proofs.Common.{◌∙◌, refl, sym}
 use Rattle.fib_joined.specs.View.{GaveRecord}
 use Rattle.fib_ledger.specs.Ledgers.{record_used}
 use Rattle.fib_stack.proofs.Leaving.{quiet_none, quiet_then, gave_quiet}
 use Rattle.fib_stack.proofs.Clearing.{gave_serves}
-use Rattle.fib_stack.proofs.Listing.{user_left, object_left, gave_next, gave_none}
+use Rattle.fib_stack.proofs.Listing.{object_left, gave_next, gave_none}
 use Rattle.fib_stack.proofs.records.give_all.Goals as goal
 
 pub loop-held-init : goal.loop-held-init

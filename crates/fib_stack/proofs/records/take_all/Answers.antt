@@ -1,11 +1,8 @@
-use Rattle.std.proofs.Common.{◌≡◌, ◌∙◌, ◌<◌, ◌≤◌, ℕ, List, length, refl, sym, subst, arith, rules, ap}
-use Rattle.std.specs.Prelude.{Result, Ok, Err}
-use Rattle.fib_pool.specs.declared.object.AdjacencyRecord.{AdjacencyRecord}
+use Rattle.std.proofs.Common.{◌∙◌, ◌≤◌, List, refl, sym, subst, arith, rules}
+use Rattle.std.specs.Prelude.{Ok}
 use Rattle.fib_ledger.specs.declared.ledger.Use.{Use}
 use Rattle.fib_ledger.specs.Ledgers.{times}
-use Rattle.fib_joined.specs.View.{View}
 use Rattle.fib_stack.specs.Records.{AreObjects, GaveAll, TookAll, TookFor, record_for}
-use Rattle.fib_stack.specs.declared.records.Want.{Want}
 use Rattle.fib_stack.proofs.Leaving.{quiet_none, quiet_then}
 use Rattle.fib_stack.proofs.Listing.{took_none, times_length, enough_users, same_after}
 use Rattle.fib_stack.proofs.Taking.{failed_took, took_quietly, took_serving, took_step, records_next, few_step}

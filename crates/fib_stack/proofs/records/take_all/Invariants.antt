@@ -1,4 +1,4 @@
-use Rattle.std.proofs.Common.{◌≡◌, ◌≤◌, ◌+◌, ℕ, length, map, take}
+use Rattle.std.proofs.Common.{◌≡◌, ◌≤◌, ℕ, length, map, take}
 use Rattle.std.specs.Prelude.{Option, vec_capacity}
 use Rattle.fib_addr.specs.Prefixes.{Prefix}
 use Rattle.fib_ledger.specs.Ledgers.{record_used}

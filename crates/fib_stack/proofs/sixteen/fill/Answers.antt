@@ -1,6 +1,6 @@
-use Rattle.std.proofs.Common.{◌≡◌, ◌<◌, ℕ, length, rules, arith, refl, sym, subst, inr, [], true≢false, ◌∙◌, length-set}
-use Rattle.fib_joined.specs.Promise.{Promise, MayPut, Allows, IsBegun}
-use Rattle.fib_stack.specs.Runs.{word_in, AreReady}
+use Rattle.std.proofs.Common.{◌<◌, length, rules, arith, refl, sym, subst, inr, [], true≢false, ◌∙◌, length-set}
+use Rattle.fib_joined.specs.Promise.{Promise, MayPut}
+use Rattle.fib_stack.specs.Runs.{word_in}
 use Rattle.fib_stack.proofs.Leaving.{quiet_none, quiet_then, put_quiet, led_live}
 use Rattle.fib_stack.proofs.Filling.{may_next, ready_next, puts_next, puts_none, balance_still}
 use Rattle.fib_stack.proofs.sixteen.fill.Goals as goal

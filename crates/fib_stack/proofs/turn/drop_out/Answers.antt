@@ -1,4 +1,4 @@
-use Rattle.std.proofs.Common.{◌≡◌, ◌∙◌, ◌<◌, ◌≤◌, ◌+◌, ◌*◌, ℕ, ap, sym, subst, arith}
+use Rattle.std.proofs.Common.{sym, subst, arith}
 use Rattle.fib_joined.specs.Promise.{Promise}
 use Rattle.fib_ledger.proofs.Books.{times_within}
 use Rattle.fib_stack.specs.Joined.{Joined}

@@ -1,10 +1,9 @@
-use Rattle.std.proofs.Common.{◌≡◌, ◌∙◌, ◌≤◌, ℕ, ap, sym, subst, arith}
+use Rattle.std.proofs.Common.{sym, subst, arith}
 use Rattle.fib_addr.specs.Prefixes.{Prefix}
-use Rattle.fib_resolve.specs.declared.types.Tables.{Tables}
-use Rattle.fib_entries.specs.Known.{StandsFor, rank_of}
+use Rattle.fib_entries.specs.Known.{rank_of}
 use Rattle.fib_joined.specs.Promise.{Promise}
 use Rattle.fib_stack.specs.Joined.{Joined, Parts, state_in}
-use Rattle.fib_stack.specs.Turns.{IsRestacked, IsTurnOf, IsUnderway, parts_of}
+use Rattle.fib_stack.specs.Turns.{IsRestacked, IsUnderway, parts_of}
 use Rattle.fib_stack.proofs.turn.restack.Goals as goal
 
 pub finish-requires-clause-underway : goal.finish-requires-clause-underway

@@ -1,9 +1,6 @@
-use Rattle.std.proofs.Common.{◌≡◌, ◌∙◌, ◌≤◌, ℕ, true, false, ap, inl, inr, sym, subst}
-use Rattle.fib_resolve.specs.declared.types.Tables.{Tables}
-use Rattle.fib_changes.specs.Ranks.{has_entry}
+use Rattle.std.proofs.Common.{◌∙◌, inl, inr, sym}
 use Rattle.fib_changes.proofs.Ranking.{ranked}
 use Rattle.fib_entries.specs.Known.{rank_of}
-use Rattle.fib_stack.specs.Turns.{IsTurnOf, parts_of}
 use Rattle.fib_stack.proofs.Finishing.{on_ok, some_length_left}
 use Rattle.fib_stack.proofs.turn.take.Goals as goal
 

@@ -1,4 +1,4 @@
-use Rattle.std.proofs.Common.{◌≡◌, ◌∙◌, ◌||◌, ◌&&◌, ◌≤◌, List, length, take, ap, sym, subst, arith}
+use Rattle.std.proofs.Common.{◌∙◌, ◌||◌, ◌&&◌, ◌≤◌, List, length, take, ap, sym, arith}
 use Rattle.fib_addr.specs.Prefixes.{Prefix, same_prefix}
 use Rattle.fib_changes.specs.Ranks.{wakes}
 use Rattle.fib_stack.proofs.Woken.{same_woken, take_whole, woken_all, woken_next, woken_of}

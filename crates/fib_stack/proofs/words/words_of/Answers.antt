@@ -1,4 +1,4 @@
-use Rattle.std.proofs.Common.{◌≡◌, arith, sym, ap, ◌∙◌, length-set}
+use Rattle.std.proofs.Common.{arith, ap, ◌∙◌, length-set}
 use Rattle.std.specs.Prelude.{slice_get}
 use Rattle.fib_changes.specs.Wanted.{aim_of}
 use Rattle.fib_serving.specs.Stack.{aim_word}

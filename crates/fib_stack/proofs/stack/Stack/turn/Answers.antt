@@ -1,4 +1,4 @@
-use Rattle.std.proofs.Common.{◌≡◌, ◌∙◌, ◌≤◌, ℕ, ap, refl, sym, subst}
+use Rattle.std.proofs.Common.{refl, sym, subst}
 use Rattle.fib_entries.specs.Known.{rank_of}
 use Rattle.fib_joined.specs.Promise.{Promise}
 use Rattle.fib_ply.proofs.Tables.{wraps}
