@@ -16,11 +16,13 @@ pub record Beside (u v : View) : Type 0 where
 abbrev pub IsAmong : (Prefix → Option ℕ) → ℕ → Type 0
 IsAmong look o = (e : Prefix) × (look e ≡ Some o)
 
--- what the stack and a scan leave to the table: they store into no ply that is in use, add no edge to one, and hold its plies and the prefixes' objects
+-- what the stack and a scan leave to the table: they store into no ply that is in use, add no edge to one, hold its plies and the prefixes'
+-- objects, and no ply more
 pub record IsQuiet (look : Prefix → Option ℕ) (u v : View) : Type 0 where
   pub plies : (x : ℕ) → v.is_ply x ≡ true → IsLive v x → (u.is_ply x ≡ true) × IsLive u x
   pub cells : (x t : ℕ) → v.is_ply x ≡ true → IsLive v x → v.cell x t ≡ u.cell x t
   pub edges : (x t c : ℕ) → Goes v x t (words.ToPly c) → Goes u x t (words.ToPly c)
   pub kinds : (x : ℕ) → (u.is_ply x ≡ true) ⊎ IsAmong look x → u.is_held x ≡ true
       → (v.is_held x ≡ true) × (v.is_ply x ≡ u.is_ply x)
+  pub held : (x : ℕ) → v.is_ply x ≡ true → v.is_held x ≡ true → u.is_held x ≡ true
   pub root : v.is_ply 0 ≡ u.is_ply 0

@@ -7,7 +7,7 @@ use mathlib.Core.Logic.{dite}
 use Rattle.fib_joined.specs.Promise.{Promise}
 use Rattle.fib_joined.specs.View.{View, IsBalance}
 use Rattle.fib_ply.specs.Prefixes.{Look, Needs}
-use Rattle.fib_ply.specs.inner.Change.{IsPaid, IsSpent, IsStoredFew, ahead, links, is_to_ply, end_of, IsAt, IsGrown, Grows, Agree, IsSound, added, IsPromised, IsTable}
+use Rattle.fib_ply.specs.inner.Change.{IsMine, IsPaid, IsSpent, IsStoredFew, ahead, links, is_to_ply, end_of, IsAt, IsGrown, Grows, Agree, IsSound, added, IsPromised, IsTable}
 use Rattle.fib_ply.specs.inner.Served.{Watch, Paths}
 use Rattle.fib_steady.specs.Names.{IsBelow}
 use Rattle.fib_core.specs.declared.word.Word.TheVariants.{Drop}
@@ -142,7 +142,7 @@ module _ (look other : Look) (len top o x to count : ℕ) (u v : View) (some : 1
       ended = subst (λ (l : Look). IsTable wants l stage.0 stage.1 w) (sym is)
           (closed wants stage.0 look (added look len top o) len top after.0 (added_else look len top o) le stage.1 w stage.3 (subst (λ (i : ℕ). i ≤ after.0) to_is after.1) (at_same wants stage.0 look other (added look len top o) after.0 after.0 stage.1 w (sym is) refl after.2))
 
-      pub add_ends : (after : ℕ → ℕ → Bool) × (m : Paths) × IsTable wants other after m w × (length m.all ≡ length n.all + count) × IsStoredFew n u w
+      pub add_ends : (after : ℕ → ℕ → Bool) × (m : Paths) × IsTable wants other after m w × (length m.all ≡ length n.all + count) × IsStoredFew n u w × (IsMine n u → IsMine m w)
       add_ends = (
         stage.0,
         stage.1,
@@ -152,4 +152,5 @@ module _ (look other : Look) (len top o x to count : ℕ) (u v : View) (some : 1
           more = omega (arith, stage.4.more, after.3.more);
           few = (let f = ahead_few stage.1 v x in omega (arith, f, few, stage.4.plies, stage.4.stored, after.3.stored));
         },
+        λ m. after.3.mine (stage.4.mine m),
       )

@@ -44,6 +44,7 @@ module _ (p : Promise) (u : View) (o i : ℕ) (blank : IsBlank p u o i) where
       early = blank.early;
       versions = blank.versions;
       root = put.kinds 0 (inl refl) ∙ blank.root;
+      none = λ x is h. blank.none x (sym (put.kinds x (inr (inl h))) ∙ is) (sym (put.held x) ∙ h);
       edges = λ x s y w l g. ⊎_elim (λ (h : Goes u x s w). blank.edges x s y w l h) (λ (h : (x ≡ 0) × (s ≡ i) × (w ≡ ToBalance o)). (h.0, h.2)) (put.edges x s y w l g);
       filled = λ t lt. ⊎_elim (λ (b : t < i). put.others 0 t (λ _ e. absurd (omega (arith, e, b))) (inl refl) ∙ blank.filled t b) (λ (b : i ≤ t). let e : t ≡ i = omega (arith, lt, b) in ap (v.cell 0) e ∙ put.cell) (Rattle.std.proofs.lemmas.Bool.cases_lt t i);
       empty = λ t le lt y l. blank.empty t (omega (arith, le)) lt y (subst (λ (w : Word). leads w y) (put.others 0 t (λ _ e. absurd (omega (arith, e, le))) (inl refl)) l);

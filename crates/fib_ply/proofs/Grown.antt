@@ -48,10 +48,10 @@ pub found_at : (p : Promise) (u : View) (a x d s : ℕ) → IsUnderWay p u → (
 found_at p u a x d s q found = (q.0, q.1, q.2, q.3, q.4, q.5, q.6, found q.5 (fits_trie (Mixed q.2 q.3 q.4) (Has q.1) q.5 u q.6.fits), q.7)
 
 pub paid_none : (n : Paths) (u : View) → IsPaid n n u u 0
-paid_none n u = record { plies = omega arith; spare = omega arith; stored = omega arith; more = omega arith }
+paid_none n u = record { plies = omega arith; spare = omega arith; stored = omega arith; more = omega arith; mine = λ m. m }
 
 pub paid_then : (n m k : Paths) (u v w : View) (i : ℕ) → IsPaid n m u v i → IsPaid m k v w 1 → IsPaid n k u w (i + 1)
-paid_then n m k u v w i f g = record { plies = omega (arith, f.plies, g.plies); spare = omega (arith, f.spare, g.spare); stored = omega (arith, f.stored, g.stored); more = omega (arith, f.more, g.more) }
+paid_then n m k u v w i f g = record { plies = omega (arith, f.plies, g.plies); spare = omega (arith, f.spare, g.spare); stored = omega (arith, f.stored, g.stored); more = omega (arith, f.more, g.more); mine = λ h. g.mine (f.mine h) }
 
 pub grows_none : (u : View) (a goal x d s : ℕ) → ((m : Paths) → IsTrie m u → IsCellOf m u a x d s) → GrowsTo u u a goal x d s 0
 grows_none u a goal x d s found = λ wants there old new pos n at. (let cell = found n (fits_trie (Mixed old new pos) (Has there) n u at.fits) in (there, n, at, cell, grown_none wants there old new pos n u a goal x d s at cell, paid_none n u))

@@ -83,7 +83,7 @@ leads_all p t u s a lt =
     let r = table_answers (watch_of p t) (look_of (held t.rows.members)) u a lt (s.0, s.1, s.2) in
     (r.0, r.1, best_longest (look_of (held t.rows.members)) 32 a r.0 r.2)
 
-held_prefix : (rows : List Row) → ArePrefixes rows → (q : Prefix) (o : ℕ) → held rows q ≡ Some o → IsPrefix q
+pub held_prefix : (rows : List Row) → ArePrefixes rows → (q : Prefix) (o : ℕ) → held rows q ≡ Some o → IsPrefix q
 held_prefix [] h q o e = absurd (none_not e)
   where
     none_not : None ≡ Some o → ⊥

@@ -348,6 +348,13 @@ module _ (wants : Watch) (look : Look) (a : ℕ) (u : View) (x c d s : ℕ) (the
             spare = omega (arith, put.spare, go.swept.spare);
             stored = omega (arith, put.stores.few, go.stores.few);
             more = omega (arith, put.stores.more, go.stores.more);
+            mine = λ m y is h. dite (ℕ_discrete y c)
+                (λ e. absurd (true≢false (sym h ∙ ap w.is_held e ∙ go.gone)))
+                (λ ne.
+                let held : v.is_held y ≡ true = sym (go.held y ne) ∙ h in
+                let ply : v.is_ply y ≡ true = sym (go.swept.kinds y (inr (inl h))) ∙ is in
+                let was = m y (sym (put.kinds y (inr (inl held))) ∙ ply) (sym (put.held y) ∙ held) in
+                (elsewhere c false n.is_in y ne ∙ was.0, was.1));
           }
         where
           stays : (y : ℕ) → (y ≡ 0) ⊎ (w.is_held y ≡ true) → IsLive w y
@@ -396,10 +403,10 @@ pub found_leaf : (p : Promise) (look : Look) (a : ℕ) (u : View) (x c d s : ℕ
 found_leaf p look a u x c d s q found = (q.0, q.1, q.2, q.3, found q.2 (fits_trie (Mixed look look 0) (Has q.1) q.2 u q.3.at.fits), q.4, q.5)
 
 pub freed_none : (n : Paths) (u : View) → IsFreed n n u u 0
-freed_none n u = record { plies = omega arith; fewer = omega arith; spare = omega arith; stored = omega arith; more = omega arith }
+freed_none n u = record { plies = omega arith; fewer = omega arith; spare = omega arith; stored = omega arith; more = omega arith; mine = λ m. m }
 
 pub freed_then : (n m k : Paths) (u v w : View) (i : ℕ) → IsFreed n m u v i → IsFreed m k v w 1 → IsFreed n k u w (i + 1)
-freed_then n m k u v w i f g = record { plies = omega (arith, f.plies, g.plies); fewer = omega (arith, f.fewer, g.fewer); spare = omega (arith, f.spare, g.spare); stored = omega (arith, f.stored, g.stored); more = omega (arith, f.more, g.more) }
+freed_then n m k u v w i f g = record { plies = omega (arith, f.plies, g.plies); fewer = omega (arith, f.fewer, g.fewer); spare = omega (arith, f.spare, g.spare); stored = omega (arith, f.stored, g.stored); more = omega (arith, f.more, g.more); mine = λ h. g.mine (f.mine h) }
 
 Quad : Type 0
 Quad = ℕ × ℕ × ℕ × ℕ

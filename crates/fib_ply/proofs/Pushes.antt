@@ -186,6 +186,7 @@ module _ (wants : Watch) (there : ℕ → ℕ → Bool) (old new : Look) (pos : 
               (λ f. absurd (true≢false (sym h ∙ ap₂ (λ i j. is_to_ply (v.cell i j)) e f ∙ ap is_to_ply put.cell)))
               (λ ne. ap is_to_ply (sym (same_cell y t one (λ _ f. ne f))) ∙ h))
               (λ ne. ap is_to_ply (sym (same_cell y t one (λ e _. ne e))) ∙ h));
+          mine = λ m y is h. m y (sym (put.kinds y (inr (inl h))) ∙ is) (sym (put.held y) ∙ h);
         }
 
   pub push_may : MayPut wants.promise u x s (ToBalance o)
@@ -215,10 +216,10 @@ cell_at wants there old new pos n u at x d s found = found n (fits_trie (Mixed o
 
 -- spending composes
 pub spent_none : (n : Paths) (u : View) (pos : ℕ) → IsSpent n u u pos pos
-spent_none n u pos = record { spare = omega arith; stored = omega arith; more = omega arith; same = omega arith }
+spent_none n u pos = record { spare = omega arith; stored = omega arith; more = omega arith; same = omega arith; mine = λ m. m }
 
 pub spent_then : (n : Paths) (u v w : View) (p q r : ℕ) → IsSpent n u v p q → IsSpent n v w q r → IsSpent n u w p r
-spent_then n u v w p q r f g = record { spare = omega (arith, f.spare, g.spare); stored = omega (arith, f.stored, g.stored); more = omega (arith, f.more, g.more); same = omega (arith, f.same, g.same) }
+spent_then n u v w p q r f g = record { spare = omega (arith, f.spare, g.spare); stored = omega (arith, f.stored, g.stored); more = omega (arith, f.more, g.more); same = omega (arith, f.same, g.same); mine = λ h. g.mine (f.mine h) }
 
 pub spent_enough : (n : Paths) (u v : View) (p q : ℕ) → IsSpent n u v p q → ahead n u p ≤ u.spare → ahead n v q ≤ v.spare
 spent_enough n u v p q s enough = omega (arith, s.spare, enough)

@@ -131,4 +131,4 @@ module _ (f : Prefix → Option ℕ) (o : ℕ) (is : f ≡ added (λ e. None) ev
     }
 
 pub ready_stands : (rows : Order Row) (o : ℕ) → held rows.members ≡ added (λ e. None) everything o → (p : Promise) (u : View) → IsBlank p u o 16 → Kinds u → Stands p (record { rows = rows; plies = 1 }) u
-ready_stands rows o is p u blank kinds = (nowhere, root_alone, ready_table (held rows.members) o is p u blank kinds, refl)
+ready_stands rows o is p u blank kinds = (nowhere, root_alone, ready_table (held rows.members) o is p u blank kinds, refl, λ x ply h. absurd (blank.none x ply h))

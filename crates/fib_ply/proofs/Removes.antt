@@ -5,7 +5,7 @@ use mathlib.Core.Logic.{dite}
 use Rattle.fib_joined.specs.Promise.{Promise}
 use Rattle.fib_joined.specs.View.{View}
 use Rattle.fib_ply.specs.Prefixes.{Look, Needs}
-use Rattle.fib_ply.specs.inner.Change.{IsSpent, IsStoredFew, ahead, Prunes, IsAt, Agree, removed, IsPromised, IsTable, IsPruned, CanPrune}
+use Rattle.fib_ply.specs.inner.Change.{IsMine, IsSpent, IsStoredFew, ahead, Prunes, IsAt, Agree, removed, IsPromised, IsTable, IsPruned, CanPrune}
 use Rattle.fib_ply.specs.inner.Served.{Watch, Paths}
 use Rattle.fib_steady.specs.Names.{IsBelow}
 use Rattle.std.specs.Prelude.{length}
@@ -74,7 +74,7 @@ module _ (look : Look) (len top : ℕ) where
       remove_prunes p same room = (wants, there, n, pruned_here, same, (let f = ahead_few n u x in omega (arith, f, room, after.3.spare, after.3.same)))
 
       pub remove_ends : (w : View) (count : ℕ) → count ≤ 7 → Prunes other ((top * 2 ^ (32 - len)) % 4294967296) v w count
-          → (after : ℕ → ℕ → Bool) × (m : Paths) × IsTable wants other after m w × (length m.all + count ≡ length n.all) × IsStoredFew n u w
+          → (after : ℕ → ℕ → Bool) × (m : Paths) × IsTable wants other after m w × (length m.all + count ≡ length n.all) × IsStoredFew n u w × (IsMine n u → IsMine m w)
       remove_ends w count few prunes =
           let h = prunes wants there n pruned_here in (
             h.0,
@@ -85,4 +85,5 @@ module _ (look : Look) (len top : ℕ) where
               more = omega (arith, after.3.more, h.3.more);
               few = (let f = ahead_few n u x in omega (arith, f, few, after.3.stored, h.3.stored));
             },
+            λ m. h.3.mine (after.3.mine m),
           )

@@ -13,7 +13,7 @@ module _ (p : Promise) (t : Table) (u : View) (k : ℕ) (kinds : Kinds (record u
   beside = record { cells = λ x s b. refl; adjacencies = λ x s o i b e. refl; balances = λ x b. b; fresh = λ x b. b; records = record { users = refl; record_of = refl } }
 
   quiet : IsQuiet (held t.rows.members) u (record u { spare = k })
-  quiet = record { plies = λ x is live. (is, live); cells = λ x s is live. refl; edges = λ x s c g. g; kinds = λ x mine h. (h, refl); root = refl }
+  quiet = record { plies = λ x is live. (is, live); cells = λ x s is live. refl; edges = λ x s c g. g; kinds = λ x mine h. (h, refl); held = λ x is h. h; root = refl }
 
   room_table : Stands p t u → Stands p t (record u { spare = k })
   room_table s = quiet_stands p t u (record u { spare = k }) s quiet kinds

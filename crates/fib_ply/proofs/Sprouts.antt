@@ -9,7 +9,7 @@ use Rattle.fib_ply.specs.Prefixes.{Look}
 use Rattle.fib_ply.specs.inner.Change.{IsOne, IsListed, IsPaid, count_cells, is_to_ply, Mixed, Has, plus, IsCalm, IsAt, IsFresh, SameIn, CanFill, Aside, IsCellOf}
 use Rattle.fib_ply.specs.inner.Served.{Watch, Paths, IsChild, IsIn, IsRight, IsWalked, IsServed, Wanted}
 use Rattle.fib_ply.specs.inner.Trie.{IsFilled, placed, listed}
-use Rattle.fib_ply.specs.inner.View.{IsSent, Frame}
+use Rattle.fib_ply.specs.inner.View.{IsSent, Frame, HoldsNoMore}
 use Rattle.fib_steady.specs.Names.{IsBelow}
 use Rattle.fib_ply.proofs.Counts.{cells_lt, apart_cons}
 use Rattle.fib_ply.proofs.Promises.{IsNew, sound_beside, kept_sent, kept_taken, may_put}
@@ -260,6 +260,13 @@ module _ (wants : Watch) (there : ℕ → ℕ → Bool) (old new : Look) (pos : 
       few : (b : ℕ) → b % 16 < 16
       few b = omega arith
 
+-- a store holds no more
+pub sent_no_more : (u v : View) (x s : ℕ) (z : Word) → IsSent u v x s z → HoldsNoMore u v
+sent_no_more u v x s z put o is h = (sym (put.kinds o (inr (inl h))) ∙ is, sym (put.held o) ∙ h)
+
+pub no_more_sent : (u v w : View) (x s : ℕ) (z : Word) → HoldsNoMore u v → IsSent v w x s z → HoldsNoMore u w
+no_more_sent u v w x s z f put o is h = let q = sent_no_more v w x s z put o is h in f o q.0 q.1
+
 -- the three steps together: u0 before, u1 after the ply is taken, u2 after it is filled
 module _ (wants : Watch) (there : ℕ → ℕ → Bool) (old new : Look) (pos : ℕ) (n : Paths) (u0 u1 : View) (a x d s o c : ℕ) (at : IsAt wants there old new pos n u0) (cell : IsCellOf n u0 a x d s) (was : u0.cell x s ≡ ToBalance o) (take : IsTaken u0 u1 kinds.Ply c) (small : a < 2 ^ 32) (beside : Beside u0 u1) (kinds1 : Kinds u1) where
   object_at : IsBalance u0 o × (wants.promise.applied ≡ 0 → (t : ℕ) → t < 16 → u0.cell o t ≡ Drop)
@@ -333,8 +340,8 @@ module _ (wants : Watch) (there : ℕ → ℕ → Bool) (old new : Look) (pos : 
       pub sprout_target : u2.is_held c ≡ true
       sprout_target = ready.1.kind.1
 
-      pub sprout_paid : (v : View) → IsSent u2 v x s (ToPly c) → u1.spare ≤ u2.spare → Stores u1 u2 16 → IsPaid n (listed (placed n c (d + 1) (a / 2 ^ (28 - 4 * d))) c true) u0 v 1
-      sprout_paid v put spare stores =
+      pub sprout_paid : (v : View) → IsSent u2 v x s (ToPly c) → u1.spare ≤ u2.spare → Stores u1 u2 16 → HoldsNoMore u1 u2 → IsPaid n (listed (placed n c (d + 1) (a / 2 ^ (28 - 4 * d))) c true) u0 v 1
+      sprout_paid v put spare stores plies =
           let more : count_cells (λ y t. is_to_ply (u0.cell y t)) n.all + 1 ≤ count_cells (λ y t. is_to_ply (v.cell y t)) n.all =
           cells_lt (λ y t. is_to_ply (u0.cell y t)) (λ y t. is_to_ply (v.cell y t)) n.all x s
           (λ y t one lt h. dite (ℕ_discrete y x)
@@ -348,14 +355,25 @@ module _ (wants : Watch) (there : ℕ → ℕ → Bool) (old new : Look) (pos : 
             spare = omega (arith, more, take.spare, spare, put.spare);
             stored = omega (arith, take.free, take.stored, stores.few, put.stores.few);
             more = omega (arith, take.stored, stores.more, put.stores.more);
+            mine = λ m y is h.
+                let q = no_more_sent u1 u2 v x s (ToPly c) plies put y is h in
+                dite (ℕ_discrete y c)
+                (λ e. (
+                  subst (λ (i : ℕ). (listed (placed n c (d + 1) (a / 2 ^ (28 - 4 * d))) c true).is_in i ≡ true) (sym e) (at_it c true n.is_in),
+                  (let deep = ap (placed n c (d + 1) (a / 2 ^ (28 - 4 * d))).depth e ∙ at_it c (d + 1) n.depth in omega (arith, deep)),
+                ))
+                (λ ne.
+                let o = take.others y ne in
+                let was = m y (sym o.1 ∙ q.0) (sym o.0 ∙ q.1) in
+                (elsewhere c true n.is_in y ne ∙ was.0, (let deep = elsewhere c (d + 1) n.depth y ne in omega (arith, deep, was.1))));
           }
 
-      pub sprout_on : (v : View) → IsSent u2 v x s (ToPly c) → Beside u2 v → Kinds v → u1.spare ≤ u2.spare → Stores u1 u2 16 → (m : Paths) × IsAt wants (plus there (d + 1) (a / 2 ^ (28 - 4 * d))) old new pos m v × IsCellOf m v a c (d + 1) (a / 2 ^ (28 - 4 * (d + 1)) % 16) × IsPaid n m u0 v 1
-      sprout_on v put beside2 kv spare stores = (
+      pub sprout_on : (v : View) → IsSent u2 v x s (ToPly c) → Beside u2 v → Kinds v → u1.spare ≤ u2.spare → Stores u1 u2 16 → HoldsNoMore u1 u2 → (m : Paths) × IsAt wants (plus there (d + 1) (a / 2 ^ (28 - 4 * d))) old new pos m v × IsCellOf m v a c (d + 1) (a / 2 ^ (28 - 4 * (d + 1)) % 16) × IsPaid n m u0 v 1
+      sprout_on v put beside2 kv spare stores plies = (
         listed (placed n c (d + 1) (a / 2 ^ (28 - 4 * d))) c true,
         subst (λ (i : ℕ). IsAt wants (plus there (d + 1) i) old new pos (listed (placed n c (d + 1) (a / 2 ^ (28 - 4 * d))) c true) v) (at_it c (a / 2 ^ (28 - 4 * d)) n.value) (subst (λ (i : ℕ). IsAt wants (plus there i ((placed n c (d + 1) (a / 2 ^ (28 - 4 * d))).value c)) old new pos (listed (placed n c (d + 1) (a / 2 ^ (28 - 4 * d))) c true) v) (at_it c (d + 1) n.depth) (linked_on wants there old new pos (placed n c (d + 1) (a / 2 ^ (28 - 4 * d))) u2 a x d s o c ready.0 ready.1 cell_still was_still filled place_is low v put beside2 kv)),
         next_cell wants there old new pos (placed n c (d + 1) (a / 2 ^ (28 - 4 * d))) u2 a x d s o c ready.0 ready.1 cell_still was_still filled place_is low v put (a / 2 ^ (28 - 4 * (d + 1)) % 16) refl below,
-        sprout_paid v put spare stores,
+        sprout_paid v put spare stores plies,
       )
         where
           below : IsBelow a (d + 2) (16 * (placed n c (d + 1) (a / 2 ^ (28 - 4 * d))).value c + a / 2 ^ (28 - 4 * (d + 1)) % 16)

@@ -21,7 +21,7 @@ use Rattle.fib_ply.specs.Rows.{held, ArePrefixes}
 use Rattle.fib_ply.specs.Tables.{Stands}
 use Rattle.fib_ply.specs.declared.rows.Row.{Row}
 use Rattle.fib_ply.specs.inner.Served.{Paths}
-use Rattle.fib_ply.specs.inner.Change.{IsTable, IsPromised, CanAdd, CanRemove, IsAdded, IsRemoved, IsStoredFew}
+use Rattle.fib_ply.specs.inner.Change.{IsMine, IsTable, IsPromised, CanAdd, CanRemove, IsAdded, IsRemoved, IsStoredFew}
 use Rattle.fib_ply.specs.inner.Change as blocks
 use Rattle.fib_ply.proofs.Needing.{whole_is}
 use Rattle.fib_ply.proofs.Rewatching.{renamed, promised_added, promised_removed}
@@ -99,11 +99,11 @@ module _ (p : Promise) (rows : Order Row) (plies : ℕ) (are : ArePrefixes rows.
           none_not x e = cc
 
       module _ (v : View) (count : ℕ) (did : IsAdded p (look_of f) (look_of (held now.members)) u v count) where
-        done : (after : ℕ → ℕ → Bool) × (m : Paths) × IsTable (record { promise = p; balance = f }) (look_of (held now.members)) after m v × (length m.all ≡ length stands.1.all + count) × IsStoredFew stands.1 u v
+        done : (after : ℕ → ℕ → Bool) × (m : Paths) × IsTable (record { promise = p; balance = f }) (look_of (held now.members)) after m v × (length m.all ≡ length stands.1.all + count) × IsStoredFew stands.1 u v × (IsMine stands.1 u → IsMine m v)
         done = did (record { promise = p; balance = f }) stands.0 stands.1 table refl (subst (IsPromised (record { promise = p; balance = f }) (look_of f)) (sym look_is) promise_added)
 
         pub stands_added : Stands p (record { rows = now; plies = plies + count }) v
-        stands_added = (done.0, done.1, renamed p f (held now.members) lasts (look_of (held now.members)) done.0 done.1 v done.2, done.3 ∙ ap (λ i. i + count) stands.3)
+        stands_added = (done.0, done.1, renamed p f (held now.members) lasts (look_of (held now.members)) done.0 done.1 v done.2, done.3 ∙ ap (λ i. i + count) stands.3, done.5 stands.4)
 
         pub stored_more : u.stored ≤ v.stored
         stored_more = done.4.more
@@ -127,14 +127,14 @@ module _ (p : Promise) (rows : Order Row) (plies : ℕ) (are : ArePrefixes rows.
       lasts' b q l = ap (λ (g : Prefix → Option ℕ). g q) object_removed ∙ (let t : same_prefix q e ≡ false = not_true (same_prefix q e) (λ t. leaves b (subst (IsLasting p.versions) ((same_prefix-Decides q e).0 t) l)) in rw t refl)
 
       module _ (v : View) (count : ℕ) (did : IsRemoved p (look_of f) (look_of (held now.members)) u v count) where
-        gone : (after : ℕ → ℕ → Bool) × (m : Paths) × IsTable (record { promise = p; balance = f }) (look_of (held now.members)) after m v × (length m.all + count ≡ length stands.1.all) × IsStoredFew stands.1 u v
+        gone : (after : ℕ → ℕ → Bool) × (m : Paths) × IsTable (record { promise = p; balance = f }) (look_of (held now.members)) after m v × (length m.all + count ≡ length stands.1.all) × IsStoredFew stands.1 u v × (IsMine stands.1 u → IsMine m v)
         gone = did (record { promise = p; balance = f }) stands.0 stands.1 table refl (subst (IsPromised (record { promise = p; balance = f }) (look_of f)) (sym look_is) promise_removed)
 
         pub fewer : count ≤ plies
         fewer = let a = gone.3 in let b = stands.3 in omega (arith, a, b)
 
         pub stands_removed : Stands p (record { rows = now; plies = plies - count }) v
-        stands_removed = (gone.0, gone.1, renamed p f (held now.members) lasts' (look_of (held now.members)) gone.0 gone.1 v gone.2, (let a = gone.3 in let b = stands.3 in let r : length gone.1.all ≡ plies - count = omega (arith, a, b) in r))
+        stands_removed = (gone.0, gone.1, renamed p f (held now.members) lasts' (look_of (held now.members)) gone.0 gone.1 v gone.2, (let a = gone.3 in let b = stands.3 in let r : length gone.1.all ≡ plies - count = omega (arith, a, b) in r), gone.5 stands.4)
 
         pub stored_grew : u.stored ≤ v.stored
         stored_grew = gone.4.more

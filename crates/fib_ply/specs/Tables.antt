@@ -8,7 +8,7 @@ use Rattle.fib_joined.specs.View.{View}
 use Rattle.fib_ply.specs.Rows.{held}
 use Rattle.fib_ply.specs.declared.rows.Row.{Row}
 use Rattle.fib_ply.specs.inner.Served.{Paths, Watch}
-use Rattle.fib_ply.specs.inner.Change.{IsTable}
+use Rattle.fib_ply.specs.inner.Change.{IsMine, IsTable}
 use Rattle.fib_ply.specs.inner.Trie.{walk}
 
 -- its prefixes with their objects, and how many plies it has, the root too
@@ -23,9 +23,9 @@ object_in t = held t.rows.members
 abbrev pub watch_of : Promise → Table → Watch
 watch_of p t = record { promise = p; balance = held t.rows.members }
 
--- in a change: the plies stand for the table and keep what workers are promised
+-- in a change: the plies stand for the table and keep what workers are promised, and no other ply is held
 abbrev pub Stands : Promise → Table → View → Type 0
-Stands p t u = (there : ℕ → ℕ → Bool) × (n : Paths) × IsTable (watch_of p t) (look_of (held t.rows.members)) there n u × (length n.all ≡ t.plies)
+Stands p t u = (there : ℕ → ℕ → Bool) × (n : Paths) × IsTable (watch_of p t) (look_of (held t.rows.members)) there n u × (length n.all ≡ t.plies) × IsMine n u
 
 -- eight steps from the root lead each address to the object of the longest of the table's prefixes that contain it
 abbrev pub LeadsAll : Table → View → Type 0

@@ -4,7 +4,7 @@ ghost use Rattle.fib_core.specs.declared.word.Word.TheVariants.{Drop, ToBalance}
 ghost use Rattle.fib_joined.specs.Frames.{Beside};
 ghost use Rattle.fib_joined.specs.View.{IsBalance, Stores};
 ghost use Rattle.fib_ply.specs.Prefixes.{Look};
-ghost use Rattle.fib_ply.specs.inner.View.{Frame};
+ghost use Rattle.fib_ply.specs.inner.View.{Frame, HoldsNoMore};
 ghost use Rattle.fib_ply.specs.inner.Served.{Paths, Watch};
 ghost use Rattle.fib_ply.specs.inner.Change.{Aside, CanFill, Grows, IsAt, IsCellOf, IsPaid, IsUnderWay, IsUnderWayAt, plus};
 
@@ -24,6 +24,7 @@ pub fn fill<P: Objects>(on: &mut P, ply: u32, object: u32)
     ensures spare { (P.view on.old).spare ≤ (P.view on.new).spare }
     ensures stores { Stores (P.view on.old) (P.view on.new) 16 }
     ensures frame { Frame (P.view on.old) (P.view on.new) }
+    ensures plies { HoldsNoMore (P.view on.old) (P.view on.new) }
     ensures promise { P.promise on.new ≡ P.promise on.old }
     ensures beside { Beside (P.view on.old) (P.view on.new) }
 {

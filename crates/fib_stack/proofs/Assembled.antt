@@ -303,4 +303,15 @@ module _ (S : Tables) (rank : Prefix → ℕ) (p : Promise) (v0 v2 v3 v4 v5 : Vi
     balances = λ c x at. dite (prefix_discrete c e)
         (λ is. let both : Some x ≡ Some o = sym at ∙ ap (balance_in t) is ∙ d.balance in let same : o ≡ x = cc in subst (λ (i : ℕ). IsBalance v5 i) same (stay5 o r.here))
         (λ ne. stay5 x (r.stay x (laid.balances c x (sym (d.others_balance c ne) ∙ at))));
+    owned = λ x b. ⊎_elim own_before (λ (is : x ≡ o). (e, d.balance ∙ ap Some (sym is))) (r.fresh x (filled.fresh x (d.back.balances.fresh x (d.placed.fresh x b))));
   }
+    where
+      own_before : {x : ℕ} → IsBalance v0 x → (c : Prefix) × (balance_in t c ≡ Some x)
+      own_before {x} b =
+          let w = laid.owned x b in
+          dite (prefix_discrete w.0 e)
+          (λ is. (e, d.balance ∙ ⊎_elim
+          (λ (h : balance_in s e ≡ Some o). sym h ∙ ap (balance_in s) (sym is) ∙ w.1)
+          (λ (h : (balance_in s e ≡ None) × (IsBalance v0 o → ⊥)). absurd (let bad : None ≡ Some x = sym h.0 ∙ ap (balance_in s) (sym is) ∙ w.1 in cc))
+          r.which))
+          (λ ne. (w.0, d.others_balance w.0 ne ∙ w.1))

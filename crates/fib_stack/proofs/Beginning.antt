@@ -45,6 +45,7 @@ module _ (S : Tables) (rank : Prefix → ℕ) (p : Promise) (v0 v1 v2 v3 : View)
     objects = objects_kept v2 v3 plan.uses.items (λ m lt. ap (λ (f : AdjacencyRecord → Option ℕ). f m) got.records.record_of) took.objects;
     records = records;
     stay = λ x b. got.stay x (stay2 x b);
+    fresh = λ x b. ⊎_elim (λ (h : IsBalance v2 x). inl ((room_same v0 v1 room).balances.fresh x (took.balances.fresh x h))) (λ (is : x ≡ plan.object). inr is) (got.fresh x b);
     cells = λ x k b.
         let r = room_same v0 v1 room in
         got.cells x k (stay2 x b) ∙ took.balances.cells x k (r.balances.stay x b) ∙ r.balances.cells x k b;

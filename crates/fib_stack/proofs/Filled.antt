@@ -20,6 +20,7 @@ none_filled u v o k e = subst (λ (w : View). IsFilled u w o k [] []) (sym e) (r
   rest = λ s ne. refl;
   others = λ x s b ne. refl;
   stay = λ x b. b;
+  fresh = λ x b. b;
   records = record { record_of = refl; users = refl };
   free = omega arith;
   stored = omega arith;
@@ -28,6 +29,9 @@ none_filled u v o k e = subst (λ (w : View). IsFilled u w o k [] []) (sym e) (r
 module _ (u m v : View) (o k : ℕ) (w : Word) (ws : List Word) (a : Put) (gave : List Put) (mine : IsBalance u o) (put : IsPut u m o k w a) (rest : IsFilled m v o (suc k) ws gave) where
   stay_put : (x : ℕ) → IsBalance u x → IsBalance m x
   stay_put x b = let h = put.held x ∙ b.0 in (h, put.kinds x (inr (inl h)) ∙ b.1)
+
+  fresh_put : (x : ℕ) → IsBalance m x → IsBalance u x
+  fresh_put x b = (sym (put.held x) ∙ b.0, sym (put.kinds x (inr (inl b.0))) ∙ b.1)
 
   here : v.cell o k ≡ m.cell o k
   here = rest.rest k (λ j lt e. absurd (omega (arith, e)))
@@ -51,6 +55,7 @@ module _ (u m v : View) (o k : ℕ) (w : Word) (ws : List Word) (a : Put) (gave 
     rest = λ s ne. rest.rest s (λ j lt e. ne (suc j) (omega (arith, lt)) (omega (arith, e))) ∙ later s (λ e. ne zero (omega arith) (omega (arith, e)));
     others = λ x s b ne. rest.others x s (stay_put x b) ne ∙ put.others x s (λ e _. ne e) (inr (inl (stay_put x b).0));
     stay = λ x b. rest.stay x (stay_put x b);
+    fresh = λ x b. fresh_put x (rest.fresh x b);
     records = record { record_of = rest.records.record_of ∙ put.records.record_of; users = rest.records.users ∙ put.records.users };
     free = omega (arith, put.free, rest.free);
     stored = omega (arith, put.stores.more, rest.stored);

@@ -14,7 +14,7 @@ use Rattle.fib_joined.specs.View.{View, Retired, Goes, IsLive, IsBalance, IsPlan
 use Rattle.fib_joined.specs.Frames.{IsQuiet, IsAmong}
 
 pub quiet_none : (look : Prefix → Option ℕ) (u : View) → IsQuiet look u u
-quiet_none look u = record { plies = λ x is live. (is, live); cells = λ x t is live. refl; edges = λ x t c g. g; kinds = λ x m h. (h, refl); root = refl }
+quiet_none look u = record { plies = λ x is live. (is, live); cells = λ x t is live. refl; edges = λ x t c g. g; kinds = λ x m h. (h, refl); held = λ x is h. h; root = refl }
 
 pub quiet_then : (look : Prefix → Option ℕ) (u v w : View) → IsQuiet look u v → IsQuiet look v w → IsQuiet look u w
 quiet_then look u v w f g = record {
@@ -22,6 +22,7 @@ quiet_then look u v w f g = record {
   cells = λ x t is live. let q = g.plies x is live in g.cells x t is live ∙ f.cells x t q.0 q.1;
   edges = λ x t c e. f.edges x t c (g.edges x t c e);
   kinds = λ x m h. let q = f.kinds x m h in let r = g.kinds x (still x m q.1) q.0 in (r.0, r.1 ∙ q.1);
+  held = λ x is h. let q = g.plies x is (inr (inl h)) in f.held x q.0 (g.held x is h);
   root = g.root ∙ f.root;
 }
   where
@@ -65,6 +66,7 @@ module _ (u v : View) (x s : ℕ) (w : Word) (a : Put) (mine : IsBalance u x) (k
     cells = λ y t is live. put.others y t (λ e _. off_ply y is live e) live;
     edges = ply_edges;
     kinds = λ y m h. let h' = put.held y ∙ h in (h', put.kinds y (inr (inl h')));
+    held = λ y is h. sym (put.held y) ∙ h;
     root = put.kinds 0 (inl refl);
   }
 
@@ -92,6 +94,7 @@ module _ (u v : View) (c : ℕ) (plane : IsPlane v) (take : IsTaken u v kinds.Ba
     cells = λ y t is live. take.cells y t;
     edges = λ y t z g. goes_back y t (words.ToPly z) g;
     kinds = λ y m h. let o = take.others y (held_not y h) in (o.0 ∙ h, o.1);
+    held = λ y is h. sym (take.others y (ply_not y is)).0 ∙ h;
     root = (take.others 0 (λ e. take.other (sym e))).1;
   }
 
@@ -109,6 +112,7 @@ module _ (u v : View) (plane : IsPlane v) (swept : IsSwept u v) (held : (y : ℕ
     cells = λ y t is live. swept.cells y t live;
     edges = λ y t z g. swept.edges y t z (words.ToPly z) refl g;
     kinds = λ y m h. let h' = stays y m h in (h', swept.kinds y (inr (inl h')));
+    held = λ y is h. held y h;
     root = swept.kinds 0 (inl refl);
   }
 
@@ -144,6 +148,7 @@ module _ (u v : View) (m : AdjacencyRecord) (x : ℕ) (before : IsPlane u) (plan
     cells = λ y t is live. took.cells y t (plies_back y is live).1;
     edges = λ y t z g. took.edges y t z (words.ToPly z) refl g;
     kinds = λ y q h. (took.held y ∙ h, took.kinds y (inr (inl h)));
+    held = λ y is h. sym (took.held y) ∙ h;
     root = took.kinds 0 (inl refl);
   }
 

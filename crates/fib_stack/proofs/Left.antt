@@ -84,4 +84,8 @@ module _ (S : Tables) (v0 v1 v2 : View) (e : Prefix) (s t : Parts) (kept : Kept 
     balances = λ c x at. dite (prefix_discrete c e)
         (λ is. absurd (let bad : None ≡ Some x = sym d.balance ∙ ap (balance_in t) (sym is) ∙ at in cc))
         (λ ne. d.back.balances.stay x (stays c x ne (sym (d.others_balance c ne) ∙ at)));
+    owned = λ x b.
+        let h = d.went.fresh x (d.back.balances.fresh x b) in
+        let w = laid.owned x h.0 in
+        (w.0, d.others_balance w.0 (λ is. h.1 (ap (balance_in s) (sym is) ∙ w.1)) ∙ w.1);
   }

@@ -111,6 +111,7 @@ module _ (S : Tables) (rank : Prefix → ℕ) (p : Promise) (u v : View) (s : Pa
       counted = λ r. m.users r ∙ j.laid.counted r;
       objects = λ e. objects_kept u v (used_by (s.known e)) (λ r lt. m.records r (omega (arith, lt, counted e r, j.laid.counted r))) (j.laid.objects e);
       balances = λ e o at. m.stay o (j.laid.balances e o at);
+      owned = λ o b. j.laid.owned o (m.fresh o b);
     };
     table = table_still;
     fits = j.fits;
@@ -129,6 +130,7 @@ room_moved p u v h =
       users = same.users;
       records = λ r lt. same.record_of r;
       stay = same.balances.stay;
+      fresh = same.balances.fresh;
       cells = same.balances.cells;
       quiet = room_quiet u v h;
       serves = λ n. room_serves p n u v h;
@@ -149,6 +151,7 @@ scan_moved p u v left plane scan = record {
   users = λ r. ap (λ (f : AdjacencyRecord → ℕ). f r) scan.records.users;
   records = λ r lt. ap (λ (f : AdjacencyRecord → Option ℕ). f r) scan.records.record_of;
   stay = λ x b. let h = scan.held x ∙ b.0 in (h, scan.swept.kinds x (inr (inl h)) ∙ b.1);
+  fresh = λ x b. (sym (scan.held x) ∙ b.0, sym (scan.swept.kinds x (inr (inl b.0))) ∙ b.1);
   cells = λ x k b. scan.swept.cells x k (inr (inl (scan.held x ∙ b.0)));
   quiet = scan_quiet u v left plane scan;
   serves = λ n. scan_serves p n u v left scan;
@@ -159,6 +162,7 @@ same_moved p u v same quiet serves = record {
   users = same.users;
   records = λ r lt. same.record_of r;
   stay = same.balances.stay;
+  fresh = same.balances.fresh;
   cells = same.balances.cells;
   quiet = quiet;
   serves = serves;

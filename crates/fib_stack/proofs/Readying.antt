@@ -1,6 +1,8 @@
 -- What is made ready before the first put.
 use Rattle.std.proofs.Common.{◌≡◌, ℕ, ◌≤◌, inl, inr, true≢false, refl, sym, ap, ◌∙◌, subst, arith}
 use Rattle.std.specs.Prelude.{IfNone, IfSome, Option, Some, None}
+use native.Mathlib.Decide.{ℕ_discrete}
+use mathlib.Core.Logic.{dite}
 use Rattle.fib_addr.specs.Prefixes.{Prefix}
 use Rattle.fib_pool.specs.declared.object.Kind.TheVariants as kinds
 use Rattle.fib_steady.specs.Names.{Names}
@@ -17,7 +19,7 @@ abbrev roomy : View → ℕ → View
 roomy u n = record u { spare = n }
 
 pub room_quiet : (u v : View) → HasRoom u v → (look : Prefix → Option ℕ) → IsQuiet look u v
-room_quiet u v h look = subst (λ (w : View). IsQuiet look u w) (sym h.same) (record { plies = λ x is live. (is, live); cells = λ x t is live. refl; edges = λ x t c g. g; kinds = λ x m k. (k, refl); root = refl })
+room_quiet u v h look = subst (λ (w : View). IsQuiet look u w) (sym h.same) (record { plies = λ x is live. (is, live); cells = λ x t is live. refl; edges = λ x t c g. g; kinds = λ x m k. (k, refl); held = λ x is k. k; root = refl })
 
 pub room_serves : (p : Promise) (n : Names) (u v : View) → HasRoom u v → Serves p n u → Serves p n v
 room_serves p n u v h s = subst (λ (w : View). Serves p n w) (sym h.same) (serves_still p n u (roomy u v.spare) (λ y t d z l g. g) (λ y t l l'. refl) (λ b e o lasts is q. q) s)
@@ -56,6 +58,7 @@ own_object u balances e o is b = record {
   which = inl is;
   here = b;
   stay = λ x h. h;
+  fresh = λ x h. inl h;
   cells = λ x k h. refl;
   records = record { record_of = refl; users = refl };
   free = λ none. absurd (let bad : Some o ≡ None = sym is ∙ none in cc);
@@ -69,6 +72,7 @@ taken_object u v balances e o none enough t = record {
   which = inr (none, λ b. true≢false (sym b.0 ∙ t.fresh));
   here = t.held;
   stay = λ x b. let q = t.others x (λ at. true≢false (sym b.0 ∙ ap u.is_held at ∙ t.fresh)) in (q.0 ∙ b.0, q.1 ∙ b.1);
+  fresh = λ x b. dite (ℕ_discrete x o) (λ is. inr is) (λ ne. let q = t.others x ne in inl (sym q.0 ∙ b.0, sym q.1 ∙ b.1));
   cells = λ x k b. t.cells x k;
   records = t.records;
   free = λ z. omega (arith, enough, t.free);

@@ -49,11 +49,13 @@ queued_in s e = is_some (rank_in s.queue e)
 abbrev pub state_in : View → Parts → State
 state_in v s = state_of v (balance_in s) (was_by s) (late_at s.late) (holds_by s) (queued_in s)
 
--- the records have as many users as prefixes use them, under the objects that are known, and the table's objects are balances that are held
+-- the records have as many users as prefixes use them, under the objects that are known; the table's objects are balances that are held, and
+-- each balance that is held is one of the table's
 pub record IsLaid (v : View) (s : Parts) : Type 0 where
   pub counted : (m : AdjacencyRecord) → v.users m ≡ s.total m
   pub objects : (e : Prefix) → AreObjects v (used_by (s.known e))
   pub balances : (e : Prefix) (o : ℕ) → balance_in s e ≡ Some o → IsBalance v o
+  pub owned : (o : ℕ) → IsBalance v o → (e : Prefix) × (balance_in s e ≡ Some o)
 
 -- the same versions, at a time at which stores are allowed
 abbrev pub in_change : Promise → Promise

@@ -47,6 +47,7 @@ pub record IsFilled (u v : View) (o k : ℕ) (ws : List Word) (gave : List Put) 
   pub rest : (s : ℕ) → ((j : ℕ) → j < length ws → s ≢ k + j) → v.cell o s ≡ u.cell o s
   pub others : (x s : ℕ) → IsBalance u x → x ≢ o → v.cell x s ≡ u.cell x s
   pub stay : (x : ℕ) → IsBalance u x → IsBalance v x
+  pub fresh : (x : ℕ) → IsBalance v x → IsBalance u x
   pub records : SameRecords u v
   pub free : u.free ≤ v.free
   pub stored : u.stored ≤ v.stored

@@ -55,6 +55,7 @@ pub record IsReadied (S : Tables) (p : Promise) (v0 v : View) (e : Prefix) (o : 
   pub objects : AreObjects v us
   pub records : map record_used us ≡ records_for (marked_list S e)
   pub stay : (x : ℕ) → IsBalance v0 x → IsBalance v x
+  pub fresh : (x : ℕ) → IsBalance v x → IsBalance v0 x ⊎ (x ≡ o)
   pub cells : (x k : ℕ) → IsBalance v0 x → v.cell x k ≡ v0.cell x k
   pub which : (balance_in s e ≡ Some o) ⊎ ((balance_in s e ≡ None) × (IsBalance v0 o → ⊥))
   pub here : IsBalance v o
@@ -129,6 +130,7 @@ pub record GotObject (u v : View) (balances : Prefix → Option ℕ) (e : Prefix
   pub which : (balances e ≡ Some o) ⊎ ((balances e ≡ None) × (IsBalance u o → ⊥))
   pub here : IsBalance v o
   pub stay : (x : ℕ) → IsBalance u x → IsBalance v x
+  pub fresh : (x : ℕ) → IsBalance v x → IsBalance u x ⊎ (x ≡ o)
   pub cells : (x k : ℕ) → IsBalance u x → v.cell x k ≡ u.cell x k
   pub records : SameRecords u v
   pub free : balances e ≡ None → 7 ≤ v.free
@@ -144,6 +146,7 @@ pub record IsTurnOf (S : Tables) (rank : Prefix → ℕ) (p : Promise) (v : View
 -- what is left of the balances where one is let go, if there is one
 pub record WentFrom (u v : View) (gone : Option ℕ) : Type 0 where
   pub stay : (x : ℕ) → (gone ≡ Some x → ⊥) → IsBalance u x → IsBalance v x
+  pub fresh : (x : ℕ) → IsBalance v x → IsBalance u x × (gone ≡ Some x → ⊥)
   pub cells : (x k : ℕ) → IsBalance u x → IsBalance v x → v.cell x k ≡ u.cell x k
   pub records : SameRecords u v
   pub stored : u.stored ≤ v.stored
@@ -164,11 +167,13 @@ pub record IsLeft (v0 v1 v2 : View) (e : Prefix) (s t : Parts) : Type 0 where
   pub plane : IsPlane v2
   pub queue : (d : Prefix) → queued_in t d ≡ (queued_in s d && not (same_prefix d e))
 
--- what others may do to the plane while nothing is put: balances that are held keep their cells, and records with users their objects
+-- what others may do to the plane while nothing is put: balances that are held keep their cells, none is new, and records with users keep their
+-- objects
 pub record IsMoved (p : Promise) (u v : View) : Type 0 where
   pub users : (m : AdjacencyRecord) → v.users m ≡ u.users m
   pub records : (m : AdjacencyRecord) → 0 < u.users m → v.record_of m ≡ u.record_of m
   pub stay : (x : ℕ) → IsBalance u x → IsBalance v x
+  pub fresh : (x : ℕ) → IsBalance v x → IsBalance u x
   pub cells : (x k : ℕ) → IsBalance u x → v.cell x k ≡ u.cell x k
   pub quiet : (look : Prefix → Option ℕ) → IsQuiet look u v
   pub serves : (n : Names) → Serves p n u → Serves p n v

@@ -53,6 +53,10 @@ pub record IsListed (n : Paths) : Type 0 where
   pub only : (x : ℕ) → IsOne n.all x → n.is_in x ≡ true
   pub apart : AllDiffer n.all
 
+-- each ply that is held is in the table, below the root
+abbrev pub IsMine : Paths → View → Type 0
+IsMine n u = (x : ℕ) → u.is_ply x ≡ true → u.is_held x ≡ true → (n.is_in x ≡ true) × (0 < n.depth x)
+
 -- the change from old to new has come to pos
 pub record IsAt (wants : Watch) (there : ℕ → ℕ → Bool) (old new : Look) (pos : ℕ) (n : Paths) (u : View) : Type 0 where
   pub fits : Fits (Mixed old new pos) (Has there) n u
@@ -100,6 +104,7 @@ pub record IsSpent (n : Paths) (u v : View) (pos pos' : ℕ) : Type 0 where
   pub stored : v.stored + 16 * u.free + ahead n v pos' ≤ u.stored + 16 * v.free + ahead n u pos
   pub more : u.stored ≤ v.stored
   pub same : links n v ≤ links n u
+  pub mine : IsMine n u → IsMine n v
 
 -- a ply that the control plane holds, to which nothing leads, and from which nothing leads to a ply
 pub record IsFresh (n : Paths) (u : View) (c : ℕ) : Type 0 where
@@ -153,6 +158,7 @@ pub record IsPaid (n m : Paths) (u v : View) (count : ℕ) : Type 0 where
   pub spare : u.spare + links n u ≤ v.spare + links m v
   pub stored : v.stored + 16 * u.free ≤ 33 * count + u.stored + 16 * v.free
   pub more : u.stored ≤ v.stored
+  pub mine : IsMine n u → IsMine m v
 
 -- what growing does
 abbrev pub Grows : View → View → ℕ → ℕ → ℕ → Type 0
@@ -232,6 +238,7 @@ pub record IsFreed (n m : Paths) (u v : View) (count : ℕ) : Type 0 where
   pub spare : u.spare ≤ v.spare + count
   pub stored : v.stored + 16 * u.free ≤ count + u.stored + 16 * v.free
   pub more : u.stored ≤ v.stored
+  pub mine : IsMine n u → IsMine m v
 
 -- what unlinking a ply does
 abbrev pub UnlinksTo : Look → ℕ → View → View → (ℕ × ℕ × ℕ × ℕ) → (ℕ × ℕ × ℕ × ℕ) → Type 0
@@ -272,9 +279,11 @@ abbrev pub IsAdded : Promise → Look → Look → View → View → ℕ → Typ
 IsAdded p old new u v count =
     (wants : Watch) (there : ℕ → ℕ → Bool) (n : Paths) → IsTable wants old there n u → wants.promise ≡ p → IsPromised wants old new
     → (after : ℕ → ℕ → Bool) × (m : Paths) × IsTable wants new after m v × (length m.all ≡ length n.all + count) × IsStoredFew n u v
+    × (IsMine n u → IsMine m v)
 
 -- and with so many less
 abbrev pub IsRemoved : Promise → Look → Look → View → View → ℕ → Type 0
 IsRemoved p old new u v count =
     (wants : Watch) (there : ℕ → ℕ → Bool) (n : Paths) → IsTable wants old there n u → wants.promise ≡ p → IsPromised wants old new
     → (after : ℕ → ℕ → Bool) × (m : Paths) × IsTable wants new after m v × (length m.all + count ≡ length n.all) × IsStoredFew n u v
+    × (IsMine n u → IsMine m v)

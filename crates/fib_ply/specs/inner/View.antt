@@ -16,6 +16,10 @@ pub record IsSent (u v : View) (x s : ℕ) (w : Word) : Type 0 where
   pub spare : u.spare ≤ v.spare + 1
   pub spared : x ≢ 0 → (HasIn u x → ⊥) → u.spare ≤ v.spare
 
+-- no ply is held that wasn't
+abbrev pub HoldsNoMore : View → View → Type 0
+HoldsNoMore u v = (x : ℕ) → v.is_ply x ≡ true → v.is_held x ≡ true → (u.is_ply x ≡ true) × (u.is_held x ≡ true)
+
 -- what is held stays held, as what it is
 pub record Frame (u v : View) : Type 0 where
   pub keeps : (o : ℕ) → u.is_held o ≡ true → (v.is_held o ≡ true) × (v.is_ply o ≡ u.is_ply o)

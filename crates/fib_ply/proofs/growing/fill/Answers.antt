@@ -4,7 +4,7 @@ use Rattle.fib_core.specs.declared.word.Word.TheVariants.{ToBalance}
 use Rattle.fib_joined.specs.Promise.{Promise, MayPut}
 use Rattle.fib_joined.specs.View.{IsLive, leads}
 use Rattle.fib_joined.proofs.Frames.{beside_none, beside_then}
-use Rattle.fib_ply.proofs.Sprouts.{aside_may, aside_calm, aside_on, frame_put, frame_none}
+use Rattle.fib_ply.proofs.Sprouts.{aside_may, aside_calm, aside_on, frame_put, frame_none, no_more_sent}
 use Rattle.fib_ply.proofs.growing.fill.Goals as goal
 
 pub put-requires-clause-promise : goal.put-requires-clause-promise
@@ -29,7 +29,7 @@ pub put-requires-clause-calm : goal.put-requires-clause-calm
 put-requires-clause-calm g c = let q = c.loop-slot.invariant.ready in aside_calm q.0 q.1 q.2 q.3 q.4 q.5 (g.P.Objects.view c.loop-slot.on) c.args.ply c.loop-slot.slot c.args.object q.6 q.7 c.loop-slot-test.true c.loop-slot.invariant.balance (λ z. q.9 (ap (λ (r : Promise). r.applied) (sym q.8) ∙ z))
 
 pub loop-slot-init : goal.loop-slot-init
-loop-slot-init g c = record { ready = c.requires.ready; balance = c.requires.balance; beside = beside_none _; aside = λ wants there old new pos n at fresh quiet. (at, fresh, λ y t is. refl); filled = λ t lt. absurd (omega arith); empty = λ t le lt. c.requires.empty t lt; free = omega arith; spare = omega arith; stores = record { more = omega arith; few = omega arith }; frame = frame_none _; promise = refl }
+loop-slot-init g c = record { ready = c.requires.ready; balance = c.requires.balance; beside = beside_none _; aside = λ wants there old new pos n at fresh quiet. (at, fresh, λ y t is. refl); filled = λ t lt. absurd (omega arith); empty = λ t le lt. c.requires.empty t lt; free = omega arith; spare = omega arith; stores = record { more = omega arith; few = omega arith }; frame = frame_none _; plies = λ x is h. (is, h); promise = refl }
 
 pub loop-slot-preserved : goal.loop-slot-preserved
 loop-slot-preserved g c =
@@ -56,8 +56,9 @@ loop-slot-preserved g c =
       spare = let k = put.spared q.7.other (λ h. q.7.above h.0 h.1 h.2 h.3 h.4) in omega (arith, i.spare, k);
       stores = record { more = omega (arith, i.stores.more, put.stores.more); few = omega (arith, i.stores.few, put.stores.few) };
       frame = frame_put _ _ _ _ _ _ i.frame put;
+      plies = no_more_sent (g.P.Objects.view c.args.on.now) u v c.args.ply c.loop-slot.slot (ToBalance c.args.object) i.plies put;
       promise = c.put.ensures.promise ∙ i.promise;
     }
 
 pub returns : goal.returns
-returns g c = let i = c.loop-slot.invariant in record { aside = i.aside; filled = λ t lt. i.filled t (omega (arith, c.loop-slot-test.false, lt)); free = i.free; spare = i.spare; stores = record { more = i.stores.more; few = omega (arith, i.stores.few, c.loop-slot.auto) }; frame = i.frame; beside = i.beside; promise = i.promise }
+returns g c = let i = c.loop-slot.invariant in record { aside = i.aside; filled = λ t lt. i.filled t (omega (arith, c.loop-slot-test.false, lt)); free = i.free; spare = i.spare; stores = record { more = i.stores.more; few = omega (arith, i.stores.few, c.loop-slot.auto) }; frame = i.frame; plies = i.plies; beside = i.beside; promise = i.promise }

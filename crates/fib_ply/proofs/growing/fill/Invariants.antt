@@ -3,7 +3,7 @@ use Rattle.fib_core.specs.declared.word.Word.TheVariants.{Drop, ToBalance}
 use Rattle.fib_joined.specs.Frames.{Beside}
 use Rattle.fib_joined.specs.View.{IsBalance, Stores}
 use Rattle.fib_ply.specs.inner.Change.{CanFill, Aside}
-use Rattle.fib_ply.specs.inner.View.{Frame}
+use Rattle.fib_ply.specs.inner.View.{Frame, HoldsNoMore}
 use Rattle.fib_ply.proofs.growing.fill.Given as goal
 
 abbrev pub invariant-loop-slot : goal.invariant-loop-slot
@@ -18,5 +18,6 @@ invariant-loop-slot g l = record {
   spare : (g.P.Objects.view l.initial.on).spare ≤ (g.P.Objects.view l.on).spare;
   stores : Stores (g.P.Objects.view l.initial.on) (g.P.Objects.view l.on) l.slot;
   frame : Frame (g.P.Objects.view l.initial.on) (g.P.Objects.view l.on);
+  plies : HoldsNoMore (g.P.Objects.view l.initial.on) (g.P.Objects.view l.on);
   promise : g.P.Objects.promise l.on ≡ g.P.Objects.promise l.initial.on;
 }

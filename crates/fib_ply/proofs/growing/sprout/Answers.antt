@@ -108,4 +108,4 @@ returns-clause-sprouted g c = λ wants there old new pos n at cell.
     let v = g.P.Objects.view c.put.new.on in
     let k1 = (g.met.P.Objects.sound c.take.new.on).kinds in
     let was = sym c.word.ensures ∙ c.in-ToBalance.is in
-    sprout_on wants there old new pos n u0 u1 c.args.addr p.ply p.depth p.slot c.in-ToBalance.object c.in-Some.ply at cell was c.in-Some.ensures.some c.ranges.addr.fits c.in-Some.ensures.beside k1 (g.P.Objects.view c.fill.new.on) c.fill.ensures.aside c.fill.ensures.filled c.requires.room.0 v c.put.ensures.put c.put.ensures.beside (g.met.P.Objects.sound c.put.new.on).kinds c.fill.ensures.spare c.fill.ensures.stores)
+    sprout_on wants there old new pos n u0 u1 c.args.addr p.ply p.depth p.slot c.in-ToBalance.object c.in-Some.ply at cell was c.in-Some.ensures.some c.ranges.addr.fits c.in-Some.ensures.beside k1 (g.P.Objects.view c.fill.new.on) c.fill.ensures.aside c.fill.ensures.filled c.requires.room.0 v c.put.ensures.put c.put.ensures.beside (g.met.P.Objects.sound c.put.new.on).kinds c.fill.ensures.spare c.fill.ensures.stores c.fill.ensures.plies)

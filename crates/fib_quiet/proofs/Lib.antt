@@ -1,0 +1,6 @@
+pub mod Numbers
+pub mod Reaching
+pub mod Plying
+pub mod Ends
+pub mod Owning
+pub mod Standing

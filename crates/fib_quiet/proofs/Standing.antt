@@ -1,0 +1,231 @@
+-- At rest the cells stand for the tables.
+use Rattle.std.proofs.Common.{◌≡◌, ℕ, zero, suc, ◌+◌, ◌*◌, ◌/◌, ◌<◌, ◌≤◌, ◌⊎◌, inl, inr, ⊎_elim, Bool, true, false, true≢false, ◌&&◌, ◌||◌, cond, List, [], ◌∷◌, length, map, refl, sym, ap, ap₂, ◌∙◌, subst, arith}
+use Rattle.std.specs.Prelude.{Option, Some, None, Contains, ◌==◌, flat_map, if◌then◌else◌}
+use Rattle.std.specs.List.{list_any}
+use native.Mathlib.Decide.{ℕ_discrete}
+use mathlib.Core.Logic.{dite}
+use Rattle.fib_list.proofs.Booleans.{or_cases}
+use Rattle.fib_list.proofs.Lists.{either, Contains-flat_map}
+use Rattle.fib_addr.specs.Longest.{everything}
+use Rattle.fib_addr.specs.Prefixes.{IsPrefix, Prefix}
+use Rattle.fib_addr.proofs.PrefixLaws.{same_fields}
+use Rattle.fib_reach.proofs.Through.{decides_equiv}
+use Rattle.fib_resolve.specs.Aims.{kind_aim, marked, marked_list}
+use Rattle.fib_resolve.specs.Pairs.{chosen, entries}
+use Rattle.fib_resolve.specs.Resolution.{hop_end, mac_of}
+use Rattle.fib_resolve.specs.Sizes.{adjacencies, adjacencies_of, kind_adjacency, same_adjacency}
+use Rattle.fib_resolve.specs.declared.aims.Aim.{Aim}
+use Rattle.fib_resolve.specs.declared.aims.Aim.TheVariants as aims
+use Rattle.fib_resolve.specs.declared.aims.Marked.{Marked}
+use Rattle.fib_resolve.specs.declared.pairs.Adjacency.{Adjacency}
+use Rattle.fib_resolve.specs.declared.types.End.TheVariants as answers
+use Rattle.fib_resolve.specs.declared.types.Path.{Path}
+use Rattle.fib_resolve.specs.declared.types.PathKind.{PathKind}
+use Rattle.fib_resolve.specs.declared.types.PathKind.TheVariants as kinds
+use Rattle.fib_resolve.specs.declared.types.Tables.{Tables}
+use Rattle.fib_resolve.proofs.Covering.{unique_in}
+use Rattle.fib_changes.specs.Ranks.{has_entry}
+use Rattle.fib_changes.proofs.SamePairs.{map_from}
+use Rattle.fib_config.proofs.Within.{same_adjacency-Decides}
+use Rattle.std.proofs.lemmas.Map.Made.{is_member-Decides}
+use Rattle.fib_addr.specs.Prefixes.{same_prefix}
+use Rattle.fib_addr.proofs.PrefixLaws.{same_prefix-Decides}
+use Rattle.fib_core.specs.StandsFor.{Thing, ply_of, balance_of, adjacency_of, IsCounted, thing_word}
+use Rattle.fib_pool.specs.declared.object.AdjacencyRecord.{AdjacencyRecord}
+use Rattle.fib_plane.specs.Sound.{record_word}
+use Rattle.fib_ledger.specs.declared.ledger.Use.{Use}
+use Rattle.fib_ledger.specs.Ledgers.{record_used, same_record, times, used_by}
+use Rattle.fib_serving.specs.Kept.{same_end}
+use Rattle.fib_joined.specs.Promise.{Promise}
+use Rattle.fib_joined.specs.View.{IsBalance, IsLive, IsRecord, View}
+use Rattle.fib_ply.proofs.Laws.{held_prefix}
+use Rattle.fib_stack.specs.Joined.{Parts, balance_in, holds_by, in_change, state_in, table_of}
+use Rattle.fib_stack.specs.Records.{end_used, holds_in}
+use Rattle.fib_stack.specs.States.{ends_there, has_hop, is_recorded}
+use Rattle.fib_stack.proofs.Listing.{record_is}
+use Rattle.fib_stands.proofs.Nibbles.{ply_root}
+use Rattle.fib_quiet.specs.Rest.{IsAtRest}
+use Rattle.fib_quiet.proofs.Ends.{adjacency_cell, balance_cell, counted_adjacency, placed, record_of_end, stands}
+use Rattle.fib_quiet.proofs.Numbers.{number, or_zero}
+use Rattle.fib_quiet.proofs.Owning.{IsOwned, paths}
+use Rattle.fib_quiet.proofs.Plying.{IsPly, block, counted_ply, ply_cell, ply_counted, ply_number}
+use Rattle.fib_quiet.proofs.Reaching.{balance_at, entry_of, none_some}
+
+-- what is used is held
+turned : (r q : AdjacencyRecord) → same_record r q ≡ true → same_record q r ≡ true
+turned r q e = let is : r ≡ q = record_is r q e in subst (λ (z : AdjacencyRecord). same_record z r ≡ true) is (subst (λ (z : AdjacencyRecord). same_record r z ≡ true) (sym is) e)
+
+times_held : (us : List Use) (i a : ℕ) (x : Option ℕ) → 0 < times (record { interface = i; next_hop = a; mac = x }) us → holds_in us (answers.Hop i a x) ≡ true
+times_held [] i a x lt = absurd (omega (arith, lt))
+times_held (u ∷ us) i a x lt = by_first (same_record m (record_used u)) refl (times_held us i a x)
+  where
+    m : AdjacencyRecord
+    m = record { interface = i; next_hop = a; mac = x }
+
+    by_first : (b : Bool) → same_record m (record_used u) ≡ b → (0 < times m us → holds_in us (answers.Hop i a x) ≡ true) → holds_in (u ∷ us) (answers.Hop i a x) ≡ true
+    by_first true e rest = ap (λ b. b || holds_in us (answers.Hop i a x)) (turned m (record_used u) e)
+    by_first false e rest = later (same_end (end_used u) (answers.Hop i a x)) (holds_in us (answers.Hop i a x)) (rest (subst (λ (b : Bool). 0 < cond b 1 0 + times m us) e lt))
+      where
+        later : (b c : Bool) → c ≡ true → b || c ≡ true
+        later true c h = refl
+        later false c h = h
+
+any_there : {A : Type 0} (f : A → Bool) (xs : List A) → list_any f xs ≡ true → (x : A) × Contains xs x × (f x ≡ true)
+any_there f [] h = absurd (true≢false (sym h))
+any_there f (x ∷ xs) h = ⊎_elim (λ (e : f x ≡ true). (x, (0, omega arith, refl), e)) (λ (e : list_any f xs ≡ true). (let r = any_there f xs e in let c = r.1 in (r.0, (suc c.0, omega (arith, c.1), c.2), r.2))) (or_cases (f x) (list_any f xs) h)
+
+module _ (S : Tables) (rank : Prefix → ℕ) (p : Promise) (v : View) (s : Parts) (rest : IsAtRest S rank p v s) where
+  abbrev names : Thing → ℕ
+  names = number (paths S rank p v s rest) (balance_in s) v S
+
+  rows_fine : (q : Prefix) (o : ℕ) → balance_in s q ≡ Some o → IsPrefix q
+  rows_fine = held_prefix s.rows rest.rows_are
+
+  there : (e : Prefix) → Contains (entries S) e → (o : ℕ) × (balance_in s e ≡ Some o)
+  there e c = balance_at S (balance_in s) rest.entries_are rows_fine (placed S rank p v s rest (paths S rank p v s rest)) e c
+
+  ply_at_root : names (ply_of everything) ≡ 0
+  ply_at_root =
+      let fits = rest.joined.table.2.at.fits in
+      let z : 0 * 4294967296 ≡ 0 = omega arith in
+      ap (λ q. names (ply_of q)) (sym (same_fields (block 0 0) everything (z, refl)))
+      ∙ ply_number S (in_change p) (table_of s) v rest.joined.table rest.rows_are rest.entries_are rows_fine (placed S rank p v s rest (paths S rank p v s rest)) 0 0 0 fits.root.0 fits.root.1 fits.root.2
+
+  abbrev Found : ℕ → Type 0
+  Found x = (t : Thing) × IsCounted S t × (names t ≡ x)
+
+  -- a Hop end of a marked list is counted, with the MAC that the tables have
+  abbrev IsListed : Prefix → Path → ℕ → ℕ → Option ℕ → Type 0
+  IsListed e q i a x = Contains (kind_adjacency e q.kind) (record { interface = i; next_hop = a }) × (mac_of S i a ≡ x)
+
+  hop_same : (i a j b : ℕ) (x : Option ℕ) → ends_there (answers.Hop i a x) (aims.Ends (hop_end S j b)) ≡ true → (record { interface = j; next_hop = b; mac = mac_of S j b }) ≡ (let r : AdjacencyRecord = record { interface = i; next_hop = a; mac = x } in r)
+  hop_same i a j b x h = record_is (record { interface = j; next_hop = b; mac = mac_of S j b }) (record { interface = i; next_hop = a; mac = x }) h
+
+  one_listed : (e : Prefix) (i a j b : ℕ) (x : Option ℕ) (ys : List Adjacency) → ys ≡ record { interface = j; next_hop = b } ∷ [] → ends_there (answers.Hop i a x) (aims.Ends (hop_end S j b)) ≡ true
+      → Contains ys (record { interface = i; next_hop = a }) × (mac_of S i a ≡ x)
+  one_listed e i a j b x ys is h =
+      let same = hop_same i a j b x h in
+      let interface : j ≡ i = ap (λ (r : AdjacencyRecord). r.interface) same in
+      let hop : b ≡ a = ap (λ (r : AdjacencyRecord). r.next_hop) same in
+      let mac : mac_of S j b ≡ x = ap (λ (r : AdjacencyRecord). r.mac) same in (
+        subst (λ (zs : List Adjacency). Contains zs (record { interface = i; next_hop = a })) (sym is) (0, omega arith, ap₂ (λ (c d : ℕ). record { interface = c; next_hop = d }) interface hop),
+        ap₂ (mac_of S) (sym interface) (sym hop) ∙ mac,
+      )
+
+  by_length : (e : Prefix) (i a j : ℕ) (x : Option ℕ) (b : Bool) → ends_there (answers.Hop i a x) (aims.Ends (if b then hop_end S j e.bits else answers.Glean j)) ≡ true
+      → Contains (if b then (let r : Adjacency = record { interface = j; next_hop = e.bits } in r) ∷ [] else []) (record { interface = i; next_hop = a }) × (mac_of S i a ≡ x)
+  by_length e i a j x true h = one_listed e i a j e.bits x _ refl h
+  by_length e i a j x false h = absurd (true≢false (sym h))
+
+  by_kind : (e : Prefix) (i a : ℕ) (x : Option ℕ) (k : PathKind) → ends_there (answers.Hop i a x) (kind_aim S e k) ≡ true → Contains (kind_adjacency e k) (record { interface = i; next_hop = a }) × (mac_of S i a ≡ x)
+  by_kind e i a x (kinds.Hop b j) h = one_listed e i a j b x _ refl h
+  by_kind e i a x (kinds.Attached j) h = by_length e i a j x (e.len == 32) h
+  by_kind e i a x kinds.Drop h = absurd (true≢false (sym h))
+  by_kind e i a x kinds.Local h = absurd (true≢false (sym h))
+  by_kind e i a x (kinds.Recursive b) h = absurd (true≢false (sym h))
+  by_kind e i a x kinds.Cover h = absurd (true≢false (sym h))
+
+  listed : (e : Prefix) (i a : ℕ) (x : Option ℕ) → has_hop (marked_list S e) (answers.Hop i a x) ≡ true → (q : Path) × Contains (chosen S e) q × IsListed e q i a x
+  unfolding marked_list
+  listed e i a x has =
+      let m = any_there (λ m. ends_there (answers.Hop i a x) m.aim) (map (marked S e) (chosen S e)) has in
+      let q = map_from (marked S e) (chosen S e) m.0 m.1 in
+      (q.0, q.1, by_kind e i a x q.0.kind (ap (λ (k : Marked). ends_there (answers.Hop i a x) k.aim) q.2 ∙ m.2))
+
+  effective : (e : Prefix) (i a : ℕ) (x : Option ℕ) → has_hop (marked_list S e) (answers.Hop i a x) ≡ true → Contains (entries S) e
+  effective e i a x has = ⊎_elim
+      (λ (yes : has_entry S e ≡ true). (is_member-Decides same_prefix-Decides (entries S) e).0 yes)
+      (λ (no : has_entry S e ≡ false). absurd (true≢false (sym has ∙ ap (λ ms. has_hop ms (answers.Hop i a x)) (rest.ranked.absent e no))))
+      (either (has_entry S e))
+
+  counted : (e : Prefix) (q : Path) (x : Adjacency) → Contains (entries S) e → Contains (chosen S e) q → Contains (kind_adjacency e q.kind) x → Contains (adjacencies S) x
+  unfolding adjacencies
+  counted e q x c c' c'' = (unique_in same_adjacency (decides_equiv same_adjacency same_adjacency-Decides) (λ a b. (same_adjacency-Decides a b).0) (flat_map (adjacencies_of S) (entries S)) x).0
+      (Contains-flat_map (adjacencies_of S) (entries S) e x c (Contains-flat_map (λ k. kind_adjacency e k.kind) (chosen S e) q x c' c''))
+
+  record_found : (m : AdjacencyRecord) (x : ℕ) → v.record_of m ≡ Some x → Found x
+  record_found m x at = dite (ℕ_discrete (v.users m) 0)
+      (λ z. absurd (none_some x (sym (rest.plane.forgotten m z) ∙ at)))
+      (λ ne.
+      let u = rest.used m (let c = rest.joined.laid.counted m in omega (arith, ne, c)) in
+      let held : holds_by s u.0 (answers.Hop m.interface m.next_hop m.mac) ≡ true = times_held (used_by (s.known u.0)) m.interface m.next_hop m.mac u.1 in
+      let has : has_hop (marked_list S u.0) (answers.Hop m.interface m.next_hop m.mac) ≡ true = sym ((stands S rank p v s rest (paths S rank p v s rest)).holding u.0 (answers.Hop m.interface m.next_hop m.mac)) ∙ held in
+      let l = listed u.0 m.interface m.next_hop m.mac has in
+      let a : Adjacency = record { interface = m.interface; next_hop = m.next_hop } in (
+        adjacency_of a,
+        counted u.0 l.0 a (effective u.0 m.interface m.next_hop m.mac has) l.1 l.2,
+        ap (λ y. or_zero (v.record_of (record { interface = m.interface; next_hop = m.next_hop; mac = y }))) l.3 ∙ ap or_zero at,
+      ))
+
+  -- what is owned is counted
+  pub found : (x : ℕ) → IsOwned v x → Found x
+  found x (inl e) = (ply_of everything, ply_root S, ply_at_root ∙ sym e)
+  found x (inr (inl h)) = by_ply (v.is_ply x) refl
+    where
+      by_ply : (b : Bool) → v.is_ply x ≡ b → Found x
+      by_ply true is =
+          let n = paths S rank p v s rest in
+          let m = rest.joined.table.4 x is h in (
+            ply_of (block (n.depth x) (n.value x)),
+            ply_counted S (in_change p) (table_of s) v rest.joined.table rest.rows_are rest.entries_are rows_fine (placed S rank p v s rest n) x m.0 (inr m.1),
+            ply_number S (in_change p) (table_of s) v rest.joined.table rest.rows_are rest.entries_are rows_fine (placed S rank p v s rest n) x (n.depth x) (n.value x) m.0 refl refl,
+          )
+      by_ply false is = let e = rest.joined.laid.owned x (h, is) in (balance_of e.0, entry_of S (balance_in s) rest.entries_are rows_fine (placed S rank p v s rest (paths S rank p v s rest)) e.0 x e.1, ap or_zero e.1)
+  found x (inr (inr r)) = record_found r.0 x r.1
+
+  -- what is counted, in the view
+  ply_found : (q : Prefix) (c : IsCounted S (ply_of q)) → (x : IsPly (paths S rank p v s rest) q) × (names (ply_of q) ≡ x.ply)
+  ply_found q c =
+      let n = paths S rank p v s rest in
+      let x = counted_ply S (in_change p) (table_of s) v rest.joined.table rest.rows_are rest.entries_are rows_fine (placed S rank p v s rest n) q c in
+      (x, ap (λ r. names (ply_of r)) x.is ∙ ply_number S (in_change p) (table_of s) v rest.joined.table rest.rows_are rest.entries_are rows_fine (placed S rank p v s rest n) x.ply (n.depth x.ply) (n.value x.ply) x.here refl refl)
+
+  ply_seen : (q : Prefix) → IsCounted S (ply_of q) → v.is_ply (names (ply_of q)) ≡ true
+  ply_seen q c = let f = ply_found q c in ap v.is_ply f.1 ∙ (rest.joined.table.2.at.fits.held f.0.ply f.0.here).0
+
+  balance_seen : (e : Prefix) → IsCounted S (balance_of e) → (balance_in s e ≡ Some (names (balance_of e))) × IsBalance v (names (balance_of e))
+  balance_seen e c =
+      let o = there e c in
+      let is : names (balance_of e) ≡ o.0 = ap or_zero o.1 in
+      (o.1 ∙ ap Some (sym is), subst (IsBalance v) (sym is) (rest.joined.laid.balances e o.0 o.1))
+
+  adjacency_seen : (x : Adjacency) → IsCounted S (adjacency_of x) → v.record_of (record_of_end S x) ≡ Some (names (adjacency_of x))
+  adjacency_seen x c = let o = counted_adjacency S rank p v s rest (paths S rank p v s rest) x c in o.1 ∙ ap Some (sym (ap or_zero o.1))
+
+  pub seen_live : (t : Thing) → IsCounted S t → IsLive v (names t)
+  seen_live (ply_of q) c =
+      let f = ply_found q c in
+      subst (IsLive v) (sym f.1) (⊎_elim (λ (z : f.0.ply ≡ 0). inl z) (λ (h : v.is_held f.0.ply ≡ true). inr (inl h)) (rest.joined.table.2.at.fits.held f.0.ply f.0.here).1)
+  seen_live (balance_of e) c = inr (inl (balance_seen e c).1.0)
+  seen_live (adjacency_of x) c = inr (inr (inl (record_of_end S x, adjacency_seen x c)))
+
+  ply_not_balance : (q e : Prefix) → IsCounted S (ply_of q) → IsCounted S (balance_of e) → names (ply_of q) ≡ names (balance_of e) → ⊥
+  ply_not_balance q e c d is = true≢false (sym (ply_seen q c) ∙ ap v.is_ply is ∙ (balance_seen e d).1.1)
+
+  ply_not_adjacency : (q : Prefix) (x : Adjacency) → IsCounted S (ply_of q) → IsCounted S (adjacency_of x) → names (ply_of q) ≡ names (adjacency_of x) → ⊥
+  ply_not_adjacency q x c d is = true≢false (sym (ply_seen q c) ∙ ap v.is_ply is ∙ (rest.plane.records (record_of_end S x) (names (adjacency_of x)) (adjacency_seen x d)).1)
+
+  balance_not_adjacency : (e : Prefix) (x : Adjacency) → IsCounted S (balance_of e) → IsCounted S (adjacency_of x) → names (balance_of e) ≡ names (adjacency_of x) → ⊥
+  balance_not_adjacency e x c d is = true≢false (sym (balance_seen e c).1.0 ∙ ap v.is_held is ∙ (rest.plane.records (record_of_end S x) (names (adjacency_of x)) (adjacency_seen x d)).0)
+
+  pub seen_apart : (t u : Thing) → IsCounted S t → IsCounted S u → names t ≡ names u → t ≡ u
+  seen_apart (ply_of q) (ply_of r) c d is =
+      let f = ply_found q c in
+      let g = ply_found r d in
+      let n = paths S rank p v s rest in
+      ap ply_of (f.0.is ∙ ap (λ i. block (n.depth i) (n.value i)) (sym f.1 ∙ is ∙ g.1) ∙ sym g.0.is)
+  seen_apart (ply_of q) (balance_of e) c d is = absurd (ply_not_balance q e c d is)
+  seen_apart (ply_of q) (adjacency_of x) c d is = absurd (ply_not_adjacency q x c d is)
+  seen_apart (balance_of e) (ply_of q) c d is = absurd (ply_not_balance q e d c (sym is))
+  seen_apart (balance_of e) (balance_of f) c d is = ap balance_of ((rest.joined.kept.placed f).apart e (names (balance_of f)) (balance_seen f d).0 ((balance_seen e c).0 ∙ ap Some is))
+  seen_apart (balance_of e) (adjacency_of x) c d is = absurd (balance_not_adjacency e x c d is)
+  seen_apart (adjacency_of x) (ply_of q) c d is = absurd (ply_not_adjacency q x d c (sym is))
+  seen_apart (adjacency_of x) (balance_of e) c d is = absurd (balance_not_adjacency e x d c (sym is))
+  seen_apart (adjacency_of x) (adjacency_of y) c d is =
+      let same = rest.plane.apart (record_of_end S x) (record_of_end S y) (names (adjacency_of y)) (adjacency_seen x c ∙ ap Some is) (adjacency_seen y d) in
+      ap (λ (r : AdjacencyRecord). adjacency_of (record { interface = r.interface; next_hop = r.next_hop })) same
+
+  pub seen_word : ((r : AdjacencyRecord) (o k : ℕ) → v.record_of r ≡ Some o → k < 16 → v.cell o k ≡ record_word r k) → (t : Thing) (k : ℕ) → IsCounted S t → k < 16 → v.cell (names t) k ≡ thing_word names S t k
+  seen_word written (ply_of q) k c lt = ply_cell S (in_change p) (table_of s) v rest.joined.table rest.rows_are rest.entries_are rows_fine (placed S rank p v s rest (paths S rank p v s rest)) q c k lt
+  seen_word written (balance_of e) k c lt = let o = there e c in balance_cell S rank p v s rest (paths S rank p v s rest) e k o.0 o.1 lt
+  seen_word written (adjacency_of x) k c lt = adjacency_cell S rank p v s rest (paths S rank p v s rest) x k (counted_adjacency S rank p v s rest (paths S rank p v s rest) x c) (λ r o at. written r o k at lt)
