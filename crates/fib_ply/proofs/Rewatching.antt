@@ -95,7 +95,7 @@ module _ (p : Promise) (f g : Prefix → Option ℕ) (same : IsBegun p → (e : 
   renamed look there n u table = let k = table.at.kept in rewatch was now (wanted_same k.newest k.older k.versions) (λ z. z) look there n u (kept_same u k) table
 
 -- what is promised, both sets answer
-wanted_begun : (w : Watch) (a o : ℕ) → Wanted w a o → IsBegun w.promise × (promised_by w.promise.versions w.balance a ≡ Some o)
+pub wanted_begun : (w : Watch) (a o : ℕ) → Wanted w a o → IsBegun w.promise × (promised_by w.promise.versions w.balance a ≡ Some o)
 wanted_begun w a o h = by_begun (nat_lt 0 w.promise.applied) refl h
   where
     lt_is : nat_lt 0 w.promise.applied ≡ true → 0 < w.promise.applied

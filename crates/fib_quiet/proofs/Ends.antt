@@ -62,11 +62,11 @@ module _ (S : Tables) (rank : Prefix → ℕ) (p : Promise) (v : View) (s : Part
   abbrev names : Thing → ℕ
   names = number n (balance_in s) v S
 
-  abbrev objects : Objects
+  abbrev pub objects : Objects
   objects = record { balance = balance_in s; record_of = recorded v }
 
   -- a Hop end of a marked list has a record
-  hop_kept : (e : Prefix) (i a : ℕ) (x : Option ℕ) → has_hop (marked_list S e) (answers.Hop i a x) ≡ true → (o : ℕ) × (v.record_of (record { interface = i; next_hop = a; mac = x }) ≡ Some o)
+  pub hop_kept : (e : Prefix) (i a : ℕ) (x : Option ℕ) → has_hop (marked_list S e) (answers.Hop i a x) ≡ true → (o : ℕ) × (v.record_of (record { interface = i; next_hop = a; mac = x }) ≡ Some o)
   hop_kept e i a x has =
       let held : holds_by s e (answers.Hop i a x) ≡ true = stands.holding e (answers.Hop i a x) ∙ has in
       some_there (recorded v (answers.Hop i a x)) ((rest.joined.kept.placed e).recorded (answers.Hop i a x) held)

@@ -4,3 +4,7 @@ pub mod Plying
 pub mod Ends
 pub mod Owning
 pub mod Standing
+pub mod Planed
+pub mod Settled
+pub mod Changed
+pub mod Versions

@@ -84,7 +84,7 @@ module _ (S : Tables) (rank : Prefix → ℕ) (p : Promise) (v : View) (s : Part
   there : (e : Prefix) → Contains (entries S) e → (o : ℕ) × (balance_in s e ≡ Some o)
   there e c = balance_at S (balance_in s) rest.entries_are rows_fine (placed S rank p v s rest (paths S rank p v s rest)) e c
 
-  ply_at_root : names (ply_of everything) ≡ 0
+  pub ply_at_root : names (ply_of everything) ≡ 0
   ply_at_root =
       let fits = rest.joined.table.2.at.fits in
       let z : 0 * 4294967296 ≡ 0 = omega arith in

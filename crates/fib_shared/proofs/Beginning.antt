@@ -1,6 +1,11 @@
 -- A fresh plane has no edge.
-use Rattle.std.proofs.Common.{inl, inr, ◌≡◌, ℕ, ◌+◌, ◌*◌, true≢false, [], refl, sym, ◌∙◌, ap, subst}
+use Rattle.std.proofs.Common.{inl, inr, ◌≡◌, ◌≢◌, ℕ, ◌+◌, ◌*◌, ◌<◌, ◌≤◌, true, false, true≢false, List, [], length, Option, None, refl, sym, ◌∙◌, ap, subst, arith, get_or-set_same, get_or-set_other}
 use Rattle.std.specs.Prelude.{replicate, slice_index}
+use Rattle.std.proofs.lemmas.Bool.{cases_eq, cases_lt}
+use Rattle.std.proofs.lemmas.List.{get_or-replicate, get_or_past, length-replicate}
+use Rattle.fib_pool.specs.declared.object.Kind.TheVariants as kinds
+use Rattle.fib_pool.specs.declared.object.Object.{Object}
+use Rattle.fib_pool.specs.Objects.{as_new, at, fresh_objects}
 use Rattle.fib_core.specs.declared.word.Word.{Word}
 use Rattle.fib_core.specs.declared.word.Word.TheVariants as words
 use Rattle.fib_core.specs.Words.{decoded, goes}
@@ -11,7 +16,7 @@ use Rattle.fib_board.specs.Boards.{Board, IsFresh}
 use Rattle.fib_plane.specs.Planes.{Plane}
 use Rattle.fib_plane.specs.Sound as sound
 use Rattle.fib_joined.specs.View.{Goes, IsPlane, leads}
-use Rattle.fib_shared.specs.Shares.{view_of}
+use Rattle.fib_shared.specs.Shares.{AreRecorded, is_adjacency_at, view_of}
 use Rattle.fib_shared.proofs.Seeing.{cell_is, goes_down}
 use Rattle.fib_shared.proofs.Sounding.{sound_of}
 
@@ -35,3 +40,20 @@ module _ (p : Plane) (b : Board) (told : sound.IsPlane p) (fresh : IsFresh b) (i
     balance = λ x s c g. absurd (no_edge x s (words.ToBalance c) c refl g);
     adjacency = λ x s c g. absurd (no_edge x s (words.ToAdjacency c) c refl g);
   }) (λ x s bal lt. subst IsBucketWord (sym (cell_is p.board x s lt ∙ (ap (λ (u : Union). decoded (slice_index u.cells (16 * x + s))) union_is ∙ (ap decoded (zeros (16 * b.objects) (16 * x + s)) ∙ decoded-zero)))) tt)
+
+-- and no adjacency
+none_free : (n o : ℕ) → at (replicate n None) o ≡ None
+none_free n o = elim (cases_lt o n) [
+  | inl lt ↦ get_or-replicate n o None None lt
+  | inr ge ↦ get_or_past (replicate n None) o None (let l : length (replicate {A = Option Object} n None) ≡ n = length-replicate n None in omega (arith, l, ge))
+]
+
+none_yet : (n o : ℕ) → 0 < n → is_adjacency_at (at (fresh_objects n) o) ≡ false
+none_yet n o some = elim (cases_eq o 0) [
+  | inl same ↦ ap (λ (i : ℕ). is_adjacency_at (at (fresh_objects n) i)) same
+      ∙ ap is_adjacency_at (get_or-set_same (replicate n None) 0 (as_new kinds.Ply) None (let l : length (replicate {A = Option Object} n None) ≡ n = length-replicate n None in omega (arith, l, some)))
+  | inr ne ↦ ap is_adjacency_at (get_or-set_other (replicate n None) 0 o (as_new kinds.Ply) None ne ∙ none_free n o)
+]
+
+pub fresh_recorded : (p : Plane) (n : ℕ) → 0 < n → p.objects ≡ fresh_objects n → AreRecorded p
+fresh_recorded p n some is o adjacency held = absurd (true≢false (sym adjacency ∙ ap (λ (xs : List (Option Object)). is_adjacency_at (at xs o)) is ∙ none_yet n o some))

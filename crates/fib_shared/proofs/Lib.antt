@@ -1,6 +1,7 @@
 pub mod Seeing
 pub mod Paying
 pub mod Sounding
+pub mod Backed
 pub mod Sweeping
 pub mod Promising
 pub mod Taking
@@ -12,3 +13,4 @@ pub mod Putting
 pub mod Interning
 pub mod Recording
 pub mod Alone
+pub mod Recorded

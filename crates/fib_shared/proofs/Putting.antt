@@ -18,7 +18,7 @@ use Rattle.fib_pool.proofs.Pools.{live_at, at_in}
 use Rattle.fib_rule.specs.Steady.{MayStoreSteadily}
 use Rattle.fib_board.specs.Boards.{Board, as_control, board_stored, edge_of, union_of, word_in}
 use Rattle.fib_board.specs.May as may
-use Rattle.fib_plane.specs.Planes.{Plane, Holds, IsUncounted, leads_from}
+use Rattle.fib_plane.specs.Planes.{Plane, Holds, IsUncounted, leads_from, IsHeld}
 use Rattle.fib_plane.specs.Puts as plane
 use Rattle.fib_plane.specs.Sound as sound
 use Rattle.fib_plane.proofs.Boarding.{leaves, word_other}
@@ -28,9 +28,10 @@ use Rattle.fib_joined.specs.declared.put.Put.TheVariants as puts
 use Rattle.fib_joined.specs.View.{View, Answered, Closes, Edge, Goes, HasIn, HasKind, IsLive, IsPlane, IsPut, IsStanding, IsSwept, leads}
 use Rattle.fib_joined.specs.Promise.{KeepsRooted, Serves}
 use Rattle.fib_joined.specs.Promise as joined
-use Rattle.fib_shared.specs.Shares.{copy_seen, promise_of, record_in, users_of_record, view_of}
+use Rattle.fib_shared.specs.Shares.{copy_seen, promise_of, record_in, users_of_record, view_of, AreRecorded, is_adjacency_at}
 use Rattle.fib_shared.proofs.Seeing.{cell_is, edge_leads, held_same, live_down}
-use Rattle.fib_shared.proofs.Sweeping.{adjacency_kept, free_kept, into_up, ply_kept, sound_kept, swept_held, swept_seen, swept_stores}
+use Rattle.fib_shared.proofs.Backed.{recorded_by}
+use Rattle.fib_shared.proofs.Sweeping.{adjacency_kept, free_kept, into_up, ply_kept, sound_kept, swept_held, swept_seen, swept_stores, swept_adjacencies}
 use Rattle.fib_shared.proofs.Promising.{allows_down}
 use Rattle.fib_shared.proofs.Storing.{cell_else, cell_here, closes_down, closes_up, edge_down, edge_named, goes_new, is_put, retired_same, same_word, stored_buckets, stored_kinds, stored_view}
 use Rattle.fib_shared.proofs.Changing.{may_change, may_steadily, serves_stored}
@@ -210,6 +211,11 @@ module _ (p : Plane) (told : sound.IsPlane p) (was : IsPlane (view_of p)) (x s :
       held_eq : (y : ℕ) → v.is_held y ≡ u.is_held y
       held_eq y = swept_held m q st.swept after size long drops y ∙ held_mid y
 
+      stored_adjacencies : (y : ℕ) → is_adjacency_at (at q.objects y) ≡ true → IsHeld q.board q.objects y → (is_adjacency_at (at p.objects y) ≡ true) × IsHeld p.board p.objects y
+      stored_adjacencies y is h =
+          let d = swept_adjacencies m q st.swept after size long drops y is h in
+          (sym (adjacency_kept p.objects m.objects counts.size counts.none counts.kinds y) ∙ d.0, (let e = counts.counts y in omega (arith, e, d.1)))
+
       kinds_eq : (y : ℕ) → IsLive v y → v.is_ply y ≡ u.is_ply y
       kinds_eq y live = swept.kinds y live ∙ ply_kept p.objects m.objects counts.size counts.none counts.kinds y
 
@@ -272,6 +278,14 @@ module _ (p : Plane) (told : sound.IsPlane p) (was : IsPlane (view_of p)) (x s :
       put_sound puts.Dropped h = ⊎_elim
           (λ (n : (word_in p.board (16 * x + s) ≡ words.Drop) × (q ≡ p)). subst (λ (a : Plane). IsPlane (view_of a)) (sym n.1) was)
           (λ (n : (word_in p.board (16 * x + s) ≢ words.Drop) × plane.IsStored p q (16 * x + s) words.Drop). stored_sound words.Drop tt target_drop n.1 (flat (closes_up p x s lt w roomy told h.1)))
+          h.2
+
+      pub put_recorded : AreRecorded p → (answer : Put) → plane.IsPut p q (16 * x + s) w answer → AreRecorded q
+      put_recorded all puts.Same h = subst AreRecorded (sym h.1) all
+      put_recorded all puts.Stored h = recorded_by p q all (stored_adjacencies w roomy (target_down p told w roomy target) h.2) h.2.records
+      put_recorded all puts.Dropped h = ⊎_elim
+          (λ (n : (word_in p.board (16 * x + s) ≡ words.Drop) × (q ≡ p)). subst AreRecorded (sym n.1) all)
+          (λ (n : (word_in p.board (16 * x + s) ≢ words.Drop) × plane.IsStored p q (16 * x + s) words.Drop). recorded_by p q all (stored_adjacencies words.Drop tt target_drop n.1) n.1.records)
           h.2
 
       pub put_promise : (answer : Put) → plane.IsPut p q (16 * x + s) w answer → promise_of q.board ≡ promise_of p.board

@@ -1,10 +1,10 @@
 -- Records that are taken and given back, by the view.
 use Rattle.std.proofs.Common.{arith, ◌≡◌, ◌≢◌, ℕ, suc, ◌+◌, ◌*◌, ◌-◌, ◌^◌, ◌<◌, ◌≤◌, inl, inr, Bool, true, false, cond, ◌&&◌, ◌||◌, ◌==◌, eqb, List, length, map, set, Option, Some, None, Result, Ok, Err, refl, sym, ◌∙◌, ap, subst, get_or-set_other, length-set}
-use Rattle.std.specs.Prelude.{Contains, IfNone, IfOk, IfSome, OnErr, option_map, slice_index, if◌then◌else◌}
+use Rattle.std.specs.Prelude.{Contains, IfNone, IfOk, IfSome, OnErr, option_map, slice_index, if◌then◌else◌, is_some}
 use Rattle.std.proofs.lemmas.Bool.{false≢true, true≢false, cases_eq}
 use Rattle.fib_list.proofs.Lists.{either}
 use Rattle.std.specs.declared.alloc.AllocError.{AllocError}
-use Rattle.fib_interned.specs.Interned.{AreInterned, Kept, kept_of, users_in, users_of}
+use Rattle.fib_interned.specs.Interned.{AreInterned, Kept, kept_of, users_in, users_of, lowered}
 use Rattle.fib_union.specs.Unions as edges
 use Rattle.fib_union.specs.Unions.{owner, into, left_at_once, left_if, one}
 use Rattle.fib_core.specs.declared.word.Word.{Word}
@@ -29,14 +29,15 @@ use Rattle.fib_plane.specs.Records as plane
 use Rattle.fib_plane.specs.Records.{board_filled, given_objects}
 use Rattle.fib_plane.specs.Sound as sound
 use Rattle.fib_plane.specs.Sound.{IsInRange}
-use Rattle.fib_plane.proofs.Boarding.{at_other, edge_at_word, into_stored, kind_same, none_same, word_other}
+use Rattle.fib_plane.proofs.Boarding.{at_other, count_same, edge_at_word, into_stored, kind_same, none_same, word_other}
 use Rattle.fib_plane.proofs.Filling.{filled_else}
 use Rattle.fib_plane.proofs.Recording.{given_from}
 use Rattle.fib_joined.specs.View.{View, GaveRecord, Goes, IsPlane, IsRecord, Stores, TookOne, TookRecord, leads}
-use Rattle.fib_shared.specs.Shares.{cell_in, copy_seen, is_adjacency_at, is_ply_at, is_ply_of, kept_as, promise_of, record_in, same_record, users_of_record, view_of}
+use Rattle.fib_shared.specs.Shares.{cell_in, copy_seen, is_adjacency_at, is_ply_at, is_ply_of, kept_as, promise_of, record_in, same_record, users_of_record, view_of, AreRecorded}
 use Rattle.fib_shared.proofs.Seeing.{cell_down, cell_same, held_down, held_same, kept_down, live_down, record_down, record_is_same, same_record_is}
 use Rattle.fib_shared.proofs.Sounding.{adjacency_not_held, record_apart, record_no_edge, sound_of}
-use Rattle.fib_shared.proofs.Sweeping.{adjacency_kept, edge_live, free_kept, ply_kept, ply_leaves, sound_swept, swept_held, swept_seen, swept_stores}
+use Rattle.fib_shared.proofs.Backed.{recorded_by}
+use Rattle.fib_shared.proofs.Sweeping.{adjacency_kept, edge_live, free_kept, ply_kept, ply_leaves, sound_swept, swept_held, swept_seen, swept_stores, swept_adjacencies}
 use Rattle.fib_shared.proofs.Taking.{not_held}
 use Rattle.fib_shared.proofs.Interning.{given_else, kept_before, kept_still, one_less, one_more, record_up, taken_else, taken_in}
 
@@ -208,6 +209,24 @@ module _ (p q : Plane) (told : sound.IsPlane p) (after : sound.IsPlane q) (r : A
       by_row None is = (let f = t.fresh is in fresh f.0 f.1)
       by_row (Some k) is = (let s = t.shared k is in shared s.0 s.1)
 
+  pub took_recorded : AreRecorded p → AreRecorded q
+  took_recorded all o is h = elim (cases_eq o x) [
+    | inl same ↦ ap (λ (i : ℕ). is_some (kept_of q.records i)) same ∙ ap is_some t.takes.taken
+    | inr ne ↦ ap is_some (t.takes.others o ne) ∙ by_row ne (kept_of p.records x) refl
+  ]
+    where
+      by_row : o ≢ x → (e : Option (Kept AdjacencyRecord)) → kept_of p.records x ≡ e → is_some (kept_of p.records o) ≡ true
+      by_row ne None row =
+          let f = t.fresh row in
+          let here = at_else f.0 f.1 o ne in
+          let n : count_of q.objects o ≡ count_of p.objects o = ap count_in here in
+          all o (ap is_adjacency_at (sym here) ∙ is) (let i = same_into f.0 f.1 o in omega (arith, n, i, h))
+      by_row ne (Some k) row =
+          let s = t.shared k row in
+          let n : count_of q.objects o ≡ count_of p.objects o = ap (λ (xs : List (Option Object)). count_of xs o) s.1 in
+          let i : into (union_of q.board) o ≡ into (union_of p.board) o = ap (λ (b : Board). into (union_of b) o) s.0 in
+          all o (ap (λ (xs : List (Option Object)). is_adjacency_at (at xs o)) (sym s.1) ∙ is) (omega (arith, n, i, h))
+
   same_free : 0 < users_of_record p.records r → v.free ≡ u.free
   same_free lt = by_row (kept_as p.records r) refl
     where
@@ -291,6 +310,11 @@ module _ (p q : Plane) (told : sound.IsPlane p) (after : sound.IsPlane q) (r : A
   took_one (Ok (Some x)) took none same err = took_seen p q told after r x took
   took_one (Ok None) took none same err = (ap view_of same, new_unused p.records told.interned r none.0, none.1)
   took_one (Err e) took none same err = ap view_of err
+
+  pub one_recorded : AreRecorded p → (a : Result (Option ℕ) AllocError) → IfOk a (λ o. IfSome o (λ x. plane.TookRecord p q r x)) → IfOk a (λ o. IfNone o (q ≡ p)) → OnErr a (q ≡ p) → AreRecorded q
+  one_recorded all (Ok (Some x)) took same err = took_recorded p q told after r x took all
+  one_recorded all (Ok None) took same err = subst AreRecorded (sym same) all
+  one_recorded all (Err e) took same err = subst AreRecorded (sym err) all
 
   pub one_sound : IsPlane (view_of p) → (a : Result (Option ℕ) AllocError) → IfOk a (λ o. IfSome o (λ x. plane.TookRecord p q r x)) → IfOk a (λ o. IfNone o (q ≡ p)) → OnErr a (q ≡ p) → IsPlane (view_of q)
   one_sound was (Ok (Some x)) took same err = took_sound p q told after r x took was
@@ -406,3 +430,25 @@ module _ (p q : Plane) (told : sound.IsPlane p) (after : sound.IsPlane q) (m : A
   gave_sound was = sound_swept w q after was gave_seen.swept (λ y h. sym (held_eq y) ∙ h)
       (λ n x f. (let k = record_down q.records after.interned n x f in let j = given_from p.records q.records o g.gives x k.0 k.1 in
       ap (record_in p.records) (sym (j.2 ∙ k.2)) ∙ record_up p.records told.interned x j.0 j.1))
+
+  -- the record whose last user it was is held no more
+  pub gave_recorded : AreRecorded p → AreRecorded q
+  gave_recorded all y is h =
+      let d = swept_adjacencies mid q g.swept after size long drops y is h in
+      let was : is_adjacency_at (at p.objects y) ≡ true = sym (adjacency_kept p.objects mid.objects r.0 r.1 r.2 y) ∙ d.0 in
+      elim (cases_eq y o) [
+        | inl same ↦ ap (λ (i : ℕ). is_some (kept_of q.records i)) same ∙ ap is_some g.gives.given ∙ ap (λ k. is_some (lowered k)) mine.1
+            ∙ still_kept (users_of p.records o == 1) refl (subst (λ (i : ℕ). IsHeld p.board mid.objects i) same d.1)
+        | inr ne ↦ ap is_some (g.gives.others y ne) ∙ all y was (let c = r.3 y ne in omega (arith, c, d.1))
+      ]
+    where
+      users_are : users_of p.records o ≡ mine.0.users
+      users_are = ap users_in mine.1
+
+      still_kept : (b : Bool) → (users_of p.records o == 1) ≡ b → IsHeld p.board mid.objects o → is_some (lowered (Some mine.0)) ≡ true
+      still_kept true last held = absurd (
+          let x = live_at p.objects o live_o in
+          let n : count_of mid.objects o ≡ count_of (released p o) o = ap (λ (t : Bool). count_of (if t then released p o else p.objects) o) last in
+          let e : count_of (released p o) o ≡ count_of p.objects o - 1 = count_same p.objects o (count_of p.objects o - 1) x.0 x.1 in
+          let m = (told.counted o).most in omega (arith, n, e, m, held))
+      still_kept false more held = ap (λ (t : Bool). is_some (if t then None else Some (record { id = mine.0.id; content = mine.0.content; users = mine.0.users - 1 }))) (ap (λ (i : ℕ). i == 1) (sym users_are) ∙ more)

@@ -1,5 +1,5 @@
 -- A scan by the view: copies leave, and what they alone kept in use.
-use Rattle.std.proofs.Common.{arith, ◌≡◌, ℕ, zero, suc, ◌+◌, ◌*◌, inl, inr, Bool, true, false, List, [], ◌∷◌, length, map, Option, None, refl, sym, ◌∙◌, ap, subst}
+use Rattle.std.proofs.Common.{arith, ◌≡◌, ℕ, zero, suc, ◌+◌, ◌*◌, inl, inr, Bool, true, false, List, [], ◌∷◌, length, map, Option, None, refl, sym, ◌∙◌, ap, subst, ◌<◌}
 use Rattle.std.specs.Prelude.{Contains}
 use Rattle.std.proofs.lemmas.List.{length-map}
 use Rattle.fib_union.specs.Marks.{looked, all_passed}
@@ -14,9 +14,10 @@ use Rattle.fib_plane.specs.Planes.{Plane, IsHeld}
 use Rattle.fib_plane.specs.Planes as plane
 use Rattle.fib_plane.specs.Sound as sound
 use Rattle.fib_joined.specs.View.{Retired, Goes, IsPlane, IsScanned}
-use Rattle.fib_shared.specs.Shares.{copy_seen, promise_of, record_in, users_of_record, view_of}
+use Rattle.fib_shared.specs.Shares.{copy_seen, promise_of, record_in, users_of_record, view_of, AreRecorded, is_adjacency_at}
 use Rattle.fib_shared.proofs.Seeing.{held_same}
-use Rattle.fib_shared.proofs.Sweeping.{ply_kept, adjacency_kept, free_kept, sound_swept, swept_seen, swept_held, swept_stores}
+use Rattle.fib_shared.proofs.Backed.{recorded_by}
+use Rattle.fib_shared.proofs.Sweeping.{ply_kept, adjacency_kept, free_kept, sound_swept, swept_seen, swept_held, swept_stores, swept_adjacencies}
 
 -- looks change nothing but the copies, of which some leave
 scans_frame : (n : ℕ) (ws : List ℕ) (b : Board) → board_scans n ws b ≡ plane.with_cells b b.union.cells (board_scans n ws b).union.retired b.stored
@@ -107,6 +108,11 @@ module _ (p q : Plane) (told : sound.IsPlane p) (after : sound.IsPlane q) (s : p
   scanned_sound was = sound_swept (view_of p) q after was (scanned_seen (length q.board.union.retired) refl).swept
       (λ y h. sym (held_eq y) ∙ h)
       (λ m x e. ap (λ (f : AdjacencyRecord → Option ℕ). f m) (sym (ap record_in s.records)) ∙ e)
+
+  pub scanned_recorded : AreRecorded p → AreRecorded q
+  scanned_recorded all = recorded_by p q all (λ y is h. (
+    let d = swept_adjacencies mid q s.swept after size long drops y is h in
+    (sym (adjacency_kept p.objects s.mid s.counted.size s.counted.none s.counted.kinds y) ∙ d.0, (let e = s.counted.counts y in omega (arith, e, d.1))))) s.records
 
   pub scanned_promise : promise_of q.board ≡ promise_of p.board
   scanned_promise = ap promise_of s.swept.frame ∙ ap promise_of frame

@@ -173,6 +173,10 @@ module _ (m q : Plane) (s : plane.IsSwept m.board q.board m.objects q.objects) (
   pub swept_held : (y : ℕ) → v.is_held y ≡ u.is_held y
   swept_held y = (let e = s.holds y in held_same m.board q.board m.objects q.objects y (λ h. omega arith) (λ h. omega arith) (λ h. swept_adjacency y (omega arith)))
 
+  -- an adjacency that is held was one that was held
+  pub swept_adjacencies : (y : ℕ) → is_adjacency_at (at q.objects y) ≡ true → IsHeld q.board q.objects y → (is_adjacency_at (at m.objects y) ≡ true) × IsHeld m.board m.objects y
+  swept_adjacencies y is h = (let e = s.holds y in (sym (swept_adjacency y (omega (arith, h))) ∙ is, omega (arith, e, h)))
+
   -- each store of the sweep cleared a cell of what became free
   cells_paid : filled m.board + 16 * free_in m.objects ≤ filled q.board + 16 * free_in q.objects
   unfolding filled free_in

@@ -22,10 +22,11 @@ use Rattle.fib_plane.specs.Planes as plane
 use Rattle.fib_plane.specs.Sound as sound
 use Rattle.fib_plane.proofs.Boarding.{at_other, count_same, none_same, kind_same}
 use Rattle.fib_joined.specs.View.{View, Goes, IsPlane, IsTaken, IsLetGo, leads, is_ply_kind}
-use Rattle.fib_shared.specs.Shares.{is_ply_at, is_adjacency_kind, is_adjacency_at, record_in, users_of_record, view_of}
+use Rattle.fib_shared.specs.Shares.{is_ply_at, is_adjacency_kind, is_adjacency_at, record_in, users_of_record, view_of, AreRecorded}
 use Rattle.fib_shared.proofs.Seeing.{cell_is, goes_down, held_down, held_same, record_down, into_down}
 use Rattle.fib_shared.proofs.Sounding.{sound_of}
-use Rattle.fib_shared.proofs.Sweeping.{none_some, ply_kept, adjacency_kept, free_kept, sound_swept, swept_seen, swept_held, swept_stores}
+use Rattle.fib_shared.proofs.Backed.{recorded_by}
+use Rattle.fib_shared.proofs.Sweeping.{none_some, ply_kept, adjacency_kept, free_kept, sound_swept, swept_seen, swept_held, swept_stores, swept_adjacencies}
 
 pub not_held : (b : Bool) → (b ≡ true → ⊥) → b ≡ false
 not_held b far = elim (either b) [ inl h ↦ absurd (far h) | inr n ↦ n ]
@@ -128,6 +129,13 @@ module _ (p q : Plane) (kind : Kind) (c : ℕ) (other : kind ≡ kinds.Adjacency
     | inr ne ↦ subst IsBucketWord (sym (cell_eq x s)) (was.buckets x s (sym (held_else x ne) ∙ b.0, sym (ply_else x ne) ∙ b.1) lt)
   ])
 
+  pub taken_recorded : AreRecorded p → AreRecorded q
+  taken_recorded all = recorded_by p q all (λ y is h. (
+    let ne : y ≢ c = (λ same. true≢false (sym is ∙ ap (λ (i : ℕ). is_adjacency_at (at q.objects i)) same ∙ ap is_adjacency_at at_c ∙ no_adjacency kind other)) in
+    let n : count_of q.objects y ≡ count_of p.objects y = ap count_in (at_else y ne) in
+    let z : into (union_of q.board) y ≡ into (union_of p.board) y = ap (λ (b : Board). into (union_of b) y) board in
+    (ap is_adjacency_at (sym (at_else y ne)) ∙ is, omega (arith, n, z, h)))) records
+
 -- a hold ends
 module _ (p q : Plane) (c : ℕ) (told : sound.IsPlane p) (after : sound.IsPlane q) (held : (view_of p).is_held c ≡ true) (s : plane.IsSwept p.board q.board (released p c) q.objects) (records : q.records ≡ p.records) (spare : p.spare ≤ q.spare) where
   abbrev mid : Plane
@@ -197,6 +205,17 @@ module _ (p q : Plane) (c : ℕ) (told : sound.IsPlane p) (after : sound.IsPlane
       (λ y h. elim (cases_eq y c) [ inl same ↦ ap (λ (i : ℕ). (view_of p).is_held i) same ∙ held | inr ne ↦ sym (else_held y ne) ∙ h ])
       (λ m x e. ap (λ (f : AdjacencyRecord → Option ℕ). f m) (sym (ap record_in records)) ∙ e)
 
+  pub gone_recorded : AreRecorded p → AreRecorded q
+  gone_recorded all = recorded_by p q all (λ y is h. (
+    let d = swept_adjacencies mid q s after size long drops y is h in
+    (sym (adjacency_kept p.objects mid.objects mid_size mid_none mid_kinds y) ∙ d.0, elim (cases_eq y c) [
+      | inl same ↦ absurd (let e = count_same p.objects c (count_of p.objects c - 1) there.0 there.1 in
+          let n : count_of mid.objects y ≡ count_of mid.objects c = ap (count_of mid.objects) same in
+          let i : into (union_of p.board) y ≡ into (union_of p.board) c = ap (into (union_of p.board)) same in
+          let m = (told.counted c).most in omega (arith, e, n, i, m, d.1))
+      | inr ne ↦ (let n : count_of mid.objects y ≡ count_of p.objects y = ap count_in (at_other p.objects c (count_of p.objects c - 1) there.0 there.1 y ne) in omega (arith, n, d.1))
+    ]))) records
+
 -- another object stays held, and what was taken as a ply or a balance has no record
 pub held_released : (p : Plane) (c : ℕ) → (view_of p).is_held c ≡ true → (o : ℕ) → (o ≡ c → ⊥) → (view_of p).is_held o ≡ true → IsHeld p.board (released p c) o
 held_released p c held o ne h =
@@ -224,6 +243,13 @@ module _ (p q : Plane) (kind : Kind) (r : Option ℕ) (other : kind ≡ kinds.Ad
       by_answer : (o : Option ℕ) → IfSome o (λ c. pool.IsTaken p.objects q.objects c kind) → IfSome o (λ c. free_in q.objects + 1 ≡ free_in p.objects) → IfSome o (λ c. HasNoPly q.board c) → IfSome o (λ c. IsTaken (view_of p) (view_of q) kind c)
       by_answer None t f n = tt
       by_answer (Some c) t f n = taken_seen p q kind c other told after board records spare t f n
+
+  pub take_recorded : IfSome r (λ c. pool.IsTaken p.objects q.objects c kind) → IfSome r (λ c. free_in q.objects + 1 ≡ free_in p.objects) → IfSome r (λ c. HasNoPly q.board c) → IfNone r (q ≡ p) → AreRecorded p → AreRecorded q
+  take_recorded taken free plies same all = by_answer r taken free plies same
+    where
+      by_answer : (o : Option ℕ) → IfSome o (λ c. pool.IsTaken p.objects q.objects c kind) → IfSome o (λ c. free_in q.objects + 1 ≡ free_in p.objects) → IfSome o (λ c. HasNoPly q.board c) → IfNone o (q ≡ p) → AreRecorded q
+      by_answer None t f n e = subst AreRecorded (sym e) all
+      by_answer (Some c) t f n e = taken_recorded p q kind c other told after board records spare t f n all
 
   pub take_sound : IfSome r (λ c. pool.IsTaken p.objects q.objects c kind) → IfSome r (λ c. free_in q.objects + 1 ≡ free_in p.objects) → IfSome r (λ c. HasNoPly q.board c) → IfNone r (q ≡ p) → IsPlane (view_of p) → IsPlane (view_of q)
   take_sound taken free plies same was = by_answer r taken free plies same

@@ -10,7 +10,9 @@ use Rattle.fib_resolve.specs.declared.types.End.TheVariants as answers
 use Rattle.fib_core.specs.declared.word.Word.{Word}
 use Rattle.fib_core.specs.declared.word.Word.TheVariants as words
 use Rattle.fib_core.specs.Union.{IsBucketWord}
+use Rattle.fib_plane.specs.Planes.{Plane}
 use Rattle.fib_joined.specs.View.{View, IsPlane}
+use Rattle.fib_shared.specs.Shares.{AreRecorded}
 
 bucket_prop : (w : Word) → IsProp (IsBucketWord w)
 bucket_prop words.Drop = hlevel
@@ -57,3 +59,6 @@ one_number o a b = Σ_prop_path (λ x. option_set o (Some x)) (let e : Some a.0 
 
 pub IsPlane-prop : (u : View) → IsProp (IsPlane u)
 IsPlane-prop u = hlevel (le_prop, Bool-set, ℕ_set, option_set, end_set, bucket_prop, one_number)
+
+pub AreRecorded-prop : (p : Plane) → IsProp (AreRecorded p)
+AreRecorded-prop p = hlevel (le_prop, Bool-set)

@@ -1,7 +1,7 @@
 -- A plane as the prefix table and the stack of buckets see it: the view, and the promise of its board.
-use Rattle.std.specs.Prelude.{ℕ, ◌+◌, ◌*◌, ◌%◌, ◌==◌, ◌&&◌, ◌||◌, Bool, true, false, not, nat_lt, List, Option, Some, None, option_map, find, map, if◌then◌else◌}
+use Rattle.std.specs.Prelude.{◌≡◌, ℕ, ◌+◌, ◌*◌, ◌%◌, ◌==◌, ◌&&◌, ◌||◌, Bool, true, false, is_some, not, nat_lt, List, Option, Some, None, option_map, find, map, if◌then◌else◌}
 use Rattle.std.specs.List.{list_any}
-use Rattle.fib_interned.specs.Interned.{Kept, users_in}
+use Rattle.fib_interned.specs.Interned.{Kept, kept_of, users_in}
 use Rattle.fib_union.specs.Unions.{owner, into}
 use Rattle.fib_core.specs.declared.word.Word.{Word}
 use Rattle.fib_core.specs.declared.word.Word.TheVariants as words
@@ -14,7 +14,7 @@ use Rattle.fib_pool.specs.declared.object.AdjacencyRecord.{AdjacencyRecord}
 use Rattle.fib_pool.specs.Objects.{at, count_of, free_in}
 use Rattle.fib_rule.specs.Steady.{versions}
 use Rattle.fib_board.specs.Boards.{Board, union_of, word_in}
-use Rattle.fib_plane.specs.Planes.{Plane}
+use Rattle.fib_plane.specs.Planes.{IsHeld, Plane}
 use Rattle.fib_joined.specs.View.{View, Retired, is_ply_kind}
 use Rattle.fib_joined.specs.Promise.{Promise}
 
@@ -89,3 +89,7 @@ promise_of b = record {
   versions = versions b.log;
   alone = is_alone b;
 }
+
+-- each adjacency that the control plane holds is a record's
+abbrev pub AreRecorded : Plane → Type 0
+AreRecorded p = (o : ℕ) → is_adjacency_at (at p.objects o) ≡ true → IsHeld p.board p.objects o → is_some (kept_of p.records o) ≡ true

@@ -7,7 +7,7 @@ ghost use Rattle.fib_pool.specs.declared.object.Kind.TheVariants as kinds;
 ghost use Rattle.fib_pool.specs.Records.{adjacency};
 ghost use Rattle.fib_joined.specs.Promise.{MayClear, MayLetGo, MayPut};
 ghost use Rattle.fib_joined.specs.View.{Closes, GaveRecord, HasKind, HasRoom, IsLetGo, IsLive, IsPlane, IsPut, IsRecord, IsScanned, IsStanding, IsTaken, TookOne, leads};
-ghost use Rattle.fib_shared.specs.Shares.{promise_of, view_of};
+ghost use Rattle.fib_shared.specs.Shares.{AreRecorded, promise_of, view_of};
 
 use fib_addr::{Addr, Mac};
 use fib_board::Board;
@@ -31,6 +31,7 @@ pub fn word<B: Board>(plane: &Plane<B>, object: u32, slot: u32) -> Word
 pub fn room<B: Board>(plane: &mut Plane<B>, stores: u32) -> Result<(), AllocError>
     ensures same { HasRoom (view_of plane.old) (view_of plane.new) }
     ensures room { OnOk result (stores ≤ (view_of plane.new).spare) }
+    ensures recorded { AreRecorded plane.old → AreRecorded plane.new }
     ensures promise { promise_of plane.new.board ≡ promise_of plane.old.board }
 {
     plane.room(stores)
@@ -52,6 +53,7 @@ fn has_room(word: Word)
 /// cell holds an edge.
 pub fn put<B: Board>(plane: &mut Plane<B>, object: u32, slot: u32, word: Word) -> Put
     requires sound { IsPlane (view_of plane.old) }
+    requires recorded { AreRecorded plane.old }
     requires slot { slot < 16 }
     requires standing { IsStanding (view_of plane.old) object }
     requires target { (y : ℕ) → leads word y → IsLive (view_of plane.old) y }
@@ -61,6 +63,7 @@ pub fn put<B: Board>(plane: &mut Plane<B>, object: u32, slot: u32, word: Word) -
     requires promise { MayPut (promise_of plane.old.board) (view_of plane.old) object slot word }
     ensures put { IsPut (view_of plane.old) (view_of plane.new) object slot word result }
     ensures sound { IsPlane (view_of plane.new) }
+    ensures recorded { AreRecorded plane.new }
     ensures promise { promise_of plane.new.board ≡ promise_of plane.old.board }
 {
     plane.tells();
@@ -74,11 +77,13 @@ pub fn put<B: Board>(plane: &mut Plane<B>, object: u32, slot: u32, word: Word) -
 /// Takes a free object as a ply or a balance, and holds it. None exactly where none is free.
 pub fn take<B: Board>(plane: &mut Plane<B>, kind: Kind) -> Option<u32>
     requires sound { IsPlane (view_of plane.old) }
+    requires recorded { AreRecorded plane.old }
     requires kind { kind ≢ kinds.Adjacency }
     ensures some { IfSome result (λ c. IsTaken (view_of plane.old) (view_of plane.new) kind c) }
     ensures none { IfNone result ((view_of plane.old).free ≡ 0) }
     ensures same { IfNone result (view_of plane.new ≡ view_of plane.old) }
     ensures sound { IsPlane (view_of plane.new) }
+    ensures recorded { AreRecorded plane.new }
     ensures promise { promise_of plane.new.board ≡ promise_of plane.old.board }
 {
     plane.tells();
@@ -90,10 +95,12 @@ pub fn take<B: Board>(plane: &mut Plane<B>, kind: Kind) -> Option<u32>
 /// Holds the object no more.
 pub fn let_go<B: Board>(plane: &mut Plane<B>, object: u32)
     requires sound { IsPlane (view_of plane.old) }
+    requires recorded { AreRecorded plane.old }
     requires held { (view_of plane.old).is_held object ≡ true }
     requires promise { MayLetGo (promise_of plane.old.board) (view_of plane.old) object }
     ensures gone { IsLetGo (view_of plane.old) (view_of plane.new) object }
     ensures sound { IsPlane (view_of plane.new) }
+    ensures recorded { AreRecorded plane.new }
     ensures promise { promise_of plane.new.board ≡ promise_of plane.old.board }
 {
     plane.tells();
@@ -109,10 +116,12 @@ pub fn take_adj<B: Board>(
     mac: Option<Mac>,
 ) -> Result<Option<u32>, AllocError>
     requires sound { IsPlane (view_of plane.old) }
+    requires recorded { AreRecorded plane.old }
     requires few { (view_of plane.old).users (adjacency interface next_hop mac) < 2 ^ 32 - 1 }
     requires promise { MayClear (promise_of plane.old.board) (view_of plane.old) }
     ensures took { TookOne (view_of plane.old) (view_of plane.new) (adjacency interface next_hop mac) result }
     ensures sound { IsPlane (view_of plane.new) }
+    ensures recorded { AreRecorded plane.new }
     ensures promise { promise_of plane.new.board ≡ promise_of plane.old.board }
 {
     plane.tells();
@@ -124,10 +133,12 @@ pub fn take_adj<B: Board>(
 /// One user less of the record whose object this is.
 pub fn give_adj<B: Board>(plane: &mut Plane<B>, object: u32)
     requires sound { IsPlane (view_of plane.old) }
+    requires recorded { AreRecorded plane.old }
     requires record { IsRecord (view_of plane.old) object }
     requires promise { MayClear (promise_of plane.old.board) (view_of plane.old) }
     ensures gave { (m : AdjacencyRecord) → (view_of plane.old).record_of m ≡ Some object → GaveRecord (view_of plane.old) (view_of plane.new) m }
     ensures sound { IsPlane (view_of plane.new) }
+    ensures recorded { AreRecorded plane.new }
     ensures promise { promise_of plane.new.board ≡ promise_of plane.old.board }
 {
     plane.tells();
@@ -138,10 +149,12 @@ pub fn give_adj<B: Board>(plane: &mut Plane<B>, object: u32)
 /// Lets retired edges go that every worker has passed. Answers how many are left.
 pub fn scan<B: Board>(plane: &mut Plane<B>) -> u32
     requires sound { IsPlane (view_of plane.old) }
+    requires recorded { AreRecorded plane.old }
     requires promise { MayClear (promise_of plane.old.board) (view_of plane.old) }
     ensures alone { (promise_of plane.old.board).alone ≡ true → (view_of plane.new).retired ≡ [] }
     ensures scanned { IsScanned (view_of plane.old) (view_of plane.new) result }
     ensures sound { IsPlane (view_of plane.new) }
+    ensures recorded { AreRecorded plane.new }
     ensures promise { promise_of plane.new.board ≡ promise_of plane.old.board }
 {
     plane.tells();

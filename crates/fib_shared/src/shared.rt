@@ -3,8 +3,8 @@ ghost use Rattle.std.specs.Prelude.{IfOk, [], length, ◌-◌, ◌≡◌};
 ghost use Rattle.fib_pool.specs.Objects.{free_in, fresh_objects};
 ghost use Rattle.fib_board.specs.Boards.{IsFresh};
 ghost use Rattle.fib_joined.specs.View.{IsPlane};
-ghost use Rattle.fib_shared.specs.Props.{IsPlane-prop};
-ghost use Rattle.fib_shared.specs.Shares.{view_of};
+ghost use Rattle.fib_shared.specs.Props.{AreRecorded-prop, IsPlane-prop};
+ghost use Rattle.fib_shared.specs.Shares.{AreRecorded, view_of};
 
 use crate::calls;
 use fib_addr::{Addr, Mac};
@@ -15,12 +15,14 @@ use fib_plane::Plane;
 use fib_pool::Kind;
 use std::alloc::{AllocError, Global};
 
-/// A plane whose edges have the kinds of the objects that they join, as the prefix table and the stack of buckets keep it.
+/// A plane whose edges have the kinds of the objects that they join, as the prefix table and the stack of buckets keep it, and each of whose
+/// adjacencies is a record's.
 #[derive(Drop)]
 pub struct Shared<B: Board> {
     /// The board with its pool of objects, its union and its records.
     pub plane: Plane<B>,
     pub ghost sound: { IsPlane (view_of plane) } by { IsPlane-prop (view_of plane) },
+    pub ghost recorded: { AreRecorded plane } by { AreRecorded-prop plane },
 }
 
 impl<B: Board + Drop> Shared<B> {

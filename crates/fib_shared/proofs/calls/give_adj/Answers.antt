@@ -5,7 +5,7 @@ use Rattle.fib_plane.specs.Records.{given_objects}
 use Rattle.fib_shared.specs.Shares.{promise_of}
 use Rattle.fib_shared.proofs.Promising.{serves_down, allows_down}
 use Rattle.fib_shared.proofs.Seeing.{record_down}
-use Rattle.fib_shared.proofs.Recording.{gave_seen, gave_sound, held_given}
+use Rattle.fib_shared.proofs.Recording.{gave_recorded, gave_seen, gave_sound, held_given}
 use Rattle.fib_shared.proofs.calls.give_adj.Goals as goal
 
 pub give_adj-requires-clause-kept : goal.give_adj-requires-clause-kept
@@ -29,3 +29,6 @@ returns-clause-sound g c = gave_sound c.args.plane.now c.give_adj.new.self c.tel
 
 pub returns-clause-promise : goal.returns-clause-promise
 returns-clause-promise g c = ap promise_of c.give_adj.ensures.gave.swept.frame
+
+pub returns-clause-recorded : goal.returns-clause-recorded
+returns-clause-recorded g c = gave_recorded c.args.plane.now c.give_adj.new.self c.tells.ensures c.tells-2.ensures c.requires.record.0 c.args.object c.requires.record.1 c.give_adj.ensures.gave c.requires.recorded

@@ -2,7 +2,7 @@ use Rattle.std.proofs.Common.{ℕ, Some, ap, ◌∙◌}
 use Rattle.fib_plane.specs.Planes.{IsHeld, released}
 use Rattle.fib_shared.proofs.Seeing.{held_down}
 use Rattle.fib_shared.proofs.Promising.{serves_down, allows_down}
-use Rattle.fib_shared.proofs.Taking.{gone_seen, gone_sound, held_released, unrecorded}
+use Rattle.fib_shared.proofs.Taking.{gone_recorded, gone_seen, gone_sound, held_released, unrecorded}
 use Rattle.fib_shared.proofs.calls.let_go.Goals as goal
 
 pub let_go-requires-clause-held : goal.let_go-requires-clause-held
@@ -29,3 +29,6 @@ returns-clause-gone g c = gone_seen c.args.plane.now c.let_go.new.self c.args.ob
 
 pub returns-clause-sound : goal.returns-clause-sound
 returns-clause-sound g c = gone_sound c.args.plane.now c.let_go.new.self c.args.object c.tells.ensures c.tells-2.ensures c.requires.held c.let_go.ensures.swept c.let_go.ensures.records c.let_go.ensures.spare c.requires.sound
+
+pub returns-clause-recorded : goal.returns-clause-recorded
+returns-clause-recorded g c = gone_recorded c.args.plane.now c.let_go.new.self c.args.object c.tells.ensures c.tells-2.ensures c.requires.held c.let_go.ensures.swept c.let_go.ensures.records c.let_go.ensures.spare c.requires.recorded

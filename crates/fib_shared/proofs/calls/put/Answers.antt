@@ -6,7 +6,7 @@ use Rattle.fib_joined.specs.View.{HasKind}
 use Rattle.fib_shared.specs.Shares.{view_of}
 use Rattle.fib_shared.proofs.Promising.{serves_down}
 use Rattle.fib_shared.proofs.Seeing.{held_down}
-use Rattle.fib_shared.proofs.Putting.{may_put, put_promise, put_seen, put_sound, replaced_down, source, standing_unrecorded, target_down}
+use Rattle.fib_shared.proofs.Putting.{may_put, put_promise, put_recorded, put_seen, put_sound, replaced_down, source, standing_unrecorded, target_down}
 use Rattle.fib_shared.proofs.calls.put.Goals as goal
 
 pub has_room-requires : goal.has_room-requires
@@ -59,3 +59,12 @@ returns-clause-promise g c =
     let r = c.retired-retired.type_inv in
     put_promise p c.tells.ensures c.requires.sound c.args.object c.args.slot c.requires.slot c.requires.standing c.args.word c.has_room.ensures c.requires.kind c.requires.calm
     c.put-put.new.self c.tells-2.ensures (omega arith) c.requires.target c.put-put.result c.put-put.ensures.put
+
+pub returns-clause-recorded : goal.returns-clause-recorded
+returns-clause-recorded g c =
+    let p = c.args.plane.now in
+    let l : length (map copy_of p.board.union.retired) ≡ length p.board.union.retired = length-map p.board.union.retired copy_of in
+    let n = c.retired-retired.ensures in
+    let r = c.retired-retired.type_inv in
+    put_recorded p c.tells.ensures c.requires.sound c.args.object c.args.slot c.requires.slot c.requires.standing c.args.word c.has_room.ensures c.requires.kind c.requires.calm
+    c.put-put.new.self c.tells-2.ensures (omega arith) c.requires.target c.requires.recorded c.put-put.result c.put-put.ensures.put

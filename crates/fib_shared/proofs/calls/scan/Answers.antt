@@ -1,7 +1,7 @@
 use Rattle.fib_plane.specs.Planes.{Holds}
 use Rattle.fib_shared.proofs.Seeing.{held_down}
 use Rattle.fib_shared.proofs.Promising.{serves_down, allows_down}
-use Rattle.fib_shared.proofs.Scanning.{scanned_seen, scanned_sound, scanned_promise}
+use Rattle.fib_shared.proofs.Scanning.{scanned_recorded, scanned_seen, scanned_sound, scanned_promise}
 use Rattle.fib_shared.proofs.Alone.{scanned_alone}
 use Rattle.fib_shared.proofs.calls.scan.Goals as goal
 
@@ -25,3 +25,6 @@ returns-clause-sound g c = scanned_sound c.args.plane.now c.scan-left.new.self c
 
 pub returns-clause-promise : goal.returns-clause-promise
 returns-clause-promise g c = scanned_promise c.args.plane.now c.scan-left.new.self c.tells.ensures c.tells-2.ensures c.scan-left.ensures.scanned
+
+pub returns-clause-recorded : goal.returns-clause-recorded
+returns-clause-recorded g c = scanned_recorded c.args.plane.now c.scan-left.new.self c.tells.ensures c.tells-2.ensures c.scan-left.ensures.scanned c.requires.recorded

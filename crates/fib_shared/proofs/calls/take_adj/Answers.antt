@@ -4,7 +4,7 @@ use Rattle.fib_plane.specs.Planes.{Holds}
 use Rattle.fib_shared.proofs.Promising.{serves_down, allows_down}
 use Rattle.fib_shared.proofs.Seeing.{held_down}
 use Rattle.fib_shared.proofs.Interning.{few_down}
-use Rattle.fib_shared.proofs.Recording.{one_promise, one_sound, took_one}
+use Rattle.fib_shared.proofs.Recording.{one_promise, one_recorded, one_sound, took_one}
 use Rattle.fib_shared.proofs.calls.take_adj.Goals as goal
 
 pub take_adj-taken-requires-clause-few : goal.take_adj-taken-requires-clause-few
@@ -27,3 +27,6 @@ returns-clause-sound g c = (let e = c.take_adj-taken.ensures in one_sound c.args
 
 pub returns-clause-promise : goal.returns-clause-promise
 returns-clause-promise g c = (let e = c.take_adj-taken.ensures in one_promise c.args.plane.now c.take_adj-taken.new.self c.tells.ensures c.tells-2.ensures (adjacency c.args.interface c.args.next_hop c.args.mac) c.take_adj-taken.result e.took e.same e.err)
+
+pub returns-clause-recorded : goal.returns-clause-recorded
+returns-clause-recorded g c = (let e = c.take_adj-taken.ensures in one_recorded c.args.plane.now c.take_adj-taken.new.self c.tells.ensures c.tells-2.ensures (adjacency c.args.interface c.args.next_hop c.args.mac) c.requires.recorded c.take_adj-taken.result e.took e.same e.err)

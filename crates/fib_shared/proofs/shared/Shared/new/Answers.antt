@@ -1,5 +1,5 @@
-use Rattle.fib_shared.proofs.Beginning.{fresh_sound}
+use Rattle.fib_shared.proofs.Beginning.{fresh_recorded, fresh_sound}
 use Rattle.fib_shared.proofs.shared.Shared.new.Goals as goal
 
 pub invariant_of-result : goal.invariant_of-result
-invariant_of-result g c = record { sound = fresh_sound c.in_ok-plane.plane (g.B.Board.view c.args.board) c.tells.ensures c.requires c.in_ok-plane.ensures.board }
+invariant_of-result g c = record { sound = fresh_sound c.in_ok-plane.plane (g.B.Board.view c.args.board) c.tells.ensures c.requires c.in_ok-plane.ensures.board; recorded = fresh_recorded c.in_ok-plane.plane (g.B.Board.view c.args.board).objects c.requires.some c.in_ok-plane.ensures.objects }

@@ -1,0 +1,10 @@
+// Each law once.
+use super::*;
+
+#[test]
+fn each_law() {
+    laws::what_is_at_rest_stands_for_the_tables();
+    laws::settling_keeps_what_stands();
+    laws::a_change_keeps_what_stands();
+    laws::so_does_the_first_change();
+}
