@@ -4,6 +4,7 @@ pub mod Plying
 pub mod Ends
 pub mod Owning
 pub mod Standing
+pub mod Counting
 pub mod Planed
 pub mod Settled
 pub mod Changed

@@ -1,5 +1,5 @@
 -- The same of a plane: its words stand for the tables.
-use Rattle.std.proofs.Common.{◌≡◌, ℕ, ◌+◌, ◌*◌, ◌/◌, ◌<◌, ◌≤◌, ◌⊎◌, inl, inr, ⊎_elim, Bool, true, false, true≢false, eqb-true, List, [], ◌∷◌, length, map, refl, sym, ap, ◌∙◌, subst, arith}
+use Rattle.std.proofs.Common.{◌≡◌, ℕ, ◌+◌, ◌-◌, ◌*◌, ◌/◌, ◌<◌, ◌≤◌, ◌⊎◌, inl, inr, ⊎_elim, Bool, true, false, true≢false, eqb-true, List, [], ◌∷◌, length, map, refl, sym, ap, ◌∙◌, subst, arith}
 use Rattle.std.specs.Prelude.{Option, Some, None, Contains, option_map}
 use native.Mathlib.Decide.{ℕ_discrete}
 use mathlib.Core.Logic.{dite}
@@ -11,6 +11,7 @@ use Rattle.fib_reach.specs.Walks.{IsAcyclic}
 use Rattle.fib_reach.proofs.Walking.{acyclic_part}
 use Rattle.fib_union.specs.Unions as edges
 use Rattle.fib_union.specs.Unions.{owner}
+use Rattle.fib_resolve.specs.Sizes.{size}
 use Rattle.fib_resolve.specs.declared.types.Tables.{Tables}
 use Rattle.fib_core.specs.declared.word.Word.{Word}
 use Rattle.fib_core.specs.declared.word.Word.TheVariants as words
@@ -20,8 +21,8 @@ use Rattle.fib_core.specs.Walk.{word_at}
 use Rattle.fib_core.proofs.Numbers.{owner_of}
 use Rattle.fib_pool.specs.declared.object.AdjacencyRecord.{AdjacencyRecord}
 use Rattle.fib_pool.specs.declared.object.Object.{Object}
-use Rattle.fib_pool.specs.Objects.{at, count_in, count_of}
-use Rattle.fib_pool.proofs.Pools.{live_in}
+use Rattle.fib_pool.specs.Objects.{at, count_in, count_of, free_in}
+use Rattle.fib_pool.proofs.Pools.{live_at, live_in}
 use Rattle.fib_board.specs.Boards.{union_of, word_in}
 use Rattle.fib_plane.specs.Planes.{Plane}
 use Rattle.fib_plane.specs.Sound as plane
@@ -33,6 +34,7 @@ use Rattle.fib_shared.proofs.Seeing.{cell_down, cell_is, kept_up, live_down, rec
 use Rattle.fib_shared.proofs.Storing.{edge_down}
 use Rattle.fib_stack.specs.Joined.{Parts, balance_in}
 use Rattle.fib_quiet.specs.Rest.{IsAtRest, IsSeen}
+use Rattle.fib_quiet.proofs.Counting.{same_number}
 use Rattle.fib_quiet.proofs.Numbers.{number}
 use Rattle.fib_quiet.proofs.Owning.{IsOwned, owned_by, paths}
 use Rattle.fib_quiet.proofs.Standing.{found, ply_at_root, seen_apart, seen_live, seen_word}
@@ -105,3 +107,9 @@ module _ (S : Tables) (rank : Prefix → ℕ) (p : Promise) (q : Plane) (s : Par
 
   pub stands_at_rest : Stands q.board.union S
   stands_at_rest = record { names = names; prefixes = rest.entries_are; quiet = none_mapped copy_seen q.board.union.retired rest.calm; stands = stands_for }
+
+  -- as many are used as the size says
+  pub used_at_rest : length q.objects - free_in q.objects ≡ size S
+  used_at_rest = same_number S names q.objects (seen_apart S rank p v s rest)
+      (λ t c. live_at q.objects (names t) (live_down q told (names t) (seen_live S rank p v s rest t c)))
+      (λ o x is. found S rank p v s rest o (owned o (seen o (let c = told.taken o x is in let n : count_of q.objects o ≡ x.count = ap count_in is in omega (arith, c, n)))))

@@ -1,10 +1,12 @@
 // Laws of a control plane at rest, and of its versions, each the contract of a function that does nothing.
-ghost use Rattle.std.specs.Prelude.{◌≡◌, ◌<◌, ◌||◌, ℕ, List, Some, slice_get};
+ghost use Rattle.std.specs.Prelude.{◌≡◌, ◌-◌, ◌<◌, ◌||◌, ℕ, List, Some, length, slice_get};
 ghost use Rattle.fib_addr.specs.Prefixes.{Prefix};
+ghost use Rattle.fib_resolve.specs.Sizes.{size};
 ghost use Rattle.fib_resolve.specs.Tables.{IsSound};
 ghost use Rattle.fib_resolve.specs.Touched.{is_touched};
 ghost use Rattle.fib_resolve.specs.declared.types.Tables.{Tables};
 ghost use Rattle.fib_core.specs.StandsFor.{Stands};
+ghost use Rattle.fib_pool.specs.Objects.{free_in};
 ghost use Rattle.fib_board.specs.Boards.{board_begun, board_settled};
 ghost use Rattle.fib_plane.specs.Planes.{Plane};
 ghost use Rattle.fib_plane.specs.Sound.{IsPlane};
@@ -20,6 +22,12 @@ ghost use Rattle.fib_quiet.specs.Rest.{IsAtRest, IsSeen};
 pub fn what_is_at_rest_stands_for_the_tables()
     ensures { (S : Tables) (rank : Prefix → ℕ) (p : Promise) (q : Plane) (s : Parts) → IsPlane q → IsSeen q
         → IsAtRest S rank p (view_of q) s → Stands q.board.union S }
+{}
+
+/// And as many objects are used as that size says.
+pub fn as_many_are_used_as_the_size_says()
+    ensures { (S : Tables) (rank : Prefix → ℕ) (p : Promise) (q : Plane) (s : Parts) → IsPlane q → IsSeen q
+        → IsAtRest S rank p (view_of q) s → length q.objects - free_in q.objects ≡ size S }
 {}
 
 /// At rest the last version may be settled: what stands between the plane, the prefix table, the stack and the queue stands then too.

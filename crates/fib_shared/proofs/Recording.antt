@@ -451,4 +451,4 @@ module _ (p q : Plane) (told : sound.IsPlane p) (after : sound.IsPlane q) (m : A
           let n : count_of mid.objects o ≡ count_of (released p o) o = ap (λ (t : Bool). count_of (if t then released p o else p.objects) o) last in
           let e : count_of (released p o) o ≡ count_of p.objects o - 1 = count_same p.objects o (count_of p.objects o - 1) x.0 x.1 in
           let m = (told.counted o).most in omega (arith, n, e, m, held))
-      still_kept false more held = ap (λ (t : Bool). is_some (if t then None else Some (record { id = mine.0.id; content = mine.0.content; users = mine.0.users - 1 }))) (ap (λ (i : ℕ). i == 1) (sym users_are) ∙ more)
+      still_kept false more held = ap (λ (t : Bool). is_some {T = Kept AdjacencyRecord} (if t then None else Some (record { id = mine.0.id; content = mine.0.content; users = mine.0.users - 1 }))) (ap (λ (i : ℕ). i == 1) (sym users_are) ∙ more)

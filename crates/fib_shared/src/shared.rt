@@ -1,8 +1,9 @@
 // A plane as its users see it.
-ghost use Rattle.std.specs.Prelude.{IfOk, [], length, ◌-◌, ◌≡◌};
-ghost use Rattle.fib_pool.specs.Objects.{free_in, fresh_objects};
+ghost use Rattle.std.specs.Prelude.{IfOk, [], length, ℕ, ◌-◌, ◌≡◌};
+ghost use Rattle.fib_pool.specs.Objects.{IsLive as IsCounted, free_in, fresh_objects};
 ghost use Rattle.fib_board.specs.Boards.{IsFresh};
-ghost use Rattle.fib_joined.specs.View.{IsPlane};
+ghost use Rattle.fib_plane.specs.Sound.{IsPlane as IsTold};
+ghost use Rattle.fib_joined.specs.View.{IsLive, IsPlane};
 ghost use Rattle.fib_shared.specs.Props.{AreRecorded-prop, IsPlane-prop};
 ghost use Rattle.fib_shared.specs.Shares.{AreRecorded, view_of};
 
@@ -40,6 +41,14 @@ impl<B: Board + Drop> Shared<B> {
 }
 
 impl<B: Board> Shared<B> {
+    /// What holds of every plane, and that what is counted in it is in use as its users see it. Does nothing.
+    pub fn tells(&self)
+        ensures told { IsTold self.now.plane }
+        ensures seen { (object : ℕ) → IsCounted self.now.plane.objects object → IsLive (view_of self.now.plane) object }
+    {
+        self.plane.tells();
+    }
+
     /// How many objects aren't free.
     pub fn used(&self) -> u32
         ensures { result ≡ length self.now.plane.objects - free_in self.now.plane.objects }

@@ -17,6 +17,7 @@ fn each_law() {
 #[test]
 fn the_root_alone_is_used(rt: HostRuntime) -> Result<(), Fail> {
     let shared = fresh(rt.alloc())?;
+    shared.tells();
     assert_eq!(rt; shared.used(), 1);
     Ok(())
 }

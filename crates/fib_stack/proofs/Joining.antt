@@ -66,6 +66,7 @@ to_now p t v allowed s = (
   rewatch (watch_of (in_change p) t) (watch_of p t) (λ a o h. h) (λ z. z) (look_of (held t.rows.members)) s.0 s.1 v
       (record { allowed = allowed; newest = s.2.at.kept.newest; older = s.2.at.kept.older; versions = s.2.at.kept.versions; buckets = s.2.at.kept.buckets; still = s.2.at.kept.still }) s.2,
   s.3,
+  s.4,
 )
 
 pub to_change : (p : Promise) (t : Table) (v : View) → IsBegun p → Stands p t v → Stands (in_change p) t v
@@ -75,6 +76,7 @@ to_change p t v begun s = (
   rewatch (watch_of p t) (watch_of (in_change p) t) (λ a o h. h) (λ z. z) (look_of (held t.rows.members)) s.0 s.1 v
       (record { allowed = inl begun; newest = s.2.at.kept.newest; older = s.2.at.kept.older; versions = s.2.at.kept.versions; buckets = s.2.at.kept.buckets; still = s.2.at.kept.still }) s.2,
   s.3,
+  s.4,
 )
 
 -- a found object is a record's
