@@ -35,7 +35,7 @@ begun_true : (n : ℕ) → 0 < n → nat_lt 0 n ≡ true
 begun_true n lt = grind (arith, nat_tests)
 
 module _ (S T : Tables) (rank new : Prefix → ℕ) (q r : Promise) (v : View) (s : Parts) (queue : List Queued) (j : Joined S rank q v s)
-    (begun : IsBegun q) (then : IsBegun r) (waits : r.settled < r.applied) (versions : r.versions ≡ q.versions ++ T ∷ []) (sound : IsSound T)
+    (begun : IsBegun q) (began : IsBegun r) (waits : r.settled < r.applied) (versions : r.versions ≡ q.versions ++ T ∷ []) (sound : IsSound T)
     (queued : (e : Prefix) → queued_in (record s { queue = queue }) e ≡ queued_in s e || is_touched S T e)
     (ranks : (e : Prefix) (k : ℕ) → rank_in queue e ≡ Some k → k ≡ new e) where
   abbrev t : Parts
@@ -74,7 +74,7 @@ module _ (S T : Tables) (rank new : Prefix → ℕ) (q r : Promise) (v : View) (
   kept : IsKept (watch_of (in_change r) (table_of s)) v
   kept =
       let k = j.table.2.at.kept in record {
-        allowed = inl then;
+        allowed = inl began;
         newest = k.newest;
         older = k.older ++ T ∷ [];
         versions = versions ∙ ap (λ J. J ++ T ∷ []) k.versions;
@@ -84,14 +84,14 @@ module _ (S T : Tables) (rank new : Prefix → ℕ) (q r : Promise) (v : View) (
               held = λ e o lasts at. was.held e o (λ V c. lasts V (more V c)) at;
               aimed = λ e o x m lasts at lt alike. was.aimed e o x m (λ V c. lasts V (more V c)) at lt (λ V c. alike V (more V c));
             };
-        still = λ z. absurd (let b : 0 < r.applied = then in omega (arith, z, b));
+        still = λ z. absurd (let b : 0 < r.applied = began in omega (arith, z, b));
       }
 
   table : Stands (in_change r) (table_of s) v
   table = (
     j.table.0,
     j.table.1,
-    rewatch (watch_of (in_change q) (table_of s)) (watch_of (in_change r) (table_of s)) fewer (λ z. absurd (let b : 0 < r.applied = then in omega (arith, z, b))) (look_of balances) j.table.0 j.table.1 v kept j.table.2,
+    rewatch (watch_of (in_change q) (table_of s)) (watch_of (in_change r) (table_of s)) fewer (λ z. absurd (let b : 0 < r.applied = began in omega (arith, z, b))) (look_of balances) j.table.0 j.table.1 v kept j.table.2,
     j.table.3,
     j.table.4,
   )

@@ -58,7 +58,7 @@ map_in f (z ∷ xs) x (suc k, lt, is) = let r = map_in f xs x (k, omega (arith, 
 
 -- what the size counts
 abbrev pub things : Tables → List Thing
-things S = map ply_of (plies S) ++ map balance_of (entries S) ++ map adjacency_of (adjacencies S)
+things S = map ply_of (plies S) ++ (map balance_of (entries S) ++ map adjacency_of (adjacencies S))
 
 pub things_long : (S : Tables) → length (things S) ≡ size S
 unfolding size
@@ -137,8 +137,8 @@ taken_in k zero (None ∷ xs) x is = absurd (let bad : None ≡ Some x = is in c
 taken_in k zero (Some y ∷ xs) x is = (0, omega arith, (let e : k ≡ k + 0 = omega arith in e))
 taken_in k (suc o) (None ∷ xs) x is = subst (Contains (taken_from (suc k) xs)) (let e : suc k + o ≡ k + suc o = omega arith in e) (taken_in (suc k) o xs x is)
 taken_in k (suc o) (Some y ∷ xs) x is =
-    let r = taken_in (suc k) o xs x is in
-    (suc r.0, omega (arith, r.1), r.2 ∙ (let e : suc k + o ≡ k + suc o = omega arith in e))
+    let r : Contains (taken_from (suc k) xs) (k + suc o) = subst (Contains (taken_from (suc k) xs)) (let e : suc k + o ≡ k + suc o = omega arith in e) (taken_in (suc k) o xs x is) in
+    (suc r.0, omega (arith, r.1), r.2)
 
 deeper : (k : ℕ) (e : Option Object) (xs : List (Option Object)) → AllByRecursion (λ o. (x : Object) × (at xs (o - suc k) ≡ Some x)) (taken_from (suc k) xs) → AllByRecursion (λ o. suc k ≤ o) (taken_from (suc k) xs)
     → AllByRecursion (λ o. (x : Object) × (at (e ∷ xs) (o - k) ≡ Some x)) (taken_from (suc k) xs)

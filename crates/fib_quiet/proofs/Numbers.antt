@@ -29,11 +29,10 @@ number n balances v S (adjacency_of x) = or_zero (v.record_of (record { interfac
 pub ply_at_is : (n : Paths) (xs : List ℕ) (d w c : ℕ) → IsOne xs c → n.depth c ≡ d → n.value c ≡ w → ((x : ℕ) → IsOne xs x → n.depth x ≡ d → n.value x ≡ w → x ≡ c) → ply_at n xs d w ≡ c
 unfolding ply_at
 ply_at_is n [] d w c one dep val only = absurd one
-ply_at_is n (x ∷ xs) d w c one dep val only = dite (ℕ_discrete (n.depth x) d)
+ply_at_is n (x ∷ xs) d w c one dep val only =
+    let rest : (x ≡ c → ⊥) → ply_at n xs d w ≡ c = λ not. ply_at_is n xs d w c (⊎_elim (λ (is : x ≡ c). absurd (not is)) (λ (h : IsOne xs c). h) one) dep val (λ y h. only y (inr h)) in
+    dite (ℕ_discrete (n.depth x) d)
     (λ e. dite (ℕ_discrete (n.value x) w)
     (λ f. rw (eq-eqb (n.depth x) d e, eq-eqb (n.value x) w f) (only x (inl refl) e f))
     (λ ne. rw (eq-eqb (n.depth x) d e, ne_eqb (n.value x) w ne) (rest (λ is. ne (ap n.value is ∙ val)))))
     (λ ne. rw (ne_eqb (n.depth x) d ne) (rest (λ is. ne (ap n.depth is ∙ dep))))
-  where
-    rest : (x ≡ c → ⊥) → ply_at n xs d w ≡ c
-    rest not = ply_at_is n xs d w c (⊎_elim (λ (is : x ≡ c). absurd (not is)) (λ (h : IsOne xs c). h) one) dep val (λ y h. only y (inr h))

@@ -6,7 +6,7 @@ use Rattle.std.specs.Set.{is_member}
 use native.Mathlib.Decide.{ℕ_discrete}
 use mathlib.Core.Logic.{dite}
 use Rattle.std.proofs.lemmas.Nat.{mul-le, pow-add, shl-shr, shr-shr}
-use Rattle.std.proofs.Math.Nat.{div-mul-le_self, mul-div_cancel}
+use Rattle.std.proofs.Math.Nat.{add-mul, div-mul-le_self, mul-div_cancel, mul_comm, mul_right_comm}
 use Rattle.std.proofs.Math.Pow.{pow_pos}
 use Rattle.std.proofs.lemmas.Bool.{cases_lt}
 use Rattle.std.proofs.lemmas.Map.Made.{is_member-Decides}
@@ -54,13 +54,16 @@ sixteenth d le =
     ap (λ i. 2 ^ i) e ∙ pow-add 2 4 (32 - 4 * (d + 1))
 
 times_sixteen : (w r m : ℕ) → m ≡ 16 * r → 16 * w * r ≡ w * m
-times_sixteen w r m e = grind (arith, e)
+times_sixteen w r m e = mul_right_comm 16 w r ∙ mul_comm (16 * r) w ∙ ap (λ i. w * i) (sym e)
 
 one_more : (w r : ℕ) → w * r + r ≡ (w + 1) * r
-one_more w r = grind arith
+one_more w r = (let e : w * r + 1 * r ≡ w * r + r = omega arith in sym e) ∙ sym (add-mul w 1 r)
 
 times_sum : (w s m n : ℕ) → n ≡ 16 * m → w * n + s * m ≡ (16 * w + s) * m
-times_sum w s m n e = grind (arith, e)
+times_sum w s m n e = ap (λ i. i + s * m) (sym (times_sixteen w m n e)) ∙ sym (add-mul (16 * w) s m)
+
+no_times : (m : ℕ) → 0 ≡ 0 * m
+no_times m = omega arith
 
 pub below_block : (d w s : ℕ) → d ≤ 7 → below (block d w) s ≡ block (d + 1) (16 * w + s)
 below_block d w s le =
@@ -78,10 +81,10 @@ pub record IsPly (n : Paths) (q : Prefix) : Type 0 where
 module _ (S : Tables) (p : Promise) (t : Table) (u : View) (st : Stands p t u) (are : ArePrefixes t.rows.members)
     (fine : (q : Prefix) → Contains (entries S) q → IsPrefix q) (rows : (q : Prefix) (o : ℕ) → object_in t q ≡ Some o → IsPrefix q)
     (placed : (e : Prefix) → is_some (object_in t e) ≡ has_entry S e) where
-  abbrev n : Paths
+  abbrev pub n : Paths
   n = st.1
 
-  abbrev look : Look
+  abbrev pub look : Look
   look = look_of (held t.rows.members)
 
   -- an entry that is longer needs the ply
@@ -105,7 +108,7 @@ module _ (S : Tables) (p : Promise) (t : Table) (u : View) (st : Stands p t u) (
         ply = 0;
         here = fits.root.0;
         is = same_fields q (block (n.depth 0) (n.value 0))
-            (b ∙ sym (ap (λ i. i * size_of (4 * n.depth 0)) fits.root.2), l ∙ (let e : n.depth 0 ≡ 0 = fits.root.1 in let z : 0 ≡ 4 * n.depth 0 = omega arith in z));
+            (b ∙ no_times (size_of (4 * n.depth 0)) ∙ sym (ap (λ i. i * size_of (4 * n.depth 0)) fits.root.2), l ∙ (let e : n.depth 0 ≡ 0 = fits.root.1 in let z : 0 ≡ 4 * n.depth 0 = omega arith in z));
         fits = omega (arith, b);
       }
 
@@ -173,16 +176,16 @@ module _ (S : Tables) (p : Promise) (t : Table) (u : View) (st : Stands p t u) (
 
   -- a cell of a ply
   module _ (q : Prefix) (counted : Contains (plies S) q) (s : ℕ) (lt : s < 16) where
-    ply : IsPly n q
+    abbrev pub ply : IsPly n q
     ply = counted_ply q counted
 
-    abbrev c : ℕ
+    abbrev pub c : ℕ
     c = ply.ply
 
-    abbrev d : ℕ
+    abbrev pub d : ℕ
     d = n.depth ply.ply
 
-    abbrev v : ℕ
+    abbrev pub v : ℕ
     v = 16 * n.value ply.ply + s
 
     low : d ≤ 7
@@ -209,7 +212,7 @@ module _ (S : Tables) (p : Promise) (t : Table) (u : View) (st : Stands p t u) (
         let pos = positive in
         omega (arith, whole, upto, next, same, more, pos)
 
-    abbrev names : Thing → ℕ
+    abbrev pub names : Thing → ℕ
     names = number n (object_in t) u S
 
     -- where the ply is counted it is the table's

@@ -43,7 +43,7 @@ module _ (S : Tables) (rank : Prefix → ℕ) (p : Promise) (v : View) (s : Part
   rows_fine : (e : Prefix) (o : ℕ) → balance_in s e ≡ Some o → IsPrefix e
   rows_fine = held_prefix s.rows rest.rows_are
 
-  n : Paths
+  abbrev n : Paths
   n = paths S rank p v s rest
 
   fits : FitsVersions (S ∷ []) (balance_in s)

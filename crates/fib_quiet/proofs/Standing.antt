@@ -55,20 +55,18 @@ use Rattle.fib_quiet.proofs.Reaching.{balance_at, entry_of, none_some}
 turned : (r q : AdjacencyRecord) → same_record r q ≡ true → same_record q r ≡ true
 turned r q e = let is : r ≡ q = record_is r q e in subst (λ (z : AdjacencyRecord). same_record z r ≡ true) is (subst (λ (z : AdjacencyRecord). same_record r z ≡ true) (sym is) e)
 
+later : (b c : Bool) → c ≡ true → b || c ≡ true
+later true c h = refl
+later false c h = h
+
 times_held : (us : List Use) (i a : ℕ) (x : Option ℕ) → 0 < times (record { interface = i; next_hop = a; mac = x }) us → holds_in us (answers.Hop i a x) ≡ true
 times_held [] i a x lt = absurd (omega (arith, lt))
-times_held (u ∷ us) i a x lt = by_first (same_record m (record_used u)) refl (times_held us i a x)
+times_held (u ∷ us) i a x lt = by_first (same_record (record { interface = i; next_hop = a; mac = x }) (record_used u)) refl (times_held us i a x)
   where
-    m : AdjacencyRecord
-    m = record { interface = i; next_hop = a; mac = x }
-
-    by_first : (b : Bool) → same_record m (record_used u) ≡ b → (0 < times m us → holds_in us (answers.Hop i a x) ≡ true) → holds_in (u ∷ us) (answers.Hop i a x) ≡ true
-    by_first true e rest = ap (λ b. b || holds_in us (answers.Hop i a x)) (turned m (record_used u) e)
-    by_first false e rest = later (same_end (end_used u) (answers.Hop i a x)) (holds_in us (answers.Hop i a x)) (rest (subst (λ (b : Bool). 0 < cond b 1 0 + times m us) e lt))
-      where
-        later : (b c : Bool) → c ≡ true → b || c ≡ true
-        later true c h = refl
-        later false c h = h
+    by_first : (b : Bool) → same_record (record { interface = i; next_hop = a; mac = x }) (record_used u) ≡ b → (0 < times (record { interface = i; next_hop = a; mac = x }) us → holds_in us (answers.Hop i a x) ≡ true)
+        → holds_in (u ∷ us) (answers.Hop i a x) ≡ true
+    by_first true e rest = ap (λ b. b || holds_in us (answers.Hop i a x)) (turned (record { interface = i; next_hop = a; mac = x }) (record_used u) e)
+    by_first false e rest = later (same_end (end_used u) (answers.Hop i a x)) (holds_in us (answers.Hop i a x)) (rest (let z : 0 < cond false 1 0 + times (record { interface = i; next_hop = a; mac = x }) us = subst (λ (b : Bool). 0 < cond b 1 0 + times (record { interface = i; next_hop = a; mac = x }) us) e lt in omega (arith, z)))
 
 any_there : {A : Type 0} (f : A → Bool) (xs : List A) → list_any f xs ≡ true → (x : A) × Contains xs x × (f x ≡ true)
 any_there f [] h = absurd (true≢false (sym h))
@@ -153,8 +151,8 @@ module _ (S : Tables) (rank : Prefix → ℕ) (p : Promise) (v : View) (s : Part
       let l = listed u.0 m.interface m.next_hop m.mac has in
       let a : Adjacency = record { interface = m.interface; next_hop = m.next_hop } in (
         adjacency_of a,
-        counted u.0 l.0 a (effective u.0 m.interface m.next_hop m.mac has) l.1 l.2,
-        ap (λ y. or_zero (v.record_of (record { interface = m.interface; next_hop = m.next_hop; mac = y }))) l.3 ∙ ap or_zero at,
+        counted u.0 l.0 a (effective u.0 m.interface m.next_hop m.mac has) l.1 l.2.0,
+        ap (λ y. or_zero (v.record_of (record { interface = m.interface; next_hop = m.next_hop; mac = y }))) l.2.1 ∙ ap or_zero at,
       ))
 
   -- what is owned is counted
