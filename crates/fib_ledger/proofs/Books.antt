@@ -1,12 +1,15 @@
 -- What is known of prefixes, as a row comes, or goes.
-use Rattle.std.proofs.Common.{◌≡◌, ℕ, ◌+◌, ◌≤◌, Bool, true, false, cond, List, [], ◌∷◌, length, refl, sym, ◌∙◌, arith}
-use Rattle.std.specs.Prelude.{Option, Some, sum_by}
-use Rattle.std.specs.Map.{lookup, remove_entry}
+use Rattle.std.proofs.Common.{◌≡◌, ℕ, suc, ◌+◌, ◌<◌, ◌≤◌, inl, inr, Bool, true, false, cond, List, [], ◌∷◌, length, refl, sym, ◌∙◌, subst, arith}
+use Rattle.std.specs.Prelude.{Contains, Option, Some, sum_by}
+use Rattle.std.specs.List.{IsDistinct}
+use Rattle.std.specs.Map.{keys_of, lookup, remove_entry}
 use Rattle.std.specs.List.Sorted.{IsPermutation}
+use Rattle.std.proofs.lemmas.Bool.{cases_lt}
 use Rattle.std.proofs.lemmas.List.Sums.{sum_by-cons}
 use Rattle.std.proofs.lemmas.List.Sorted.{sum_by-IsPermutation}
+use Rattle.std.proofs.lemmas.Map.Views.{lookup-from_Contains}
 use Rattle.fib_addr.specs.Prefixes.{Prefix, same_prefix}
-use Rattle.fib_addr.proofs.PrefixLaws.{same_prefix-Decides}
+use Rattle.fib_addr.proofs.PrefixLaws.{same_prefix-Decides, same_prefix_equiv}
 use Rattle.fib_pool.specs.declared.object.AdjacencyRecord.{AdjacencyRecord}
 use Rattle.fib_ledger.specs.declared.ledger.Known.{Known}
 use Rattle.fib_ledger.specs.declared.ledger.Use.{Use}
@@ -84,3 +87,19 @@ total_few (r ∷ rows) m =
     let ih = total_few rows m in
     let one = times_few m r.1.uses in
     omega (arith, a, b, ih, one)
+
+-- a record that is used is some row's, and so some prefix's where no prefix stands twice
+user_row : (rows : List (Prefix × Known)) (m : AdjacencyRecord) → 0 < total rows m → (r : Prefix × Known) × Contains rows r × (0 < times m r.1.uses)
+user_row [] m lt = absurd (omega (arith, lt))
+user_row (r ∷ rows) m lt = elim (cases_lt 0 (times m r.1.uses)) [
+  | inl mine ↦ (r, (0, omega arith, refl), mine)
+  | inr none ↦ (let s = sum_by-cons (λ (q : Prefix × Known). times m q.1.uses) r rows in
+      let u = user_row rows m (omega (arith, s, lt, none)) in
+      let c = u.1 in (u.0, (suc c.0, omega (arith, c.1), c.2), u.2))
+]
+
+pub user_of : (rows : List (Prefix × Known)) (m : AdjacencyRecord) → IsDistinct same_prefix (keys_of rows) → 0 < total rows m → (e : Prefix) × (0 < times m (used_by (known_of rows e)))
+user_of rows m one lt =
+    let u = user_row rows m lt in
+    let found : known_of rows u.0.0 ≡ Some u.0.1 = lookup-from_Contains same_prefix_equiv u.0.0 u.0.1 rows one u.1 in
+    (u.0.0, subst (λ (o : Option Known). 0 < times m (used_by o)) (sym found) u.2)

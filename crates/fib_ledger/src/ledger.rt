@@ -71,6 +71,13 @@ impl Ledger {
         }
     }
 
+    /// A record that is used is used by a prefix. Does nothing.
+    pub fn tells(&self)
+        ensures { (m : Record) → 0 < total self.now.rows m → (e : PrefixValue) × (0 < times m (uses_in self.now.rows e)) }
+    {
+        let _ = &self.known;
+    }
+
     /// Room for one prefix more, that may use so many records. After want of memory all but the room is as before.
     pub fn reserve(&mut self, uses: usize) -> Result<(), AllocError>
         ensures known { known_of self.new.rows ≡ known_of self.old.rows }

@@ -56,6 +56,7 @@ fn a_prefix_is_known_and_forgotten(rt: HostRuntime) -> Result<(), Fail> {
             .is_none()
     );
     assert!(rt; ledger.forwarded(prefix));
+    ledger.tells();
     let Some(old) = ledger.forget(prefix) else {
         panic!(rt; "nothing is known");
     };

@@ -8,6 +8,7 @@ ghost use Rattle.fib_serving.specs.Matches.{FitsVersions, IsSometime, added, rem
 ghost use Rattle.fib_steady.specs.Aims.{IsLasting};
 ghost use Rattle.fib_addr.specs.Longest.{everything};
 ghost use Rattle.fib_ply.specs.inner.Blank.{IsBlank};
+ghost use Rattle.fib_ply.specs.Rows.{ArePrefixes};
 ghost use Rattle.fib_ply.specs.Tables.{LeadsAll, Stands, object_in};
 
 use crate::beginning::begin;
@@ -45,6 +46,13 @@ impl PrefixTable {
             rows: Rows::new(alloc),
             plies: 1,
         }
+    }
+
+    /// Each row has a prefix. Does nothing.
+    pub fn tells(&self)
+        ensures { ArePrefixes self.now.rows.members }
+    {
+        self.rows.are_prefixes();
     }
 
     /// Room for that many prefixes more.

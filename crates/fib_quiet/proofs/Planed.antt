@@ -1,6 +1,6 @@
 -- The same of a plane: its words stand for the tables.
 use Rattle.std.proofs.Common.{◌≡◌, ℕ, ◌+◌, ◌-◌, ◌*◌, ◌/◌, ◌<◌, ◌≤◌, ◌⊎◌, inl, inr, ⊎_elim, Bool, true, false, true≢false, eqb-true, List, [], ◌∷◌, length, map, refl, sym, ap, ◌∙◌, subst, arith}
-use Rattle.std.specs.Prelude.{Option, Some, None, Contains, option_map}
+use Rattle.std.specs.Prelude.{Option, Some, None, Contains, ◌%◌, option_map, slice_index}
 use native.Mathlib.Decide.{ℕ_discrete}
 use mathlib.Core.Logic.{dite}
 use Rattle.fib_list.proofs.Lists.{either}
@@ -15,10 +15,14 @@ use Rattle.fib_resolve.specs.Sizes.{size}
 use Rattle.fib_resolve.specs.declared.types.Tables.{Tables}
 use Rattle.fib_core.specs.declared.word.Word.{Word}
 use Rattle.fib_core.specs.declared.word.Word.TheVariants as words
-use Rattle.fib_core.specs.Union.{Retired as Copy}
+use Rattle.fib_core.specs.Union as core
+use Rattle.fib_core.specs.Words.{decoded, goes, target}
 use Rattle.fib_core.specs.StandsFor.{Stands, StandsFor, Thing, IsCounted}
-use Rattle.fib_core.specs.Walk.{word_at}
-use Rattle.fib_core.proofs.Numbers.{owner_of}
+use Rattle.fib_core.specs.Walk.{IsFlow, walk, word_at}
+use Rattle.fib_core.proofs.Numbers.{goes_of, owner_of, target_of}
+use Rattle.fib_core.proofs.Unions.{goes_edges}
+use Rattle.fib_stands.proofs.Standing.{walk_resolved}
+use Rattle.fib_resolve.specs.Resolution.{resolve}
 use Rattle.fib_pool.specs.declared.object.AdjacencyRecord.{AdjacencyRecord}
 use Rattle.fib_pool.specs.declared.object.Object.{Object}
 use Rattle.fib_pool.specs.Objects.{at, count_in, count_of, free_in}
@@ -30,7 +34,7 @@ use Rattle.fib_plane.specs.Sound.{record_word}
 use Rattle.fib_joined.specs.Promise.{Promise}
 use Rattle.fib_joined.specs.View.{Edge, Goes, IsLive, IsRecord, View, leads}
 use Rattle.fib_shared.specs.Shares.{copy_seen, promise_of, record_in, view_of}
-use Rattle.fib_shared.proofs.Seeing.{cell_down, cell_is, kept_up, live_down, record_down}
+use Rattle.fib_shared.proofs.Seeing.{cell_down, cell_is, edge_leads, goes_up, kept_up, live_down, record_down}
 use Rattle.fib_shared.proofs.Storing.{edge_down}
 use Rattle.fib_stack.specs.Joined.{Parts, balance_in}
 use Rattle.fib_quiet.specs.Rest.{IsAtRest, IsSeen}
@@ -113,3 +117,19 @@ module _ (S : Tables) (rank : Prefix → ℕ) (p : Promise) (q : Plane) (s : Par
   used_at_rest = same_number S names q.objects (seen_apart S rank p v s rest)
       (λ t c. live_at q.objects (names t) (live_down q told (names t) (seen_live S rank p v s rest t c)))
       (λ o x is. found S rank p v s rest o (owned o (seen o (let c = told.taken o x is in let n : count_of q.objects o ≡ x.count = ap count_in is in omega (arith, c, n)))))
+
+  -- edges of words are edges of the union of objects
+  edge_seen : (x y : ℕ) → core.Edge q.board.union x y → edges.Edge (union_of q.board) x y
+  edge_seen x y (k, w, own, to, g) = (k, own, subst (edges.Goes (union_of q.board) k) to (goes_edges q.board.union k w g))
+
+  -- where a word leads there is an object
+  within : (k w : ℕ) → goes w ≡ true → slice_index q.board.union.cells k ≡ w → target w < q.board.objects
+  within k w going at =
+      let up = goes_up q k w (going, inl at) in
+      let lead : leads (decoded w) (target w) = edge_leads (decoded w) (target w) (sym (goes_of w (decoded w) refl) ∙ going) (sym (target_of w (decoded w) refl)) in
+      below (target w) (inr (inr (inr (owner k, k % 16, decoded w, lead, up))))
+
+  -- each walk over the cells is resolution
+  pub walks_at_rest : (a h : ℕ) → IsFlow a h → walk q.board.union.cells a h ≡ resolve S a h
+  walks_at_rest = walk_resolved q.board.union q.board.objects names S stands_for rest.sound rest.entries_are
+      (let l = told.board.limits.least in omega (arith, l)) told.board.long within (acyclic_part (core.Edge q.board.union) (edges.Edge (union_of q.board)) edge_seen told.acyclic)

@@ -1,11 +1,13 @@
 // Laws of a control plane at rest, and of its versions, each the contract of a function that does nothing.
-ghost use Rattle.std.specs.Prelude.{◌≡◌, ◌-◌, ◌<◌, ◌||◌, ℕ, List, Some, length, slice_get};
+ghost use Rattle.std.specs.Prelude.{◌≡◌, ◌-◌, ◌<◌, ◌≤◌, ◌||◌, ℕ, List, Some, length, slice_get};
 ghost use Rattle.fib_addr.specs.Prefixes.{Prefix};
+ghost use Rattle.fib_resolve.specs.Resolution.{resolve};
 ghost use Rattle.fib_resolve.specs.Sizes.{size};
 ghost use Rattle.fib_resolve.specs.Tables.{IsSound};
 ghost use Rattle.fib_resolve.specs.Touched.{is_touched};
 ghost use Rattle.fib_resolve.specs.declared.types.Tables.{Tables};
 ghost use Rattle.fib_core.specs.StandsFor.{Stands};
+ghost use Rattle.fib_core.specs.Walk.{IsFlow, walk};
 ghost use Rattle.fib_pool.specs.Objects.{free_in};
 ghost use Rattle.fib_board.specs.Boards.{board_begun, board_settled};
 ghost use Rattle.fib_plane.specs.Planes.{Plane};
@@ -22,6 +24,12 @@ ghost use Rattle.fib_quiet.specs.Rest.{IsAtRest, IsSeen};
 pub fn what_is_at_rest_stands_for_the_tables()
     ensures { (S : Tables) (rank : Prefix → ℕ) (p : Promise) (q : Plane) (s : Parts) → IsPlane q → IsSeen q
         → IsAtRest S rank p (view_of q) s → Stands q.board.union S }
+{}
+
+/// So the walk of every address and hash over the cells is resolution over the tables.
+pub fn walks_at_rest_are_resolution()
+    ensures { (S : Tables) (rank : Prefix → ℕ) (p : Promise) (q : Plane) (s : Parts) → IsPlane q → IsSeen q
+        → IsAtRest S rank p (view_of q) s → (a h : ℕ) → IsFlow a h → walk q.board.union.cells a h ≡ resolve S a h }
 {}
 
 /// And as many objects are used as that size says.

@@ -4,6 +4,7 @@ use super::*;
 #[test]
 fn each_law() {
     laws::what_is_at_rest_stands_for_the_tables();
+    laws::walks_at_rest_are_resolution();
     laws::as_many_are_used_as_the_size_says();
     laws::settling_keeps_what_stands();
     laws::a_change_keeps_what_stands();

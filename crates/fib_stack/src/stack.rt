@@ -1,5 +1,8 @@
 // What the stack keeps, and what a turn makes ready.
-ghost use Rattle.std.specs.Prelude.{◌≡◌, [], length};
+ghost use Rattle.std.specs.Prelude.{◌≡◌, ◌<◌, [], length};
+ghost use Rattle.fib_addr.specs.Prefixes.{Prefix as PrefixValue};
+ghost use Rattle.fib_pool.specs.declared.object.AdjacencyRecord.{AdjacencyRecord as Record};
+ghost use Rattle.fib_ledger.specs.Ledgers.{known_of, times, total, used_by};
 
 use fib_addr::Prefix;
 use fib_ledger::{Lates, Ledger, Use};
@@ -41,6 +44,13 @@ impl Stack {
             ledger: Ledger::new(alloc),
             late: Lates::new(alloc),
         }
+    }
+
+    /// An adjacency record that is used is used by a prefix. Does nothing.
+    pub fn tells(&self)
+        ensures { (m : Record) → 0 < total self.now.ledger.rows m → (e : PrefixValue) × (0 < times m (used_by (known_of self.now.ledger.rows e))) }
+    {
+        self.ledger.tells();
     }
 
     /// How many buckets are deferred.

@@ -5,6 +5,7 @@ use std::test::Fail;
 #[test]
 fn a_new_stack_has_nothing_deferred(rt: HostRuntime) -> Result<(), Fail> {
     let stack = Stack::new(rt.alloc());
+    stack.tells();
     assert_eq!(rt; stack.deferred(), 0);
     Ok(())
 }
