@@ -23,3 +23,4 @@ pub mod Finishing
 pub mod Moving
 pub mod Beginning
 pub mod Turning
+pub mod Retrying

@@ -1,12 +1,15 @@
--- What a turn answers.
-use Rattle.std.specs.Prelude.{◌≡◌, ◌⊎◌, ℕ, ◌-◌, ◌%◌, ◌^◌, ◌≤◌, true, false, List}
+-- What a turn and a retry answer.
+use Rattle.std.specs.Prelude.{◌≡◌, ◌⊎◌, ℕ, ◌-◌, ◌%◌, ◌^◌, ◌≤◌, true, false, List, Some}
 use Rattle.fib_addr.specs.Prefixes.{Prefix}
 use Rattle.fib_resolve.specs.declared.types.Tables.{Tables}
 use Rattle.fib_changes.specs.Ranks.{has_entry}
 use Rattle.fib_ledger.specs.declared.late.Late.{Late}
 use Rattle.fib_ledger.specs.Deferred.{late_at, late_count}
+use Rattle.fib_core.specs.declared.word.Word.{Word}
+use Rattle.fib_joined.specs.View.{View, Closes}
 use Rattle.fib_stack.specs.declared.turn.Turn.{Turn}
 use Rattle.fib_stack.specs.declared.turn.Turn.TheVariants as turns
+use Rattle.fib_stack.specs.Joined.{Parts, balance_in, queued_in}
 use Rattle.fib_stack.specs.States.{State}
 use Rattle.fib_stack.specs.Steps.{IsLeast, Removed}
 use Rattle.fib_stack.specs.Turns.{IsRestacked}
@@ -29,3 +32,7 @@ IsCounted (turns.Restacked e stores dropped) late = dropped ≡ late_count (late
 abbrev pub IsStored : Turn → ℕ → ℕ → Type 0
 IsStored turns.Idle old new = new ≡ old
 IsStored (turns.Restacked e stores dropped) old new = (old ≤ new) × (stores ≡ (new - old) % 2 ^ 64)
+
+-- why a bucket stays deferred: its prefix is queued, or the edge that it wants closes a cycle
+abbrev pub StaysLate : View → Parts → Prefix → Word → Type 0
+StaysLate v s e w = (queued_in s e ≡ true) ⊎ ((o : ℕ) × (balance_in s e ≡ Some o) × Closes v o w)

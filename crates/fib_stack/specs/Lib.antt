@@ -9,3 +9,4 @@ pub mod Waking
 pub mod Joined
 pub mod Turns
 pub mod Done
+pub mod inner

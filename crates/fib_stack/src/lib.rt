@@ -1,10 +1,10 @@
-//! The stack: what a turn, a retry and a change of the tables do to the buckets of entries, what they keep, and the turn.
+//! The stack: what a turn, a retry and a change of the tables do to the buckets of entries, what they keep, the turn and the retry.
 //!
 //! `specs/States.antt` says what stands of each prefix, `specs/Steps.antt` what a step does, `specs/Steadiness.antt` which buckets keep their
 //! word while the versions change, `specs/Orders.antt` in which order prefixes are restacked, `specs/Buckets.antt` how the plane
 //! is read, `specs/Records.antt` and `specs/Runs.antt` what taking records and filling an object do, `specs/Joined.antt` what stands between
-//! plane, prefix table, stack and queue, and `specs/Done.antt` what a turn answers; `specs/Turns.antt` has what its parts do. `laws` are over
-//! values, `stores` over the plane's calls, `between` on what others do in between.
+//! plane, prefix table, stack and queue, and `specs/Done.antt` what a turn and a retry answer; `specs/Turns.antt` has what a turn's parts do,
+//! and `specs/inner` only carries proofs. `laws` are over values, `stores` over the plane's calls, `between` on what others do in between.
 #![tactic(auto)]
 
 mod begin;
@@ -16,6 +16,7 @@ mod leave;
 mod queueing;
 mod ready;
 mod records;
+mod retry;
 mod sixteen;
 mod stack;
 pub mod stores;
