@@ -1,6 +1,8 @@
 // Each public call, with ample memory, over a plain board.
-ghost use Rattle.std.specs.Prelude.{IfOk, [], ◌+◌, ◌<◌, ◌≡◌, ◌≤◌};
+ghost use Rattle.std.specs.Prelude.{IfOk, None, OnOk, Some, [], ◌+◌, ◌<◌, ◌≡◌, ◌≤◌};
+ghost use Rattle.fib_interned.specs.Interned.{kept_of};
 ghost use Rattle.fib_pool.specs.Objects.{fresh_objects};
+ghost use Rattle.fib_pool.specs.Records.{adjacency};
 ghost use Rattle.fib_plainboard.specs.Passes.{fresh_plain};
 ghost use Rattle.fib_joined.specs.declared.put.Put.TheVariants as puts;
 ghost use Rattle.fib_plane.specs.Planes.{Holds};
@@ -10,7 +12,7 @@ use super::*;
 use fib_addr::{Addr, Mac};
 use fib_core::{Version, Word};
 use fib_plainboard::PlainBoard;
-use fib_pool::Kind;
+use fib_pool::{AdjacencyRecord, Kind};
 use fib_resolve::End;
 use std::alloc::{AllocError, Global};
 use std::test::Fail;
@@ -84,6 +86,67 @@ fn a_record_takes_an_object(rt: HostRuntime) -> Result<(), Fail> {
     assert_eq!(rt; taken, Some(1));
     assert_eq!(rt; plane.used(), 2);
     assert_eq!(rt; plane.stored(), 3);
+    Ok(())
+}
+
+// The first user of a record.
+fn first_user(plane: &mut Plane<PlainBoard>) -> Result<u32, Fail>
+    requires board { plane.old.board ≡ fresh_plain 64 2 }
+    requires records { plane.old.records ≡ [] }
+    ensures young { OnOk result (IsYoung plane.new) }
+    ensures kept { IfOk result (λ o. kept_of plane.new.records o ≡ Some (record { id = o; content = adjacency 3 7 None; users = 1 })) }
+{
+    match plane.take_adj(3, Addr(7), None)? {
+        Some(object) => Ok(object),
+        None => Err(Fail::from("no object")),
+    }
+}
+
+// Another user of an equal one.
+fn second_user(plane: &mut Plane<PlainBoard>, object: u32) -> Result<(), Fail>
+    requires young { IsYoung plane.old }
+    requires kept { kept_of plane.old.records object ≡ Some (record { id = object; content = adjacency 3 7 None; users = 1 }) }
+    ensures young { OnOk result (IsYoung plane.new) }
+    ensures kept { OnOk result (kept_of plane.new.records object ≡ Some (record { id = object; content = adjacency 3 7 None; users = 2 })) }
+{
+    plane.tells();
+    match plane.take_adj(3, Addr(7), None)? {
+        Some(other) => {
+            if other == object {
+                return Ok(());
+            }
+            Err(Fail::from("another object"))
+        }
+        None => Err(Fail::from("no object")),
+    }
+}
+
+// One user less.
+fn user_goes(plane: &mut Plane<PlainBoard>, object: u32)
+    requires young { IsYoung plane.old }
+    requires kept { kept_of plane.old.records object ≡ Some (record { id = object; content = adjacency 3 7 None; users = 2 }) }
+    ensures young { IsYoung plane.new }
+    ensures kept { kept_of plane.new.records object ≡ Some (record { id = object; content = adjacency 3 7 None; users = 1 }) }
+{
+    plane.give_adj(object);
+}
+
+#[test]
+fn equal_records_are_one_object(rt: HostRuntime) -> Result<(), Fail> {
+    let mut plane = fresh(rt.alloc())?;
+    let object = first_user(&mut plane)?;
+    second_user(&mut plane, object)?;
+    assert_eq!(rt; plane.used(), 2);
+    let record = AdjacencyRecord {
+        interface: 3,
+        next_hop: Addr(7),
+        mac: None,
+    };
+    assert_eq!(rt; plane.record(object), record);
+    user_goes(&mut plane, object);
+    assert_eq!(rt; plane.used(), 2);
+    plane.give_adj(object);
+    assert_eq!(rt; plane.used(), 1);
     Ok(())
 }
 
