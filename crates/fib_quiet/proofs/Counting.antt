@@ -3,6 +3,7 @@ use Rattle.std.proofs.Common.{◌≡◌, ◌≢◌, ℕ, zero, suc, ◌+◌, ◌
 use Rattle.std.specs.Prelude.{Contains, count_by}
 use Rattle.std.specs.List.{AllByRecursion, IsDistinct}
 use Rattle.std.proofs.lemmas.List.{length-map, length-append}
+use Rattle.std.proofs.lemmas.List.Elements.{Contains-append_left, Contains-append_right}
 use Rattle.fib_list.proofs.Booleans.{count_by-cons}
 use Rattle.fib_list.proofs.Lists.{each-append, each-map, each-weaker}
 use Rattle.fib_addr.specs.Prefixes.{Prefix, same_prefix}
@@ -15,6 +16,8 @@ use Rattle.fib_resolve.specs.declared.pairs.Adjacency.{Adjacency}
 use Rattle.fib_resolve.specs.declared.types.Tables.{Tables}
 use Rattle.fib_resolve.proofs.Covering.{adjacencies_apart, entries_apart, plies_apart}
 use Rattle.fib_resolve.proofs.OneList.{each-itself}
+use Rattle.fib_resolve.proofs.PairLaws.{each-all}
+use Rattle.fib_stands.proofs.Nibbles.{map_at}
 use Rattle.fib_config.proofs.Within.{same_adjacency-Decides}
 use Rattle.fib_core.specs.StandsFor.{Thing, ply_of, balance_of, adjacency_of, IsCounted}
 use Rattle.fib_pool.specs.declared.object.Object.{Object}
@@ -38,24 +41,6 @@ differ_append : {A : Type 0} (xs ys : List A) → AllDiffer xs → AllDiffer ys 
 differ_append [] ys d e h = e
 differ_append (x ∷ xs) ys d e h = (each-append (λ y. x ≢ y) xs ys d.0 h.0, differ_append xs ys d.1 e h.1)
 
-each_any : {A : Type 0} (P : A → Type 0) → ((x : A) → P x) → (xs : List A) → AllByRecursion P xs
-each_any P h [] = tt
-each_any P h (x ∷ xs) = (h x, each_any P h xs)
-
-left_in : {A : Type 0} (xs ys : List A) (x : A) → Contains xs x → Contains (xs ++ ys) x
-left_in [] ys x c = absurd (let lt = c.1 in omega (arith, lt))
-left_in (z ∷ xs) ys x (zero, lt, is) = (0, omega arith, is)
-left_in (z ∷ xs) ys x (suc k, lt, is) = let r = left_in xs ys x (k, omega (arith, lt), is) in (suc r.0, omega (arith, r.1), r.2)
-
-right_in : {A : Type 0} (xs ys : List A) (x : A) → Contains ys x → Contains (xs ++ ys) x
-right_in [] ys x c = c
-right_in (z ∷ xs) ys x c = let r = right_in xs ys x c in (suc r.0, omega (arith, r.1), r.2)
-
-map_in : {A B : Type 0} (f : A → B) (xs : List A) (x : A) → Contains xs x → Contains (map f xs) (f x)
-map_in f [] x c = absurd (let lt = c.1 in omega (arith, lt))
-map_in f (z ∷ xs) x (zero, lt, is) = (0, omega arith, ap f is)
-map_in f (z ∷ xs) x (suc k, lt, is) = let r = map_in f xs x (k, omega (arith, lt), is) in (suc r.0, omega (arith, r.1), r.2)
-
 -- what the size counts
 abbrev pub things : Tables → List Thing
 things S = map ply_of (plies S) ++ (map balance_of (entries S) ++ map adjacency_of (adjacencies S))
@@ -71,9 +56,9 @@ things_long S =
     omega (arith, a, b, p, e, x)
 
 pub thing_in : (S : Tables) (t : Thing) → IsCounted S t → Contains (things S) t
-thing_in S (ply_of q) c = left_in (map ply_of (plies S)) (map balance_of (entries S) ++ map adjacency_of (adjacencies S)) (ply_of q) (map_in ply_of (plies S) q c)
-thing_in S (balance_of e) c = right_in (map ply_of (plies S)) (map balance_of (entries S) ++ map adjacency_of (adjacencies S)) (balance_of e) (left_in (map balance_of (entries S)) (map adjacency_of (adjacencies S)) (balance_of e) (map_in balance_of (entries S) e c))
-thing_in S (adjacency_of x) c = right_in (map ply_of (plies S)) (map balance_of (entries S) ++ map adjacency_of (adjacencies S)) (adjacency_of x) (right_in (map balance_of (entries S)) (map adjacency_of (adjacencies S)) (adjacency_of x) (map_in adjacency_of (adjacencies S) x c))
+thing_in S (ply_of q) c = Contains-append_left (map ply_of (plies S)) (map balance_of (entries S) ++ map adjacency_of (adjacencies S)) (ply_of q) (map_at ply_of (plies S) q c)
+thing_in S (balance_of e) c = Contains-append_right (map ply_of (plies S)) (map balance_of (entries S) ++ map adjacency_of (adjacencies S)) (balance_of e) (Contains-append_left (map balance_of (entries S)) (map adjacency_of (adjacencies S)) (balance_of e) (map_at balance_of (entries S) e c))
+thing_in S (adjacency_of x) c = Contains-append_right (map ply_of (plies S)) (map balance_of (entries S) ++ map adjacency_of (adjacencies S)) (adjacency_of x) (Contains-append_right (map balance_of (entries S)) (map adjacency_of (adjacencies S)) (adjacency_of x) (map_at adjacency_of (adjacencies S) x c))
 
 pub all_counted : (S : Tables) → AllByRecursion (IsCounted S) (things S)
 all_counted S = each-append (IsCounted S) (map ply_of (plies S)) (map balance_of (entries S) ++ map adjacency_of (adjacencies S))
@@ -82,14 +67,14 @@ all_counted S = each-append (IsCounted S) (map ply_of (plies S)) (map balance_of
 
 pub things_differ : (S : Tables) → AllDiffer (things S)
 things_differ S = differ_append (map ply_of (plies S)) (map balance_of (entries S) ++ map adjacency_of (adjacencies S))
-    (differ_map ply_of (λ q. Unit {0}) (λ x y a b is. ply_one x y is) (plies S) (each_any (λ q. Unit {0}) (λ q. tt) (plies S)) (differ_distinct same_prefix (λ x y is. (same_prefix-Decides x y).1 is) (plies S) (plies_apart S)))
+    (differ_map ply_of (λ q. Unit {0}) (λ x y a b is. ply_one x y is) (plies S) (each-all (λ q. Unit {0}) (λ q. tt) (plies S)) (differ_distinct same_prefix (λ x y is. (same_prefix-Decides x y).1 is) (plies S) (plies_apart S)))
     (differ_append (map balance_of (entries S)) (map adjacency_of (adjacencies S))
-    (differ_map balance_of (λ q. Unit {0}) (λ x y a b is. balance_one x y is) (entries S) (each_any (λ q. Unit {0}) (λ q. tt) (entries S)) (differ_distinct same_prefix (λ x y is. (same_prefix-Decides x y).1 is) (entries S) (entries_apart S)))
-    (differ_map adjacency_of (λ q. Unit {0}) (λ x y a b is. adjacency_one x y is) (adjacencies S) (each_any (λ q. Unit {0}) (λ q. tt) (adjacencies S)) (differ_distinct same_adjacency (λ x y is. (same_adjacency-Decides x y).1 is) (adjacencies S) (adjacencies_apart S)))
-    (each-map (λ x. AllByRecursion (λ y. x ≢ y) (map adjacency_of (adjacencies S))) balance_of (entries S) (each_any _ (λ e. each-map (λ y. balance_of e ≢ y) adjacency_of (adjacencies S) (each_any _ (λ x is. balance_apart e x is) (adjacencies S))) (entries S))))
-    (each-map (λ x. AllByRecursion (λ y. x ≢ y) (map balance_of (entries S) ++ map adjacency_of (adjacencies S))) ply_of (plies S) (each_any _ (λ q. each-append (λ y. ply_of q ≢ y) (map balance_of (entries S)) (map adjacency_of (adjacencies S))
-    (each-map (λ y. ply_of q ≢ y) balance_of (entries S) (each_any _ (λ e is. ply_apart q e is) (entries S)))
-    (each-map (λ y. ply_of q ≢ y) adjacency_of (adjacencies S) (each_any _ (λ x is. ply_away q x is) (adjacencies S)))) (plies S)))
+    (differ_map balance_of (λ q. Unit {0}) (λ x y a b is. balance_one x y is) (entries S) (each-all (λ q. Unit {0}) (λ q. tt) (entries S)) (differ_distinct same_prefix (λ x y is. (same_prefix-Decides x y).1 is) (entries S) (entries_apart S)))
+    (differ_map adjacency_of (λ q. Unit {0}) (λ x y a b is. adjacency_one x y is) (adjacencies S) (each-all (λ q. Unit {0}) (λ q. tt) (adjacencies S)) (differ_distinct same_adjacency (λ x y is. (same_adjacency-Decides x y).1 is) (adjacencies S) (adjacencies_apart S)))
+    (each-map (λ x. AllByRecursion (λ y. x ≢ y) (map adjacency_of (adjacencies S))) balance_of (entries S) (each-all _ (λ e. each-map (λ y. balance_of e ≢ y) adjacency_of (adjacencies S) (each-all _ (λ x is. balance_apart e x is) (adjacencies S))) (entries S))))
+    (each-map (λ x. AllByRecursion (λ y. x ≢ y) (map balance_of (entries S) ++ map adjacency_of (adjacencies S))) ply_of (plies S) (each-all _ (λ q. each-append (λ y. ply_of q ≢ y) (map balance_of (entries S)) (map adjacency_of (adjacencies S))
+    (each-map (λ y. ply_of q ≢ y) balance_of (entries S) (each-all _ (λ e is. ply_apart q e is) (entries S)))
+    (each-map (λ y. ply_of q ≢ y) adjacency_of (adjacencies S) (each-all _ (λ x is. ply_away q x is) (adjacencies S)))) (plies S)))
   where
     ply_one : (x y : Prefix) → ply_of x ≡ ply_of y → x ≡ y
     ply_one x y is = cc
@@ -169,6 +154,6 @@ same_number S names objects apart there found =
     let down : length taken ≤ length numbers = length-le_from_differ taken numbers (taken_differ 0 objects)
         (each-weaker (λ o. (x : Object) × (at objects (o - 0) ≡ Some x)) (Contains numbers) (λ o x.
         let is : at objects o ≡ Some x.0 = ap (at objects) (let e : o ≡ o - 0 = omega arith in e) ∙ x.1 in
-        let t = found o x.0 is in subst (Contains numbers) t.2 (map_in names (things S) t.0 (thing_in S t.0 t.1))) taken (taken_is 0 objects)) in
+        let t = found o x.0 is in subst (Contains numbers) t.2 (map_at names (things S) t.0 (thing_in S t.0 t.1))) taken (taken_is 0 objects)) in
     let total = taken_long 0 objects in
     omega (arith, long, up, down, total)

@@ -3,7 +3,6 @@ use Rattle.std.proofs.Common.{◌≡◌, ℕ, zero, suc, ◌<◌, ◌≤◌, inl
 use Rattle.std.specs.Prelude.{Option, Some, None, Contains, ◌==◌, flat_map, slice_get, if◌then◌else◌}
 use Rattle.std.specs.List.{AllByRecursion, list_any}
 use Rattle.std.proofs.lemmas.List.Elements.{All-contains, All-from_recursion}
-use Rattle.fib_list.proofs.Booleans.{or_left, or_right}
 use Rattle.fib_list.proofs.Lists.{each-weaker, each-flat_map}
 use Rattle.fib_addr.specs.Prefixes.{Prefix, host}
 use Rattle.fib_resolve.specs.Aims.{aim, kind_aim, marked, marked_list, path_aim}
@@ -23,6 +22,7 @@ use Rattle.fib_resolve.specs.declared.types.Tables.{Tables}
 use Rattle.fib_resolve.proofs.OneList.{each-itself}
 use Rattle.fib_resolve.proofs.PairLaws.{each-unique}
 use Rattle.fib_changes.specs.Ranks.{has_entry}
+use Rattle.fib_changes.proofs.Edits.{any_in}
 use Rattle.fib_core.specs.StandsFor.{Thing, balance_of, adjacency_of, adjacency_word, bucket_word, kind_word}
 use Rattle.fib_core.specs.declared.word.Word.TheVariants as words
 use Rattle.fib_pool.specs.declared.object.AdjacencyRecord.{AdjacencyRecord}
@@ -42,11 +42,6 @@ use Rattle.fib_stack.proofs.Listing.{record_self}
 use Rattle.fib_stack.proofs.Settling.{aims_hop, aims_on}
 use Rattle.fib_quiet.specs.Rest.{IsAtRest}
 use Rattle.fib_quiet.proofs.Numbers.{number, or_zero}
-
-any_at : {A : Type 0} (f : A → Bool) (xs : List A) (x : A) → Contains xs x → f x ≡ true → list_any f xs ≡ true
-any_at f [] x c h = absurd (let lt = c.1 in omega (arith, lt))
-any_at f (y ∷ ys) x (zero, lt, is) h = or_left (f y) (list_any f ys) (ap f is ∙ h)
-any_at f (y ∷ ys) x (suc k, lt, is) h = or_right (f y) (list_any f ys) (any_at f ys x (k, omega (arith, lt), is) h)
 
 -- the record of a Hop end of the tables
 abbrev pub record_of_end : Tables → Adjacency → AdjacencyRecord
@@ -113,7 +108,7 @@ module _ (S : Tables) (rank : Prefix → ℕ) (p : Promise) (v : View) (s : Part
 
   in_marks : (e : Prefix) (q : Path) (i a : ℕ) → Contains (chosen S e) q → kind_aim S e q.kind ≡ aims.Ends (hop_end S i a) → has_hop (marked_list S e) (hop_end S i a) ≡ true
   unfolding marked_list
-  in_marks e q i a c is = any_at (λ m. ends_there (hop_end S i a) m.aim) (map (marked S e) (chosen S e)) (marked S e q) (map_at (marked S e) (chosen S e) q c)
+  in_marks e q i a c is = any_in (λ m. ends_there (hop_end S i a) m.aim) (map (marked S e) (chosen S e)) (marked S e q) (map_at (marked S e) (chosen S e) q c)
       (ap (ends_there (hop_end S i a)) is ∙ record_self (record_of_end S (record { interface = i; next_hop = a })))
 
   of_length : (e : Prefix) (q : Path) (i : ℕ) (b : Bool) → Contains (chosen S e) q → kind_aim S e q.kind ≡ aims.Ends (if b then hop_end S i e.bits else answers.Glean i)

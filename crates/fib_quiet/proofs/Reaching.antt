@@ -16,6 +16,8 @@ use Rattle.fib_changes.specs.Ranks.{has_entry}
 use Rattle.fib_serving.specs.Matches.{best_block, look_of, IsLongestBlock}
 use Rattle.fib_serving.specs.Stack.{is_some}
 use Rattle.fib_stands.proofs.Nibbles.{everything_entry}
+use Rattle.fib_interned.proofs.Finding.{none_some}
+use Rattle.fib_stack.proofs.Keeping.{some_there}
 use Rattle.fib_ply.proofs.Longest.{best_longest as block_longest}
 use Rattle.fib_ply.proofs.Needing.{whole_is}
 
@@ -27,13 +29,6 @@ contained_masked b a is h =
     let e : a / size_of b.len ≡ b.bits / size_of b.len = eqb-true (a / size_of b.len) (b.bits / size_of b.len) h in
     let f : b.bits / size_of b.len * size_of b.len ≡ b.bits = whole_is b.bits (size_of b.len) is.cleared in
     same_fields b (masked a b.len) (sym f ∙ ap (λ i. i * size_of b.len) (sym e), refl)
-
-pub some_there : (o : Option ℕ) → is_some o ≡ true → (x : ℕ) × (o ≡ Some x)
-some_there None h = absurd (true≢false (sym h))
-some_there (Some x) h = (x, refl)
-
-pub none_some : (x : ℕ) → None ≡ Some x → ⊥
-none_some x e = cc
 
 -- the table has the tables' entries, with their balances
 module _ (S : Tables) (balances : Prefix → Option ℕ) (fine : (q : Prefix) → Contains (entries S) q → IsPrefix q) (rows : (q : Prefix) (o : ℕ) → balances q ≡ Some o → IsPrefix q)

@@ -33,7 +33,9 @@ use Rattle.fib_stack.proofs.Settling.{aims_hop, aims_on, settled_steady}
 use Rattle.fib_quiet.specs.Rest.{IsAtRest}
 use Rattle.fib_quiet.proofs.Ends.{hop_kept, objects, placed, stands}
 use Rattle.fib_quiet.proofs.Owning.{IsOwned, paths}
-use Rattle.fib_quiet.proofs.Reaching.{balance_at, entry_of, none_some, some_there}
+use Rattle.fib_interned.proofs.Finding.{none_some}
+use Rattle.fib_stack.proofs.Keeping.{some_there}
+use Rattle.fib_quiet.proofs.Reaching.{balance_at, entry_of}
 
 module _ (S : Tables) (rank : Prefix → ℕ) (p : Promise) (v : View) (s : Parts) (rest : IsAtRest S rank p v s) (owned : (x : ℕ) → IsLive v x → IsOwned v x)
     (q : Promise) (one : q.versions ≡ S ∷ []) (early : q.applied ≡ 0 → p.applied ≡ 0) where

@@ -4,7 +4,7 @@ use Rattle.std.specs.Prelude.{Option, Some, None, Contains, ◌==◌, flat_map, 
 use Rattle.std.specs.List.{list_any}
 use native.Mathlib.Decide.{ℕ_discrete}
 use mathlib.Core.Logic.{dite}
-use Rattle.fib_list.proofs.Booleans.{or_cases}
+use Rattle.fib_list.proofs.Booleans.{or_right}
 use Rattle.fib_list.proofs.Lists.{either, Contains-flat_map}
 use Rattle.fib_addr.specs.Longest.{everything}
 use Rattle.fib_addr.specs.Prefixes.{IsPrefix, Prefix}
@@ -25,6 +25,7 @@ use Rattle.fib_resolve.specs.declared.types.PathKind.TheVariants as kinds
 use Rattle.fib_resolve.specs.declared.types.Tables.{Tables}
 use Rattle.fib_resolve.proofs.Covering.{unique_in}
 use Rattle.fib_changes.specs.Ranks.{has_entry}
+use Rattle.fib_changes.proofs.CauseLaws.{any_from}
 use Rattle.fib_changes.proofs.SamePairs.{map_from}
 use Rattle.fib_config.proofs.Within.{same_adjacency-Decides}
 use Rattle.std.proofs.lemmas.Map.Made.{is_member-Decides}
@@ -49,15 +50,12 @@ use Rattle.fib_quiet.proofs.Ends.{adjacency_cell, balance_cell, counted_adjacenc
 use Rattle.fib_quiet.proofs.Numbers.{number, or_zero}
 use Rattle.fib_quiet.proofs.Owning.{IsOwned, paths}
 use Rattle.fib_quiet.proofs.Plying.{IsPly, block, counted_ply, ply_cell, ply_counted, ply_number}
-use Rattle.fib_quiet.proofs.Reaching.{balance_at, entry_of, none_some}
+use Rattle.fib_interned.proofs.Finding.{none_some}
+use Rattle.fib_quiet.proofs.Reaching.{balance_at, entry_of}
 
 -- what is used is held
 turned : (r q : AdjacencyRecord) → same_record r q ≡ true → same_record q r ≡ true
 turned r q e = let is : r ≡ q = record_is r q e in subst (λ (z : AdjacencyRecord). same_record z r ≡ true) is (subst (λ (z : AdjacencyRecord). same_record r z ≡ true) (sym is) e)
-
-later : (b c : Bool) → c ≡ true → b || c ≡ true
-later true c h = refl
-later false c h = h
 
 times_held : (us : List Use) (i a : ℕ) (x : Option ℕ) → 0 < times (record { interface = i; next_hop = a; mac = x }) us → holds_in us (answers.Hop i a x) ≡ true
 times_held [] i a x lt = absurd (omega (arith, lt))
@@ -66,11 +64,7 @@ times_held (u ∷ us) i a x lt = by_first (same_record (record { interface = i; 
     by_first : (b : Bool) → same_record (record { interface = i; next_hop = a; mac = x }) (record_used u) ≡ b → (0 < times (record { interface = i; next_hop = a; mac = x }) us → holds_in us (answers.Hop i a x) ≡ true)
         → holds_in (u ∷ us) (answers.Hop i a x) ≡ true
     by_first true e rest = ap (λ b. b || holds_in us (answers.Hop i a x)) (turned (record { interface = i; next_hop = a; mac = x }) (record_used u) e)
-    by_first false e rest = later (same_end (end_used u) (answers.Hop i a x)) (holds_in us (answers.Hop i a x)) (rest (let z : 0 < cond false 1 0 + times (record { interface = i; next_hop = a; mac = x }) us = subst (λ (b : Bool). 0 < cond b 1 0 + times (record { interface = i; next_hop = a; mac = x }) us) e lt in omega (arith, z)))
-
-any_there : {A : Type 0} (f : A → Bool) (xs : List A) → list_any f xs ≡ true → (x : A) × Contains xs x × (f x ≡ true)
-any_there f [] h = absurd (true≢false (sym h))
-any_there f (x ∷ xs) h = ⊎_elim (λ (e : f x ≡ true). (x, (0, omega arith, refl), e)) (λ (e : list_any f xs ≡ true). (let r = any_there f xs e in let c = r.1 in (r.0, (suc c.0, omega (arith, c.1), c.2), r.2))) (or_cases (f x) (list_any f xs) h)
+    by_first false e rest = or_right (same_end (end_used u) (answers.Hop i a x)) (holds_in us (answers.Hop i a x)) (rest (let z : 0 < cond false 1 0 + times (record { interface = i; next_hop = a; mac = x }) us = subst (λ (b : Bool). 0 < cond b 1 0 + times (record { interface = i; next_hop = a; mac = x }) us) e lt in omega (arith, z)))
 
 module _ (S : Tables) (rank : Prefix → ℕ) (p : Promise) (v : View) (s : Parts) (rest : IsAtRest S rank p v s) where
   abbrev names : Thing → ℕ
@@ -126,7 +120,7 @@ module _ (S : Tables) (rank : Prefix → ℕ) (p : Promise) (v : View) (s : Part
   listed : (e : Prefix) (i a : ℕ) (x : Option ℕ) → has_hop (marked_list S e) (answers.Hop i a x) ≡ true → (q : Path) × Contains (chosen S e) q × IsListed e q i a x
   unfolding marked_list
   listed e i a x has =
-      let m = any_there (λ m. ends_there (answers.Hop i a x) m.aim) (map (marked S e) (chosen S e)) has in
+      let m = any_from (λ m. ends_there (answers.Hop i a x) m.aim) (map (marked S e) (chosen S e)) has in
       let q = map_from (marked S e) (chosen S e) m.0 m.1 in
       (q.0, q.1, by_kind e i a x q.0.kind (ap (λ (k : Marked). ends_there (answers.Hop i a x) k.aim) q.2 ∙ m.2))
 
