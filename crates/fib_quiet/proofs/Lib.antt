@@ -9,3 +9,5 @@ pub mod Planed
 pub mod Settled
 pub mod Changed
 pub mod Versions
+pub mod Fresh
+pub mod Workers

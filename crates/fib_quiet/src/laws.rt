@@ -3,7 +3,7 @@ ghost use Rattle.std.specs.Prelude.{◌≡◌, ◌-◌, ◌<◌, ◌≤◌, ◌|
 ghost use Rattle.fib_addr.specs.Prefixes.{Prefix};
 ghost use Rattle.fib_resolve.specs.Resolution.{resolve};
 ghost use Rattle.fib_resolve.specs.Sizes.{size};
-ghost use Rattle.fib_resolve.specs.Tables.{IsSound};
+ghost use Rattle.fib_resolve.specs.Tables.{IsSound, fresh};
 ghost use Rattle.fib_resolve.specs.Touched.{is_touched};
 ghost use Rattle.fib_resolve.specs.declared.types.Tables.{Tables};
 ghost use Rattle.fib_core.specs.StandsFor.{Stands};
@@ -15,9 +15,10 @@ ghost use Rattle.fib_plane.specs.Sound.{IsPlane};
 ghost use Rattle.fib_queue.specs.Queues.{rank_in};
 ghost use Rattle.fib_queue.specs.declared.order.Queued.{Queued};
 ghost use Rattle.fib_joined.specs.Promise.{Promise};
+ghost use Rattle.fib_joined.specs.View.{View};
 ghost use Rattle.fib_shared.specs.Shares.{promise_of, view_of};
 ghost use Rattle.fib_stack.specs.Joined.{Joined, Parts, queued_in};
-ghost use Rattle.fib_quiet.specs.Rest.{IsAtRest, IsSeen};
+ghost use Rattle.fib_quiet.specs.Rest.{IsAtRest, IsBeginning, IsSeen};
 
 /// Once nothing is queued, deferred or retired, the plane's words stand for the tables: each ply, balance and adjacency that their size counts
 /// has a number and its words, and every other object is free.
@@ -64,4 +65,15 @@ pub fn so_does_the_first_change()
         → ((e : Prefix) → queued_in (record s { queue = queue }) e ≡ queued_in s e || is_touched S T e)
         → ((e : Prefix) (k : ℕ) → rank_in queue e ≡ Some k → k ≡ new e)
         → Joined T new (promise_of (board_begun q.board T)) (view_of q) (record s { queue = queue }) }
+{}
+
+/// Workers that leave and come home change neither versions nor the plane: what stands stays.
+pub fn so_do_workers()
+    ensures { (S : Tables) (rank : Prefix → ℕ) (p q : Promise) (v : View) (s : Parts) → Joined S rank p v s
+        → q.settled ≡ p.settled → q.applied ≡ p.applied → q.versions ≡ p.versions → Joined S rank q v s }
+{}
+
+/// A control begins so: with the entries that all tables have, at balances that drop, what stands between all stands of the fresh tables.
+pub fn what_begins_stands()
+    ensures { (rank : Prefix → ℕ) (p : Promise) (v : View) (s : Parts) → IsBeginning p v s → Joined fresh rank p v s }
 {}

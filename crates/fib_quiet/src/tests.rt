@@ -9,4 +9,6 @@ fn each_law() {
     laws::settling_keeps_what_stands();
     laws::a_change_keeps_what_stands();
     laws::so_does_the_first_change();
+    laws::so_do_workers();
+    laws::what_begins_stands();
 }
