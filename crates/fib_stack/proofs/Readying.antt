@@ -1,6 +1,6 @@
 -- What is made ready before the first put.
-use Rattle.std.proofs.Common.{◌≡◌, ℕ, ◌≤◌, inl, inr, true≢false, refl, sym, ap, ◌∙◌, subst, arith}
-use Rattle.std.specs.Prelude.{IfNone, IfSome, Option, Some, None}
+use Rattle.std.proofs.Common.{◌≡◌, IsErrAnd, ℕ, ◌<◌, ◌≤◌, inl, inr, true≢false, refl, sym, ap, ◌∙◌, subst, arith}
+use Rattle.std.specs.Prelude.{IfNone, IfSome, Option, Some, None, Result, Ok, Err}
 use native.Mathlib.Decide.{ℕ_discrete}
 use mathlib.Core.Logic.{dite}
 use Rattle.fib_addr.specs.Prefixes.{Prefix}
@@ -10,6 +10,7 @@ use Rattle.fib_joined.specs.Frames.{IsQuiet}
 use Rattle.fib_joined.specs.Promise.{Promise, Serves}
 use Rattle.fib_joined.specs.View.{View, HasRoom, IsBalance, IsPlane, IsTaken}
 use Rattle.fib_stack.specs.Records.{SameBalances, SamePlane}
+use Rattle.fib_stack.specs.declared.records.Want.{Want}
 use Rattle.fib_stack.specs.Turns.{GotObject}
 use Rattle.fib_stack.proofs.Clearing.{serves_still, take_serves}
 use Rattle.fib_stack.proofs.Leaving.{quiet_none, take_quiet}
@@ -92,3 +93,20 @@ maybe_serves p n u v (Some c) some none s = take_serves p n u v c some s
 pub none_same : (u v : View) (r : Option ℕ) → IfNone r (v ≡ u) → r ≡ None → v ≡ u
 none_same u v None h e = h
 none_same u v (Some c) h e = absurd (cc)
+
+pub none_short : (free : ℕ) (r : Option ℕ) → IfNone r (free < 8) → r ≡ None → free < 8
+none_short free None h e = h
+none_short free (Some c) h e = absurd (cc)
+
+-- an error that is handed on is the one that was answered
+abbrev pub failed_with : (A : Type 0) → Want → Result A Want
+failed_with A e = Err e
+
+want_in : {A : Type 0} → Want → Result A Want → Want
+want_in d (Ok x) = d
+want_in d (Err e) = e
+
+pub handed_on : (A B : Type 0) (r : Result A Want) (q : Result B Want) (e f : Want) → r ≡ failed_with A e → IsErrAnd q (λ y. y ≡ e) → q ≡ failed_with B f → r ≡ failed_with A f
+unfolding want_in
+handed_on A B r (Ok x) e f was same is = absurd same
+handed_on A B r (Err y) e f was same is = was ∙ ap (failed_with A) (sym same ∙ ap (want_in e) is)

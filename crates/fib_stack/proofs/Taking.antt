@@ -13,6 +13,7 @@ use Rattle.fib_joined.specs.Promise.{Promise, Serves}
 use Rattle.fib_joined.specs.View.{View, IsPlane}
 use Rattle.fib_stack.specs.Records.{TookAll, TookFor, record_for, records_for}
 use Rattle.fib_stack.specs.declared.records.Want.{Want}
+use Rattle.fib_stack.specs.declared.records.Want.TheVariants as wants
 use Rattle.fib_stack.proofs.Clearing.{took_serves}
 use Rattle.fib_stack.proofs.Leaving.{quiet_none, took_quiet}
 use Rattle.fib_stack.proofs.Listing.{took_next}
@@ -20,7 +21,15 @@ use Rattle.fib_stack.proofs.Listing.{took_next}
 -- what could not be had left all as it was
 pub failed_same : (u v : View) (o : Option AdjacencyRecord) (us vs : List Use) (e : Want) → TookFor u v o us vs (Err e) → (v ≡ u) × (vs ≡ us)
 failed_same u v None us vs e h = absurd h
-failed_same u v (Some m) us vs e h = h
+failed_same u v (Some m) us vs e h = (h.0, h.1)
+
+-- want of an object says that none is free
+pub failed_short : (u v : View) (o : Option AdjacencyRecord) (us vs : List Use) (e : Want) (r : Result Unit Want) → r ≡ Err e → TookFor u v o us vs r → e ≡ wants.Object → u.free ≡ 0
+failed_short u v o us vs e r is took = by_record o (subst (λ (q : Result Unit Want). TookFor u v o us vs q) is took)
+  where
+    by_record : (m : Option AdjacencyRecord) → TookFor u v m us vs (Err e) → e ≡ wants.Object → u.free ≡ 0
+    by_record None h = absurd h
+    by_record (Some m) h = h.2
 
 pub took_quietly : (u v : View) (o : Option AdjacencyRecord) (us vs : List Use) (r : Result Unit Want) → IsPlane u → IsPlane v → TookFor u v o us vs r → (look : Prefix → Option ℕ) → IsQuiet look u v
 took_quietly u v None us vs (Ok x) before plane h look = subst (λ (q : View). IsQuiet look u q) (sym h.0) (quiet_none look u)

@@ -12,6 +12,7 @@ use Rattle.fib_ledger.specs.Ledgers.{record_used, times}
 use Rattle.fib_serving.specs.Kept.{same_end}
 use Rattle.fib_joined.specs.View.{View, IsBalance, TookRecord}
 use Rattle.fib_stack.specs.declared.records.Want.{Want}
+use Rattle.fib_stack.specs.declared.records.Want.TheVariants as wants
 
 -- the record of the end, where it has one
 abbrev pub record_at : End → Option AdjacencyRecord
@@ -72,9 +73,9 @@ pub record SamePlane (u v : View) : Type 0 where
   pub stored : u.stored ≤ v.stored
   pub spare : u.spare ≤ v.spare
 
--- the record of an aim is taken, where there is one; what can't be had leaves all as it is
+-- the record of an aim is taken, where there is one; what can't be had leaves all as it is, and want of an object says that none is free
 abbrev pub TookFor : View → View → Option AdjacencyRecord → List Use → List Use → Result Unit Want → Type 0
 TookFor u v None old new (Ok x) = (v ≡ u) × (new ≡ old)
 TookFor u v None old new (Err e) = ⊥
 TookFor u v (Some m) old new (Ok x) = (o : ℕ) × TookRecord u v m o × (new ≡ old ++ (record { interface = m.interface; next_hop = m.next_hop; mac = m.mac; object = o }) ∷ [])
-TookFor u v (Some m) old new (Err e) = (v ≡ u) × (new ≡ old)
+TookFor u v (Some m) old new (Err e) = (v ≡ u) × (new ≡ old) × (e ≡ wants.Object → u.free ≡ 0)

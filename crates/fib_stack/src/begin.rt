@@ -1,10 +1,13 @@
 // A turn of an entry, up to its first put.
-ghost use Rattle.std.specs.Prelude.{◌≡◌, ◌≤◌, ℕ, true, IfOk, OnErr, OnOk, Option, length};
+ghost use Rattle.std.specs.Prelude.{◌≡◌, ◌+◌, ◌<◌, ◌≤◌, ℕ, true, IfOk, IsErrOf, OnErr, OnOk, Option, length};
 ghost use Rattle.fib_addr.specs.Prefixes.{Prefix as PrefixValue};
+ghost use Rattle.fib_resolve.specs.Aims.{marked_list};
 ghost use Rattle.fib_resolve.specs.declared.types.Tables.{Tables as TablesValue};
 ghost use Rattle.fib_changes.specs.Ranks.{has_entry};
 ghost use Rattle.fib_entries.specs.Known.{StandsFor, rank_of};
+ghost use Rattle.fib_steady.specs.Names.{Names};
 ghost use Rattle.fib_joined.specs.Frames.{IsQuiet};
+ghost use Rattle.fib_joined.specs.Promise.{Serves};
 ghost use Rattle.fib_stack.specs.Records.{SamePlane};
 ghost use Rattle.fib_stack.specs.Turns.{HasRoomFor, IsTurnOf, IsUnderway, parts_of};
 
@@ -17,7 +20,8 @@ use fib_joined::Objects;
 use fib_ply::PrefixTable;
 use fib_queue::Queue;
 
-/// Makes the turn of an entry ready. After a fault all is as before, but for the room and the count of stores.
+/// Makes the turn of an entry ready. After a fault all is as before, but for the room and the count of stores. `Object` comes only where fewer
+/// objects are free than the entry has paths and eight: its balance, and a ply for each group of four bits below the root.
 pub fn begin<P: Objects>(
     on: &mut P,
     stack: &mut Stack,
@@ -32,7 +36,9 @@ pub fn begin<P: Objects>(
     ensures room { IfOk result (λ plan. HasRoomFor (P.view on.new) stack.new table.new queue.new (length plan.uses.items) (length plan.woken.items)) }
     ensures parts { parts_of table.new stack.new queue.new ≡ parts_of table.old stack.old queue.old }
     ensures err { OnErr result (SamePlane (P.view on.old) (P.view on.new)) }
+    ensures short { (S : TablesValue) → StandsFor entries.now S → IsErrOf result Want.Object → (P.view on.old).free < 8 + length (marked_list S entry) }
     ensures quiet { (look : PrefixValue → Option ℕ) → IsQuiet look (P.view on.old) (P.view on.new) }
+    ensures serves { (n : Names) → Serves (P.promise on.old) n (P.view on.old) → Serves (P.promise on.old) n (P.view on.new) }
     ensures promise { P.promise on.new ≡ P.promise on.old }
 {
     let Ok(mut plan) = read(stack.late.allocator(), &stack.ledger, entries, entry) else {

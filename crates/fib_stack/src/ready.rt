@@ -116,11 +116,15 @@ pub fn make_room<P: Objects>(
     queue.reserve(alloc, woken)
 }
 
-/// The entry's balance, or one that is taken for it. For a new one the prefix table may need seven plies.
+/// What a new entry may take: its balance, and a ply for each group of four bits below the root.
+const NEEDED: u32 = 8;
+
+/// The entry's balance, or one that is taken for it, where there are objects for its plies too.
 pub fn object_for<P: Objects>(on: &mut P, table: &PrefixTable, entry: Prefix) -> Option<u32>
     requires { (o : ℕ) → object_in table.now entry ≡ Some o → IsBalance (P.view on.old) o }
     ensures some { IfSome result (GotObject (P.view on.old) (P.view on.new) (object_in table.now) entry) }
     ensures none { IfNone result (P.view on.new ≡ P.view on.old) }
+    ensures short { IfNone result ((P.view on.old).free < 8) }
     ensures quiet { (look : PrefixValue → Option ℕ) → IsQuiet look (P.view on.old) (P.view on.new) }
     ensures serves { (n : Names) → Serves (P.promise on.old) n (P.view on.old) → Serves (P.promise on.old) n (P.view on.new) }
     ensures promise { P.promise on.new ≡ P.promise on.old }
@@ -128,7 +132,7 @@ pub fn object_for<P: Objects>(on: &mut P, table: &PrefixTable, entry: Prefix) ->
     match table.object(entry) {
         Some(object) => Some(object),
         None => {
-            if on.free() < 8 {
+            if on.free() < NEEDED {
                 return None;
             }
             on.take(Kind::Balance)

@@ -1,5 +1,5 @@
 // Adjacency records, taken all or none, and given back.
-ghost use Rattle.std.specs.Prelude.{◌≡◌, ◌+◌, ◌-◌, ◌^◌, ◌<◌, ◌≤◌, ℕ, [], OnErr, OnOk, Option, Some, length, map, vec_capacity};
+ghost use Rattle.std.specs.Prelude.{◌≡◌, ◌+◌, ◌-◌, ◌^◌, ◌<◌, ◌≤◌, ℕ, [], IsErrOf, OnErr, OnOk, Option, Some, length, map, vec_capacity};
 ghost use Rattle.fib_addr.specs.Prefixes.{Prefix};
 ghost use Rattle.fib_pool.specs.declared.object.AdjacencyRecord.{AdjacencyRecord as Record};
 ghost use Rattle.fib_pool.specs.Records.{adjacency};
@@ -119,7 +119,7 @@ fn take_for<P: Objects>(on: &mut P, aim: Aim, uses: &mut Vec<Use>) -> Result<(),
 }
 
 /// Takes a user of each record at which a path ends, or of none: after a fault all is as it was, but for the count of stores. There must be
-/// room for them in the list, which must be empty.
+/// room for them in the list, which must be empty. `Object` comes only where fewer objects are free than there are paths.
 pub fn take_all<P: Objects>(on: &mut P, marks: &[Marked], uses: &mut Vec<Use>) -> Result<(), Want>
     requires none { uses.old.items ≡ [] }
     requires room { length marks.now ≤ vec_capacity uses.old }
@@ -128,6 +128,7 @@ pub fn take_all<P: Objects>(on: &mut P, marks: &[Marked], uses: &mut Vec<Use>) -
     ensures ok { OnOk result (TookAll (P.view on.old) (P.view on.new) uses.new.items) }
     ensures records { OnOk result (map record_used uses.new.items ≡ records_for marks.now) }
     ensures err { OnErr result (SamePlane (P.view on.old) (P.view on.new)) }
+    ensures short { IsErrOf result Want.Object → (P.view on.old).free < length marks.now }
     ensures quiet { (look : Prefix → Option ℕ) → IsQuiet look (P.view on.old) (P.view on.new) }
     ensures serves { (n : Names) → Serves (P.promise on.old) n (P.view on.old) → Serves (P.promise on.old) n (P.view on.new) }
     ensures promise { P.promise on.new ≡ P.promise on.old }

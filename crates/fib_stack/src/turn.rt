@@ -1,6 +1,7 @@
 // Turns.
-ghost use Rattle.std.specs.Prelude.{◌≡◌, ◌≤◌, ℕ, false, IfOk, OnErr, OnOk, Option};
+ghost use Rattle.std.specs.Prelude.{◌≡◌, ◌+◌, ◌<◌, ◌≤◌, ℕ, false, IfOk, IsErrOf, OnErr, OnOk, Option, length};
 ghost use Rattle.fib_addr.specs.Prefixes.{Prefix as PrefixValue};
+ghost use Rattle.fib_resolve.specs.Aims.{marked_list};
 ghost use Rattle.fib_resolve.specs.declared.types.Tables.{Tables as TablesValue};
 ghost use Rattle.fib_changes.specs.Ranks.{IsRanked, has_entry};
 ghost use Rattle.fib_ledger.specs.Deferred.{late_at, late_count};
@@ -58,11 +59,12 @@ fn restack<P: Objects>(
 ) -> Result<u32, Want>
     requires turn { (S : TablesValue) × StandsFor entries.now S × IsTurnOf S (rank_of entries.now.rows) (P.promise on.old) (P.view on.old) (parts_of table.old stack.old queue.old) entry }
     ensures turn { (S : TablesValue) → StandsFor entries.now S → IsTurnOf S (rank_of entries.now.rows) (P.promise on.old) (P.view on.old) (parts_of table.old stack.old queue.old) entry → OnOk result (IsRestacked S entry (state_in (P.view on.old) (parts_of table.old stack.old queue.old)) (state_in (P.view on.new) (parts_of table.new stack.new queue.new))) }
-    ensures joined { (S : TablesValue) → StandsFor entries.now S → IsTurnOf S (rank_of entries.now.rows) (P.promise on.old) (P.view on.old) (parts_of table.old stack.old queue.old) entry → OnOk result (Joined S (rank_of entries.now.rows) (P.promise on.old) (P.view on.new) (parts_of table.new stack.new queue.new)) }
+    ensures joined { (S : TablesValue) → StandsFor entries.now S → IsTurnOf S (rank_of entries.now.rows) (P.promise on.old) (P.view on.old) (parts_of table.old stack.old queue.old) entry → Joined S (rank_of entries.now.rows) (P.promise on.old) (P.view on.new) (parts_of table.new stack.new queue.new) }
     ensures count { IfOk result (λ n. n ≡ late_count (late_at stack.new.late.members entry) 16) }
     ensures stored { OnOk result ((P.view on.old).stored ≤ (P.view on.new).stored) }
     ensures err { OnErr result (SamePlane (P.view on.old) (P.view on.new)) }
     ensures parts { OnErr result (parts_of table.new stack.new queue.new ≡ parts_of table.old stack.old queue.old) }
+    ensures short { (S : TablesValue) → StandsFor entries.now S → IsErrOf result Want.Object → (P.view on.old).free < 8 + length (marked_list S entry) }
     ensures quiet { OnErr result ((look : PrefixValue → Option ℕ) → IsQuiet look (P.view on.old) (P.view on.new)) }
     ensures promise { P.promise on.new ≡ P.promise on.old }
 {
@@ -81,11 +83,12 @@ fn drop_out<P: Objects>(
     requires left { (S : TablesValue) × (rank : PrefixValue → ℕ) × IsRanked S rank × Joined S rank (P.promise on.old) (P.view on.old) (parts_of table.old stack.old queue.old) × IsLeast rank (state_in (P.view on.old) (parts_of table.old stack.old queue.old)) entry × (has_entry S entry ≡ false) }
     requires prefix { 1 ≤ entry.len }
     ensures turn { (S : TablesValue) (rank : PrefixValue → ℕ) → Joined S rank (P.promise on.old) (P.view on.old) (parts_of table.old stack.old queue.old) → OnOk result (Removed entry (state_in (P.view on.old) (parts_of table.old stack.old queue.old)) (state_in (P.view on.new) (parts_of table.new stack.new queue.new))) }
-    ensures joined { (S : TablesValue) (rank : PrefixValue → ℕ) → IsRanked S rank → Joined S rank (P.promise on.old) (P.view on.old) (parts_of table.old stack.old queue.old) → IsLeast rank (state_in (P.view on.old) (parts_of table.old stack.old queue.old)) entry → has_entry S entry ≡ false → OnOk result (Joined S rank (P.promise on.old) (P.view on.new) (parts_of table.new stack.new queue.new)) }
+    ensures joined { (S : TablesValue) (rank : PrefixValue → ℕ) → IsRanked S rank → Joined S rank (P.promise on.old) (P.view on.old) (parts_of table.old stack.old queue.old) → IsLeast rank (state_in (P.view on.old) (parts_of table.old stack.old queue.old)) entry → has_entry S entry ≡ false → Joined S rank (P.promise on.old) (P.view on.new) (parts_of table.new stack.new queue.new) }
     ensures count { IfOk result (λ n. n ≡ late_count (late_at stack.new.late.members entry) 16) }
     ensures stored { OnOk result ((P.view on.old).stored ≤ (P.view on.new).stored) }
     ensures err { OnErr result (SamePlane (P.view on.old) (P.view on.new)) }
     ensures parts { OnErr result (parts_of table.new stack.new queue.new ≡ parts_of table.old stack.old queue.old) }
+    ensures short { IsErrOf result Want.Object → ⊥ }
     ensures quiet { OnErr result ((look : PrefixValue → Option ℕ) → IsQuiet look (P.view on.old) (P.view on.new)) }
     ensures promise { P.promise on.new ≡ P.promise on.old }
 {
@@ -107,11 +110,12 @@ fn take<P: Objects>(
 ) -> Result<u32, Want>
     requires turn { (S : TablesValue) × StandsFor entries.now S × Joined S (rank_of entries.now.rows) (P.promise on.old) (P.view on.old) (parts_of table.old stack.old queue.old) × IsLeast (rank_of entries.now.rows) (state_in (P.view on.old) (parts_of table.old stack.old queue.old)) entry }
     ensures turn { (S : TablesValue) → StandsFor entries.now S → Joined S (rank_of entries.now.rows) (P.promise on.old) (P.view on.old) (parts_of table.old stack.old queue.old) → IsLeast (rank_of entries.now.rows) (state_in (P.view on.old) (parts_of table.old stack.old queue.old)) entry → OnOk result (IsTaken S (rank_of entries.now.rows) entry (state_in (P.view on.old) (parts_of table.old stack.old queue.old)) (state_in (P.view on.new) (parts_of table.new stack.new queue.new))) }
-    ensures joined { (S : TablesValue) → StandsFor entries.now S → Joined S (rank_of entries.now.rows) (P.promise on.old) (P.view on.old) (parts_of table.old stack.old queue.old) → IsLeast (rank_of entries.now.rows) (state_in (P.view on.old) (parts_of table.old stack.old queue.old)) entry → OnOk result (Joined S (rank_of entries.now.rows) (P.promise on.old) (P.view on.new) (parts_of table.new stack.new queue.new)) }
+    ensures joined { (S : TablesValue) → StandsFor entries.now S → Joined S (rank_of entries.now.rows) (P.promise on.old) (P.view on.old) (parts_of table.old stack.old queue.old) → IsLeast (rank_of entries.now.rows) (state_in (P.view on.old) (parts_of table.old stack.old queue.old)) entry → Joined S (rank_of entries.now.rows) (P.promise on.old) (P.view on.new) (parts_of table.new stack.new queue.new) }
     ensures count { IfOk result (λ n. n ≡ late_count (late_at stack.new.late.members entry) 16) }
     ensures stored { OnOk result ((P.view on.old).stored ≤ (P.view on.new).stored) }
     ensures err { OnErr result (SamePlane (P.view on.old) (P.view on.new)) }
     ensures parts { OnErr result (parts_of table.new stack.new queue.new ≡ parts_of table.old stack.old queue.old) }
+    ensures short { (S : TablesValue) → StandsFor entries.now S → IsErrOf result Want.Object → (P.view on.old).free < 8 + length (marked_list S entry) }
     ensures quiet { OnErr result ((look : PrefixValue → Option ℕ) → IsQuiet look (P.view on.old) (P.view on.new)) }
     ensures promise { P.promise on.new ≡ P.promise on.old }
 {
@@ -126,7 +130,8 @@ impl Stack {
     /// Takes the queued prefix of the least rank. An entry's balance gets its wanted buckets, and then it is added to the prefix table if it
     /// isn't there; a prefix that left the entries leaves the table, and its balance is let go.
     ///
-    /// After a fault the prefix is still queued and all is as before, but for the count of stores.
+    /// After a fault the prefix is still queued and all is as before, but for the count of stores. `Object` comes only where fewer objects are
+    /// free than the prefix has paths and eight: its balance, and a ply for each group of four bits below the root.
     pub fn turn<P: Objects>(
         &mut self,
         on: &mut P,
@@ -138,11 +143,12 @@ impl Stack {
         requires stands { StandsFor entries.now tables.now }
         requires joined { Joined tables.now (rank_of entries.now.rows) (P.promise on.old) (P.view on.old) (parts_of table.old self.old queue.old) }
         ensures turn { IfOk result (λ t. TurnDone tables.now (rank_of entries.now.rows) t (state_in (P.view on.old) (parts_of table.old self.old queue.old)) (state_in (P.view on.new) (parts_of table.new self.new queue.new))) }
-        ensures joined { OnOk result (Joined tables.now (rank_of entries.now.rows) (P.promise on.new) (P.view on.new) (parts_of table.new self.new queue.new)) }
+        ensures joined { Joined tables.now (rank_of entries.now.rows) (P.promise on.new) (P.view on.new) (parts_of table.new self.new queue.new) }
         ensures dropped { IfOk result (λ t. IsCounted t self.new.late.members) }
         ensures stores { IfOk result (λ t. IsStored t (P.view on.old).stored (P.view on.new).stored) }
         ensures err { OnErr result (SamePlane (P.view on.old) (P.view on.new)) }
         ensures parts { OnErr result (parts_of table.new self.new queue.new ≡ parts_of table.old self.old queue.old) }
+        ensures short { IsErrOf result Want.Object → (e : PrefixValue) × IsLeast (rank_of entries.now.rows) (state_in (P.view on.old) (parts_of table.old self.old queue.old)) e × ((P.view on.old).free < 8 + length (marked_list tables.now e)) }
         ensures quiet { OnErr result ((look : PrefixValue → Option ℕ) → IsQuiet look (P.view on.old) (P.view on.new)) }
         ensures promise { P.promise on.new ≡ P.promise on.old }
     {

@@ -1,4 +1,4 @@
-use Rattle.std.proofs.Common.{◌≡◌, ◌∙◌, ◌&&◌, ℕ, List, map, ap, inl, sym, subst, arith}
+use Rattle.std.proofs.Common.{◌≡◌, ◌∙◌, ◌&&◌, ℕ, List, length, map, ap, inl, sym, subst, arith}
 use Rattle.std.specs.Prelude.{Option, filter}
 use Rattle.fib_addr.specs.Prefixes.{Prefix}
 use Rattle.fib_resolve.specs.Aims.{marked_list}
@@ -15,6 +15,7 @@ use Rattle.fib_joined.specs.View.{View}
 use Rattle.fib_stack.specs.Joined.{Parts, balance_in, table_of, was_by}
 use Rattle.fib_stack.specs.Records.{GaveAll, records_for}
 use Rattle.fib_stack.specs.States.{forwards_by}
+use Rattle.fib_stack.specs.declared.records.Want.TheVariants as wants
 use Rattle.fib_stack.specs.Turns.{GotObject, IsTurnOf, IsUnderway, parts_of}
 use Rattle.fib_stack.specs.Waking.{are_among}
 use Rattle.fib_stack.specs.declared.stack.Plan.{Plan}
@@ -23,7 +24,7 @@ use Rattle.fib_stack.proofs.Finishing.{waits_of}
 use Rattle.fib_stack.proofs.Joining.{table_names}
 use Rattle.fib_stack.proofs.Leaving.{quiet_then}
 use Rattle.fib_stack.proofs.Listing.{same_after}
-use Rattle.fib_stack.proofs.Readying.{none_same, room_quiet, room_same, room_serves, same_then}
+use Rattle.fib_stack.proofs.Readying.{handed_on, none_same, none_short, room_quiet, room_same, room_serves, same_then}
 use Rattle.fib_stack.proofs.Taking.{uses_few}
 use Rattle.fib_stack.proofs.begin.begin.Goals as goal
 
@@ -121,3 +122,41 @@ returns-clause-underway g c = λ S st t.
     (subst (λ (x : Prefix). GotObject v2 v3 (balance_in s) x plan.object) (sym r.entry) (subst (λ (f : Prefix → Option ℕ). GotObject v2 v3 f e plan.object) balances c.in-Some.ensures.some))
     c.object_for.ensures.quiet
     (λ n. subst (λ (q : Promise). Serves q n v2 → Serves q n v3) (c.take_all.ensures.promise ∙ c.make_room.ensures.promise) (c.object_for.ensures.serves n)))
+
+pub returns-in_default-make_room-clause-serves : goal.returns-in_default-make_room-clause-serves
+returns-in_default-make_room-clause-serves g c = λ n. room_serves (g.P.Objects.promise c.args.on.now) n _ _ c.make_room.ensures.same
+
+pub returns-in_err-take_all-clause-serves : goal.returns-in_err-take_all-clause-serves
+returns-in_err-take_all-clause-serves g c = λ n h.
+    subst (λ (q : Promise). Serves q n (g.P.Objects.view c.make_room.new.on) → Serves q n (g.P.Objects.view c.take_all.new.on)) c.make_room.ensures.promise (c.take_all.ensures.serves n)
+    (room_serves (g.P.Objects.promise c.args.on.now) n _ (g.P.Objects.view c.make_room.new.on) c.make_room.ensures.same h)
+
+pub returns-in_err-take_all-clause-short : goal.returns-in_err-take_all-clause-short
+returns-in_err-take_all-clause-short g c = λ S st is.
+    let room = ap (λ (w : View). w.free) c.make_room.ensures.same.same in
+    let marks = ap length (c.marked-marks.ensures S st) in
+    let short = c.take_all.ensures.short (handed_on _ _ c.take_all.result c.from_residual.result _ wants.Object c.in_err-take_all.was c.from_residual.ensures.1 is) in
+    omega (arith, room, marks, short)
+
+pub returns-in_default-object_for-clause-serves : goal.returns-in_default-object_for-clause-serves
+returns-in_default-object_for-clause-serves g c = λ n h.
+    let p0 = c.make_room.ensures.promise in
+    let s1 = room_serves (g.P.Objects.promise c.args.on.now) n _ (g.P.Objects.view c.make_room.new.on) c.make_room.ensures.same h in
+    let s2 = subst (λ (q : Promise). Serves q n (g.P.Objects.view c.make_room.new.on) → Serves q n (g.P.Objects.view c.take_all.new.on)) p0 (c.take_all.ensures.serves n) s1 in
+    let s3 = subst (λ (q : Promise). Serves q n (g.P.Objects.view c.take_all.new.on) → Serves q n (g.P.Objects.view c.object_for.new.on)) (c.take_all.ensures.promise ∙ p0) (c.object_for.ensures.serves n) s2 in
+    subst (λ (q : Promise). Serves q n (g.P.Objects.view c.object_for.new.on) → Serves q n (g.P.Objects.view c.give_all.new.on)) (c.object_for.ensures.promise ∙ c.take_all.ensures.promise ∙ p0) (c.give_all.ensures.serves n) s3
+
+pub returns-in_default-object_for-clause-short : goal.returns-in_default-object_for-clause-short
+returns-in_default-object_for-clause-short g c = λ S st is.
+    let room = ap (λ (w : View). w.free) c.make_room.ensures.same.same in
+    let marks = ap length (c.marked-marks.ensures S st) in
+    let few = uses_few c.take_all.new.uses.items c.marked-marks.result.now c.in_ok-take_all.ensures.records in
+    let short = none_short (g.P.Objects.view c.take_all.new.on).free c.object_for.result c.object_for.ensures.short c.in_default-object_for.is in
+    omega (arith, room, marks, few, short, c.in_ok-take_all.ensures.ok.free)
+
+pub returns-clause-serves : goal.returns-clause-serves
+returns-clause-serves g c = λ n h.
+    let p0 = c.make_room.ensures.promise in
+    let s1 = room_serves (g.P.Objects.promise c.args.on.now) n _ (g.P.Objects.view c.make_room.new.on) c.make_room.ensures.same h in
+    let s2 = subst (λ (q : Promise). Serves q n (g.P.Objects.view c.make_room.new.on) → Serves q n (g.P.Objects.view c.take_all.new.on)) p0 (c.take_all.ensures.serves n) s1 in
+    subst (λ (q : Promise). Serves q n (g.P.Objects.view c.take_all.new.on) → Serves q n (g.P.Objects.view c.object_for.new.on)) (c.take_all.ensures.promise ∙ p0) (c.object_for.ensures.serves n) s2

@@ -1,11 +1,12 @@
-use Rattle.std.proofs.Common.{◌∙◌, ◌≤◌, List, refl, sym, subst, arith, rules}
+use Rattle.std.proofs.Common.{◌≡◌, ◌∙◌, ◌≤◌, List, refl, sym, subst, arith, rules}
 use Rattle.std.specs.Prelude.{Ok}
 use Rattle.fib_ledger.specs.declared.ledger.Use.{Use}
 use Rattle.fib_ledger.specs.Ledgers.{times}
 use Rattle.fib_stack.specs.Records.{AreObjects, GaveAll, TookAll, TookFor, record_for}
+use Rattle.fib_stack.specs.declared.records.Want.TheVariants as wants
 use Rattle.fib_stack.proofs.Leaving.{quiet_none, quiet_then}
 use Rattle.fib_stack.proofs.Listing.{took_none, times_length, enough_users, same_after}
-use Rattle.fib_stack.proofs.Taking.{failed_took, took_quietly, took_serving, took_step, records_next, few_step}
+use Rattle.fib_stack.proofs.Taking.{failed_short, failed_took, took_quietly, took_serving, took_step, records_next, few_step}
 use Rattle.fib_stack.proofs.records.take_all.Goals as goal
 
 pub loop-mark-init : goal.loop-mark-init
@@ -33,6 +34,13 @@ pub returns-in-Err-clause-err : goal.returns-in-Err-clause-err
 returns-in-Err-clause-err g c =
     same_after _ (g.P.Objects.view c.take_for.new.on) _ c.take_for.new.uses.items (g.met.P.Objects.sound c.args.on.now) (g.met.P.Objects.sound c.give_all.new.on) (failed_took (g.P.Objects.view c.args.on.now) (g.P.Objects.view c.loop-mark.on) (g.P.Objects.view c.take_for.new.on) (record_for c.mark-item.result.aim) c.loop-mark.uses.items c.take_for.new.uses.items c.in-Err.want c.take_for.result c.in-Err.is c.loop-mark.invariant.took c.take_for.ensures.took)
     (subst (λ (us : List Use). GaveAll (g.P.Objects.view c.take_for.new.on) (g.P.Objects.view c.give_all.new.on) us) c.as_slice.ensures.value c.give_all.ensures.gave)
+
+pub returns-in-Err-clause-short : goal.returns-in-Err-clause-short
+returns-in-Err-clause-short g c = λ is.
+    let i = c.loop-mark.invariant in
+    let e : c.in-Err.want ≡ wants.Object = cc in
+    let none = failed_short (g.P.Objects.view c.loop-mark.on) (g.P.Objects.view c.take_for.new.on) (record_for c.mark-item.result.aim) c.loop-mark.uses.items c.take_for.new.uses.items c.in-Err.want c.take_for.result c.in-Err.is c.take_for.ensures.took e in
+    omega (arith, none, i.took.free, i.few, c.loop-mark-test.true)
 
 pub returns-in-Err-clause-quiet : goal.returns-in-Err-clause-quiet
 returns-in-Err-clause-quiet g c = λ look.

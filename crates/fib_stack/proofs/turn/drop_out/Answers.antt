@@ -56,3 +56,10 @@ returns-in_default-clause-err g c = room_same _ _ c.room_for.ensures.same
 
 pub returns-in_default-clause-quiet : goal.returns-in_default-clause-quiet
 returns-in_default-clause-quiet g c = room_quiet _ _ c.room_for.ensures.same
+
+pub returns-in_default-clause-joined : goal.returns-in_default-clause-joined
+returns-in_default-clause-joined g c = λ S rank ranked j least left.
+    let s = parts_of c.args.table.now c.args.stack.now c.args.queue.now in
+    let u = g.P.Objects.view c.args.on.now in
+    let v = g.P.Objects.view c.room_for.new.on in
+    moved_joined S rank (g.P.Objects.promise c.args.on.now) u v s j (room_moved _ u v c.room_for.ensures.same) (g.met.P.Objects.sound c.room_for.new.on) (λ d r. times_within c.args.stack.now.ledger.rows d r)

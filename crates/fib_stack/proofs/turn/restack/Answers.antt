@@ -2,8 +2,12 @@ use Rattle.std.proofs.Common.{sym, subst, arith}
 use Rattle.fib_addr.specs.Prefixes.{Prefix}
 use Rattle.fib_entries.specs.Known.{rank_of}
 use Rattle.fib_joined.specs.Promise.{Promise}
+use Rattle.fib_ledger.proofs.Books.{times_within}
 use Rattle.fib_stack.specs.Joined.{Joined, Parts, state_in}
+use Rattle.fib_stack.specs.declared.records.Want.TheVariants as wants
 use Rattle.fib_stack.specs.Turns.{IsRestacked, IsUnderway, parts_of}
+use Rattle.fib_stack.proofs.Moving.{moved_joined, same_moved}
+use Rattle.fib_stack.proofs.Readying.{handed_on}
 use Rattle.fib_stack.proofs.turn.restack.Goals as goal
 
 pub finish-requires-clause-underway : goal.finish-requires-clause-underway
@@ -37,3 +41,16 @@ returns-clause-stored g c =
     let t = c.requires.turn in
     let h = c.in_ok-plan.ensures.underway t.0 t.1 t.2 in
     omega (arith, h.readied.stored, c.finish.ensures.stored)
+
+pub returns-in_err-plan-clause-joined : goal.returns-in_err-plan-clause-joined
+returns-in_err-plan-clause-joined g c = λ S st t.
+    let rank = rank_of c.args.entries.now.rows in
+    let p = g.P.Objects.promise c.args.on.now in
+    let u = g.P.Objects.view c.args.on.now in
+    let v = g.P.Objects.view c.begin.new.on in
+    let s = parts_of c.args.table.now c.args.stack.now c.args.queue.now in
+    subst (λ (q : Parts). Joined S rank p v q) (sym c.begin.ensures.parts)
+    (moved_joined S rank p u v s t.joined (same_moved p u v c.in_err-plan.ensures.err c.begin.ensures.quiet c.begin.ensures.serves) (g.met.P.Objects.sound c.begin.new.on) (λ d r. times_within c.args.stack.now.ledger.rows d r))
+
+pub returns-in_err-plan-clause-short : goal.returns-in_err-plan-clause-short
+returns-in_err-plan-clause-short g c = λ S st is. c.begin.ensures.short S st (handed_on _ _ c.begin.result c.from_residual.result _ wants.Object c.in_err-plan.was c.from_residual.ensures.1 is)

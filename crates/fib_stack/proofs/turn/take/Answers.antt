@@ -34,3 +34,6 @@ returns-clause-turn g c = λ S st j least. on_ok c.drop_out.result
 
 pub returns-clause-joined : goal.returns-clause-joined
 returns-clause-joined g c = λ S st j least. c.drop_out.ensures.joined S (rank_of c.args.entries.now.rows) (ranked S (rank_of c.args.entries.now.rows) st.falls) j least (sym (c.is_entry.ensures S st) ∙ c.if-is_entry.false)
+
+pub returns-clause-short : goal.returns-clause-short
+returns-clause-short g c = λ S st is. absurd (c.drop_out.ensures.short is)

@@ -3,7 +3,9 @@ use Rattle.fib_entries.specs.Known.{rank_of}
 use Rattle.fib_joined.specs.Promise.{Promise}
 use Rattle.fib_ply.proofs.Tables.{wraps}
 use Rattle.fib_stack.specs.Joined.{Joined}
+use Rattle.fib_stack.specs.declared.records.Want.TheVariants as wants
 use Rattle.fib_stack.specs.Turns.{parts_of}
+use Rattle.fib_stack.proofs.Readying.{handed_on}
 use Rattle.fib_stack.proofs.Turning.{least_of, none_queued}
 use Rattle.fib_stack.proofs.stack.Stack.turn.Goals as goal
 
@@ -20,9 +22,18 @@ returns-clause-turn g c = c.in_ok-dropped.ensures.turn c.args.tables.now c.requi
 pub returns-clause-joined : goal.returns-clause-joined
 returns-clause-joined g c =
     subst (λ (p : Promise). Joined c.args.tables.now (rank_of c.args.entries.now.rows) p (g.P.Objects.view c.take.new.on) (parts_of c.take.new.table c.take.new.stack c.take.new.queue)) (sym c.take.ensures.promise)
-    (c.in_ok-dropped.ensures.joined c.args.tables.now c.requires.stands c.requires.joined (least_of c.args.tables.now (rank_of c.args.entries.now.rows) _ _ _ c.in-Some.next c.requires.joined c.in-Some.ensures.least))
+    (c.take.ensures.joined c.args.tables.now c.requires.stands c.requires.joined (least_of c.args.tables.now (rank_of c.args.entries.now.rows) _ _ _ c.in-Some.next c.requires.joined c.in-Some.ensures.least))
 
 pub returns-clause-stores : goal.returns-clause-stores
 returns-clause-stores g c =
     let le = c.in_ok-dropped.ensures.stored in
     (le, wraps (g.P.Objects.view c.args.on.now).stored (g.P.Objects.view c.take.new.on).stored c.stored-before.result c.stored.result le c.stored-before.ensures c.stored.ensures)
+
+pub returns-in_err-dropped-clause-joined : goal.returns-in_err-dropped-clause-joined
+returns-in_err-dropped-clause-joined g c =
+    subst (λ (p : Promise). Joined c.args.tables.now (rank_of c.args.entries.now.rows) p (g.P.Objects.view c.take.new.on) (parts_of c.take.new.table c.take.new.stack c.take.new.queue)) (sym c.take.ensures.promise)
+    (c.take.ensures.joined c.args.tables.now c.requires.stands c.requires.joined (least_of c.args.tables.now (rank_of c.args.entries.now.rows) _ _ _ c.in-Some.next c.requires.joined c.in-Some.ensures.least))
+
+pub returns-in_err-dropped-clause-short : goal.returns-in_err-dropped-clause-short
+returns-in_err-dropped-clause-short g c = λ is.
+    (c.in-Some.next.prefix, least_of c.args.tables.now (rank_of c.args.entries.now.rows) _ _ _ c.in-Some.next c.requires.joined c.in-Some.ensures.least, c.take.ensures.short c.args.tables.now c.requires.stands (handed_on _ _ c.take.result c.from_residual.result _ wants.Object c.in_err-dropped.was c.from_residual.ensures.1 is))
