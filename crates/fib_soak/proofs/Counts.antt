@@ -9,12 +9,12 @@ unfolding flows
 length-flows zero x = refl
 length-flows (suc n) x = omega (arith, length-append (flows n x) (flow_at (repeated after_4 n x) ∷ []), length-flows n x)
 
-length-lines_for : (f : ℕ → List ℕ) (n : ℕ) → length (lines_for f n) ≡ n
+pub length-lines_for : (f : ℕ → List ℕ) (n : ℕ) → length (lines_for f n) ≡ n
 unfolding lines_for
 length-lines_for f zero = refl
 length-lines_for f (suc n) = omega (arith, length-append (lines_for f n) (f n ∷ []), length-lines_for f n)
 
-length-interfaces : (n : ℕ) → length (interfaces n) ≡ 3 * n
+pub length-interfaces : (n : ℕ) → length (interfaces n) ≡ 3 * n
 unfolding interfaces
 length-interfaces zero = refl
 length-interfaces (suc n) = omega (arith, length-append (interfaces n) (interface_lines n), length-interfaces n)

@@ -1,3 +1,4 @@
 pub mod Draws
 pub mod Flows
+pub mod Kinds
 pub mod Scripts

@@ -15,6 +15,8 @@ fn sum_on(start: u32, bytes: &[u8]) -> u32 {
 #[test]
 fn scripts_of_three_seeds(rt: HostRuntime) -> Result<(), Fail> {
     laws::script_has_2988_lines();
+    laws::script_is_read_back();
+    laws::lines_are_changes();
     for (seed, length, sum) in [
         (1, 123_679, 472_771_334),
         (7, 123_638, 1_759_419_548),
