@@ -42,7 +42,7 @@ module _ (p : Plane) (b : Board) (told : sound.IsPlane p) (fresh : IsFresh b) (i
   }) (λ x s bal lt. subst IsBucketWord (sym (cell_is p.board x s lt ∙ (ap (λ (u : Union). decoded (slice_index u.cells (16 * x + s))) union_is ∙ (ap decoded (zeros (16 * b.objects) (16 * x + s)) ∙ decoded-zero)))) tt)
 
 -- and no adjacency
-none_free : (n o : ℕ) → at (replicate n None) o ≡ None
+pub none_free : (n o : ℕ) → at (replicate n None) o ≡ None
 none_free n o = elim (cases_lt o n) [
   | inl lt ↦ get_or-replicate n o None None lt
   | inr ge ↦ get_or_past (replicate n None) o None (let l : length (replicate {A = Option Object} n None) ≡ n = length-replicate n None in omega (arith, l, ge))
