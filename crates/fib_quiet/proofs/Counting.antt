@@ -150,10 +150,10 @@ same_number S names objects apart there found =
     let long : length numbers ≡ size S = length-map (things S) names ∙ things_long S in
     let taken : List ℕ = taken_from 0 objects in
     let up : length numbers ≤ length taken = length-le_from_differ numbers taken (differ_map names (IsCounted S) apart (things S) all (things_differ S))
-        (each-map (Contains taken) names (things S) (each-weaker (IsCounted S) (λ t. Contains taken (names t)) (λ t c. let x = there t c in subst (Contains taken) (let e : 0 + names t ≡ names t = omega arith in e) (taken_in 0 (names t) objects x.0 x.1)) (things S) all)) in
+    (each-map (Contains taken) names (things S) (each-weaker (IsCounted S) (λ t. Contains taken (names t)) (λ t c. let x = there t c in subst (Contains taken) (let e : 0 + names t ≡ names t = omega arith in e) (taken_in 0 (names t) objects x.0 x.1)) (things S) all)) in
     let down : length taken ≤ length numbers = length-le_from_differ taken numbers (taken_differ 0 objects)
-        (each-weaker (λ o. (x : Object) × (at objects (o - 0) ≡ Some x)) (Contains numbers) (λ o x.
-        let is : at objects o ≡ Some x.0 = ap (at objects) (let e : o ≡ o - 0 = omega arith in e) ∙ x.1 in
-        let t = found o x.0 is in subst (Contains numbers) t.2 (map_at names (things S) t.0 (thing_in S t.0 t.1))) taken (taken_is 0 objects)) in
+    (each-weaker (λ o. (x : Object) × (at objects (o - 0) ≡ Some x)) (Contains numbers) (λ o x.
+    let is : at objects o ≡ Some x.0 = ap (at objects) (let e : o ≡ o - 0 = omega arith in e) ∙ x.1 in
+    let t = found o x.0 is in subst (Contains numbers) t.2 (map_at names (things S) t.0 (thing_in S t.0 t.1))) taken (taken_is 0 objects)) in
     let total = taken_long 0 objects in
     omega (arith, long, up, down, total)

@@ -97,9 +97,14 @@ module _ (S : Tables) (p : Promise) (t : Table) (u : View) (st : Stands p t u) (
       let b : ℕ = e.bits / 2 ^ (32 - e.len) in
       let l : 4 * k + j + 1 ≡ e.len = omega (arith, lt) in
       let shifts : 32 - e.len + (j + 1) ≡ 32 - 4 * k = omega (arith, lt, short) in
-      let bits : b * 2 ^ (32 - e.len) ≡ e.bits = whole_is e.bits (2 ^ (32 - e.len)) is.cleared in
-      (j, b, o.0, omega (arith, l, short), shr-shr e.bits (32 - e.len) (j + 1) ∙ ap (λ i. e.bits / 2 ^ i) shifts,
-      ap (λ i. look i b) l ∙ ap (λ i. held t.rows.members (record { bits = i; len = e.len })) bits ∙ o.1)
+      let bits : b * 2 ^ (32 - e.len) ≡ e.bits = whole_is e.bits (2 ^ (32 - e.len)) is.cleared in (
+        j,
+        b,
+        o.0,
+        omega (arith, l, short),
+        shr-shr e.bits (32 - e.len) (j + 1) ∙ ap (λ i. e.bits / 2 ^ i) shifts,
+        ap (λ i. look i b) l ∙ ap (λ i. held t.rows.members (record { bits = i; len = e.len })) bits ∙ o.1,
+      )
 
   root_ply : (q : Prefix) → q.len ≡ 0 → q.bits ≡ 0 → IsPly n q
   root_ply q l b =

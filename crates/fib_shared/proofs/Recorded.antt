@@ -22,15 +22,15 @@ pub counted_seen : (p : Plane) → sound.IsPlane p → AreRecorded p → (o : �
 counted_seen p told all o counted = elim (cases_eq o 0) [
   | inl root ↦ inl root
   | inr other ↦ elim (cases_lt (into (union_of p.board) o) (count_of p.objects o)) [
-      | inl held ↦ elim (either (is_adjacency_at (at p.objects o))) [
-          | inl adjacency ↦ by_row (kept_of p.records o) refl (all o adjacency held)
-          | inr not_one ↦ inr (inl (
-              ap (λ (t : Bool). not t && (ltb (into (union_of p.board) o) (count_of p.objects o) && not (is_adjacency_at (at p.objects o)))) (ne_eqb o 0 other)
-              ∙ ap (λ (t : Bool). t && not (is_adjacency_at (at p.objects o))) (lt-ltb (into (union_of p.board) o) (count_of p.objects o) held)
-              ∙ ap not not_one))
-        ]
-      | inr led ↦ inr (inr (inr (into_up p told o (omega (arith, led, counted)))))
+    | inl held ↦ elim (either (is_adjacency_at (at p.objects o))) [
+      | inl adjacency ↦ by_row (kept_of p.records o) refl (all o adjacency held)
+      | inr not_one ↦ inr (inl (
+          ap (λ (t : Bool). not t && (ltb (into (union_of p.board) o) (count_of p.objects o) && not (is_adjacency_at (at p.objects o)))) (ne_eqb o 0 other)
+          ∙ ap (λ (t : Bool). t && not (is_adjacency_at (at p.objects o))) (lt-ltb (into (union_of p.board) o) (count_of p.objects o) held)
+          ∙ ap not not_one))
     ]
+    | inr led ↦ inr (inr (inr (into_up p told o (omega (arith, led, counted)))))
+  ]
 ]
   where
     by_row : (e : Option (Kept AdjacencyRecord)) → kept_of p.records o ≡ e → is_some (kept_of p.records o) ≡ true → IsLive (view_of p) o

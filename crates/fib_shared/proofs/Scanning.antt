@@ -111,8 +111,8 @@ module _ (p q : Plane) (told : sound.IsPlane p) (after : sound.IsPlane q) (s : p
 
   pub scanned_recorded : AreRecorded p → AreRecorded q
   scanned_recorded all = recorded_by p q all (λ y is h. (
-    let d = swept_adjacencies mid q s.swept after size long drops y is h in
-    (sym (adjacency_kept p.objects s.mid s.counted.size s.counted.none s.counted.kinds y) ∙ d.0, (let e = s.counted.counts y in omega (arith, e, d.1))))) s.records
+      let d = swept_adjacencies mid q s.swept after size long drops y is h in
+      (sym (adjacency_kept p.objects s.mid s.counted.size s.counted.none s.counted.kinds y) ∙ d.0, (let e = s.counted.counts y in omega (arith, e, d.1))))) s.records
 
   pub scanned_promise : promise_of q.board ≡ promise_of p.board
   scanned_promise = ap promise_of s.swept.frame ∙ ap promise_of frame

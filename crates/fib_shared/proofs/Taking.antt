@@ -131,10 +131,10 @@ module _ (p q : Plane) (kind : Kind) (c : ℕ) (other : kind ≡ kinds.Adjacency
 
   pub taken_recorded : AreRecorded p → AreRecorded q
   taken_recorded all = recorded_by p q all (λ y is h. (
-    let ne : y ≢ c = (λ same. true≢false (sym is ∙ ap (λ (i : ℕ). is_adjacency_at (at q.objects i)) same ∙ ap is_adjacency_at at_c ∙ no_adjacency kind other)) in
-    let n : count_of q.objects y ≡ count_of p.objects y = ap count_in (at_else y ne) in
-    let z : into (union_of q.board) y ≡ into (union_of p.board) y = ap (λ (b : Board). into (union_of b) y) board in
-    (ap is_adjacency_at (sym (at_else y ne)) ∙ is, omega (arith, n, z, h)))) records
+      let ne : y ≢ c = (λ same. true≢false (sym is ∙ ap (λ (i : ℕ). is_adjacency_at (at q.objects i)) same ∙ ap is_adjacency_at at_c ∙ no_adjacency kind other)) in
+      let n : count_of q.objects y ≡ count_of p.objects y = ap count_in (at_else y ne) in
+      let z : into (union_of q.board) y ≡ into (union_of p.board) y = ap (λ (b : Board). into (union_of b) y) board in
+      (ap is_adjacency_at (sym (at_else y ne)) ∙ is, omega (arith, n, z, h)))) records
 
 -- a hold ends
 module _ (p q : Plane) (c : ℕ) (told : sound.IsPlane p) (after : sound.IsPlane q) (held : (view_of p).is_held c ≡ true) (s : plane.IsSwept p.board q.board (released p c) q.objects) (records : q.records ≡ p.records) (spare : p.spare ≤ q.spare) where
@@ -207,14 +207,16 @@ module _ (p q : Plane) (c : ℕ) (told : sound.IsPlane p) (after : sound.IsPlane
 
   pub gone_recorded : AreRecorded p → AreRecorded q
   gone_recorded all = recorded_by p q all (λ y is h. (
-    let d = swept_adjacencies mid q s after size long drops y is h in
-    (sym (adjacency_kept p.objects mid.objects mid_size mid_none mid_kinds y) ∙ d.0, elim (cases_eq y c) [
-      | inl same ↦ absurd (let e = count_same p.objects c (count_of p.objects c - 1) there.0 there.1 in
-          let n : count_of mid.objects y ≡ count_of mid.objects c = ap (count_of mid.objects) same in
-          let i : into (union_of p.board) y ≡ into (union_of p.board) c = ap (into (union_of p.board)) same in
-          let m = (told.counted c).most in omega (arith, e, n, i, m, d.1))
-      | inr ne ↦ (let n : count_of mid.objects y ≡ count_of p.objects y = ap count_in (at_other p.objects c (count_of p.objects c - 1) there.0 there.1 y ne) in omega (arith, n, d.1))
-    ]))) records
+      let d = swept_adjacencies mid q s after size long drops y is h in (
+        sym (adjacency_kept p.objects mid.objects mid_size mid_none mid_kinds y) ∙ d.0,
+        elim (cases_eq y c) [
+          | inl same ↦ absurd (let e = count_same p.objects c (count_of p.objects c - 1) there.0 there.1 in
+              let n : count_of mid.objects y ≡ count_of mid.objects c = ap (count_of mid.objects) same in
+              let i : into (union_of p.board) y ≡ into (union_of p.board) c = ap (into (union_of p.board)) same in
+              let m = (told.counted c).most in omega (arith, e, n, i, m, d.1))
+          | inr ne ↦ (let n : count_of mid.objects y ≡ count_of p.objects y = ap count_in (at_other p.objects c (count_of p.objects c - 1) there.0 there.1 y ne) in omega (arith, n, d.1))
+        ],
+      ))) records
 
 -- another object stays held, and what was taken as a ply or a balance has no record
 pub held_released : (p : Plane) (c : ℕ) → (view_of p).is_held c ≡ true → (o : ℕ) → (o ≡ c → ⊥) → (view_of p).is_held o ≡ true → IsHeld p.board (released p c) o

@@ -310,8 +310,11 @@ module _ (S : Tables) (rank : Prefix → ℕ) (p : Promise) (v0 v2 v3 v4 v5 : Vi
       own_before {x} b =
           let w = laid.owned x b in
           dite (prefix_discrete w.0 e)
-          (λ is. (e, d.balance ∙ ⊎_elim
-          (λ (h : balance_in s e ≡ Some o). sym h ∙ ap (balance_in s) (sym is) ∙ w.1)
-          (λ (h : (balance_in s e ≡ None) × (IsBalance v0 o → ⊥)). absurd (let bad : None ≡ Some x = sym h.0 ∙ ap (balance_in s) (sym is) ∙ w.1 in cc))
-          r.which))
+          (λ is. (
+            e,
+            d.balance ∙ ⊎_elim
+                (λ (h : balance_in s e ≡ Some o). sym h ∙ ap (balance_in s) (sym is) ∙ w.1)
+                (λ (h : (balance_in s e ≡ None) × (IsBalance v0 o → ⊥)). absurd (let bad : None ≡ Some x = sym h.0 ∙ ap (balance_in s) (sym is) ∙ w.1 in cc))
+                r.which,
+          ))
           (λ ne. (w.0, d.others_balance w.0 ne ∙ w.1))

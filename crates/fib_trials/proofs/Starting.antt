@@ -30,7 +30,7 @@ none_held : (p : Plane) (n : ℕ) → p.objects ≡ fresh_objects n → (x : ℕ
 none_held p n is x h =
     let d = held_down p.board p.objects x h in
     let none : count_of p.objects x ≡ 0 = ap (λ (xs : List (Option Object)). count_of xs x) is
-        ∙ ap count_in (get_or-set_other (replicate n None) 0 x (as_new kinds.Ply) None d.0 ∙ none_free n x) in
+    ∙ ap count_in (get_or-set_other (replicate n None) 0 x (as_new kinds.Ply) None d.0 ∙ none_free n x) in
     let more : into (union_of p.board) x < count_of p.objects x = d.1 in
     let bad : ⊥ = omega arith in
     bad
