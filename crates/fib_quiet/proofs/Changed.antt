@@ -1,17 +1,16 @@
 -- A version more: what stands between all stays, once what the change touches is queued.
-use Rattle.std.proofs.Common.{◌≡◌, ℕ, zero, suc, ◌+◌, ◌<◌, ◌≤◌, ◌||◌, inl, inr, Bool, true, List, [], ◌∷◌, ◌++◌, refl, sym, ap, ◌∙◌, subst, arith}
+use Rattle.std.proofs.Common.{◌≡◌, ℕ, zero, suc, ◌<◌, ◌||◌, inl, true, List, [], ◌∷◌, ◌++◌, refl, sym, ap, ◌∙◌, subst, arith}
 use Rattle.std.specs.Prelude.{Option, Some, None, Contains, nat_lt, if◌then◌else◌}
 use Rattle.std.proofs.lemmas.Bool.Decides.{nat_tests}
 use Rattle.fib_addr.specs.Prefixes.{Prefix}
 use Rattle.fib_resolve.specs.Tables.{IsSound}
 use Rattle.fib_resolve.specs.Touched.{is_touched}
 use Rattle.fib_resolve.specs.declared.types.Tables.{Tables}
-use Rattle.fib_steady.specs.Aims.{BestAlike, IsLasting}
 use Rattle.fib_queue.specs.Queues.{rank_in}
 use Rattle.fib_queue.specs.declared.order.Queued.{Queued}
 use Rattle.fib_serving.specs.Matches.{FitsVersions, Promised, look_of, promised_by}
 use Rattle.fib_serving.proofs.Answers.{promised_from, promised_to}
-use Rattle.fib_joined.specs.Promise.{IsBegun, KeepsBuckets, Promise}
+use Rattle.fib_joined.specs.Promise.{IsBegun, Promise}
 use Rattle.fib_joined.specs.View.{View}
 use Rattle.fib_ply.specs.Tables.{Stands, watch_of}
 use Rattle.fib_ply.specs.inner.Served.{IsKept, Wanted}

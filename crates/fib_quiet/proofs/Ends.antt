@@ -1,7 +1,7 @@
 -- Balances and adjacencies at rest: their cells say what the tables want.
-use Rattle.std.proofs.Common.{◌≡◌, ℕ, zero, suc, ◌<◌, ◌≤◌, inl, inr, ⊎_elim, Bool, true, false, ◌&&◌, ◌||◌, List, [], ◌∷◌, map, eq-eqb, refl, sym, ap, ◌∙◌, subst, arith}
+use Rattle.std.proofs.Common.{◌≡◌, ℕ, zero, suc, ◌<◌, Bool, true, false, [], ◌∷◌, map, refl, sym, ap, ◌∙◌}
 use Rattle.std.specs.Prelude.{Option, Some, None, Contains, ◌==◌, flat_map, slice_get, if◌then◌else◌}
-use Rattle.std.specs.List.{AllByRecursion, list_any}
+use Rattle.std.specs.List.{AllByRecursion}
 use Rattle.std.proofs.lemmas.List.Elements.{All-contains, All-from_recursion}
 use Rattle.fib_list.proofs.Lists.{each-weaker, each-flat_map}
 use Rattle.fib_addr.specs.Prefixes.{Prefix, host}
@@ -11,9 +11,7 @@ use Rattle.fib_resolve.specs.Pairs.{chosen, cover, entries}
 use Rattle.fib_resolve.specs.Resolution.{hop_end, mac_of}
 use Rattle.fib_resolve.specs.Sizes.{adjacencies, adjacencies_of, kind_adjacency, same_adjacency}
 use Rattle.fib_resolve.specs.declared.aims.Aim.TheVariants as aims
-use Rattle.fib_resolve.specs.declared.aims.Marked.{Marked}
 use Rattle.fib_resolve.specs.declared.pairs.Adjacency.{Adjacency}
-use Rattle.fib_resolve.specs.declared.types.End.{End}
 use Rattle.fib_resolve.specs.declared.types.End.TheVariants as answers
 use Rattle.fib_resolve.specs.declared.types.Path.{Path}
 use Rattle.fib_resolve.specs.declared.types.PathKind.{PathKind}
@@ -27,11 +25,10 @@ use Rattle.fib_core.specs.StandsFor.{Thing, balance_of, adjacency_of, adjacency_
 use Rattle.fib_core.specs.declared.word.Word.TheVariants as words
 use Rattle.fib_pool.specs.declared.object.AdjacencyRecord.{AdjacencyRecord}
 use Rattle.fib_plane.specs.Sound.{record_word}
-use Rattle.fib_serving.specs.Kept.{same_end}
 use Rattle.fib_serving.specs.Stack.{Objects, aim_word, is_some, to_adjacency, to_balance}
 use Rattle.fib_stands.proofs.Nibbles.{map_at}
 use Rattle.fib_joined.specs.Promise.{Promise}
-use Rattle.fib_joined.specs.View.{View, IsBalance}
+use Rattle.fib_joined.specs.View.{View}
 use Rattle.fib_ply.specs.inner.Served.{Paths}
 use Rattle.fib_stack.specs.Buckets.{recorded}
 use Rattle.fib_stack.specs.Joined.{Parts, balance_in, holds_by, state_in}

@@ -1,5 +1,5 @@
 -- What begins stands joined: all that the fresh tables want drops.
-use Rattle.std.proofs.Common.{◌≡◌, ℕ, ◌<◌, ◌≤◌, inl, inr, ⊎_elim, Bool, true, false, true≢false, ◌&&◌, ◌||◌, List, [], ◌∷◌, map, refl, sym, ap, ◌∙◌, subst, arith}
+use Rattle.std.proofs.Common.{◌≡◌, ℕ, ⊎_elim, Bool, true, false, true≢false, ◌&&◌, List, refl, sym, ap, ◌∙◌, subst, arith}
 use Rattle.std.specs.Prelude.{Option, Some, None, Contains, IfSome}
 use Rattle.std.specs.List.{AllByRecursion, list_any}
 use Rattle.std.proofs.lemmas.List.Elements.{All-contains, All-from_recursion}
@@ -20,7 +20,6 @@ use Rattle.fib_resolve.proofs.PairLaws.{best_has, each-unique}
 use Rattle.fib_changes.specs.Ranks.{is_aimed_at, is_usable_mark, leads_on}
 use Rattle.fib_changes.specs.Wanted.{aim_by}
 use Rattle.fib_changes.proofs.CauseLaws.{any_from}
-use Rattle.fib_core.specs.declared.word.Word.{Word}
 use Rattle.fib_core.specs.declared.word.Word.TheVariants as words
 use Rattle.fib_ledger.specs.declared.ledger.Known.{Known}
 use Rattle.fib_ledger.specs.declared.late.Late.{Late}

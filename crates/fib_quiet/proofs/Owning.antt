@@ -1,5 +1,5 @@
 -- At rest each object in use is the root, held, or a record's.
-use Rattle.std.proofs.Common.{◌≡◌, ℕ, zero, suc, ◌+◌, ◌<◌, ◌≤◌, ◌⊎◌, inl, inr, ⊎_elim, Bool, true, false, List, [], length, refl, sym, ap, ◌∙◌, subst, arith}
+use Rattle.std.proofs.Common.{◌≡◌, ℕ, zero, suc, ◌+◌, ◌<◌, ◌⊎◌, inl, inr, Bool, true, false, List, refl, sym, ◌∙◌, subst, arith}
 use Rattle.std.specs.Prelude.{Option, Some, None, Contains}
 use Rattle.std.specs.List.{range_with_len}
 use Rattle.std.proofs.lemmas.List.FromFn.{get_or-range_with_len, length-range_with_len}
@@ -15,7 +15,7 @@ use Rattle.fib_core.specs.declared.word.Word.{Word}
 use Rattle.fib_core.specs.declared.word.Word.TheVariants as words
 use Rattle.fib_serving.specs.Stack.{Objects, aim_word, to_adjacency, to_balance}
 use Rattle.fib_joined.specs.Promise.{Promise}
-use Rattle.fib_joined.specs.View.{Edge, Goes, HasIn, IsLive, IsRecord, Retired, View, leads}
+use Rattle.fib_joined.specs.View.{Edge, Goes, IsLive, IsRecord, Retired, View, leads}
 use Rattle.fib_ply.specs.inner.Change.{Has, Mixed}
 use Rattle.fib_ply.specs.inner.Served.{Paths}
 use Rattle.fib_ply.specs.inner.Trie.{IsFilled}

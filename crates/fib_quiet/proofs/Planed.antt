@@ -1,5 +1,5 @@
 -- The same of a plane: its words stand for the tables.
-use Rattle.std.proofs.Common.{◌≡◌, ℕ, ◌+◌, ◌-◌, ◌*◌, ◌/◌, ◌<◌, ◌≤◌, ◌⊎◌, inl, inr, ⊎_elim, Bool, true, false, true≢false, eqb-true, List, [], ◌∷◌, length, map, refl, sym, ap, ◌∙◌, subst, arith}
+use Rattle.std.proofs.Common.{◌≡◌, ℕ, ◌+◌, ◌-◌, ◌*◌, ◌/◌, ◌<◌, ◌⊎◌, inl, inr, ⊎_elim, true, false, true≢false, eqb-true, List, [], ◌∷◌, length, map, refl, sym, ap, ◌∙◌, subst, arith}
 use Rattle.std.specs.Prelude.{Option, Some, None, Contains, ◌%◌, option_map, slice_index}
 use native.Mathlib.Decide.{ℕ_discrete}
 use mathlib.Core.Logic.{dite}
@@ -32,8 +32,8 @@ use Rattle.fib_plane.specs.Planes.{Plane}
 use Rattle.fib_plane.specs.Sound as plane
 use Rattle.fib_plane.specs.Sound.{record_word}
 use Rattle.fib_joined.specs.Promise.{Promise}
-use Rattle.fib_joined.specs.View.{Edge, Goes, IsLive, IsRecord, View, leads}
-use Rattle.fib_shared.specs.Shares.{copy_seen, promise_of, record_in, view_of}
+use Rattle.fib_joined.specs.View.{Edge, Goes, IsLive, View, leads}
+use Rattle.fib_shared.specs.Shares.{copy_seen, view_of}
 use Rattle.fib_shared.proofs.Seeing.{cell_down, cell_is, edge_leads, goes_up, kept_up, live_down, record_down}
 use Rattle.fib_shared.proofs.Storing.{edge_down}
 use Rattle.fib_stack.specs.Joined.{Parts, balance_in}

@@ -1,6 +1,6 @@
 -- The plies that the tables count are the prefix table's, and their cells lead where the tables say.
-use Rattle.std.proofs.Common.{◌≡◌, ℕ, zero, suc, ◌+◌, ◌*◌, ◌-◌, ◌/◌, ◌%◌, ◌<◌, ◌≤◌, ◌^◌, ◌⊎◌, inl, inr, ⊎_elim, Bool, true, false, true≢false, List, [], ◌∷◌, refl, sym, ap, ap₂, ◌∙◌, subst, arith}
-use Rattle.std.specs.Prelude.{Option, Some, None, Contains, flat_map, if◌then◌else◌}
+use Rattle.std.proofs.Common.{◌≡◌, ℕ, zero, suc, ◌+◌, ◌*◌, ◌-◌, ◌/◌, ◌<◌, ◌≤◌, ◌^◌, ◌⊎◌, inl, inr, ⊎_elim, true, false, ◌∷◌, refl, sym, ap, ap₂, ◌∙◌, subst, arith}
+use Rattle.std.specs.Prelude.{Some, Contains, flat_map, if◌then◌else◌}
 use Rattle.std.specs.List.{AllByRecursion, range_with_len}
 use Rattle.std.specs.Set.{is_member}
 use native.Mathlib.Decide.{ℕ_discrete}
@@ -32,13 +32,13 @@ use Rattle.fib_joined.specs.View.{View}
 use Rattle.fib_ply.specs.Prefixes.{Look, Needs}
 use Rattle.fib_ply.specs.Rows.{ArePrefixes, held}
 use Rattle.fib_ply.specs.Tables.{Stands, Table, object_in}
-use Rattle.fib_ply.specs.inner.Change.{Has, IsOne, Mixed}
+use Rattle.fib_ply.specs.inner.Change.{Has, Mixed}
 use Rattle.fib_ply.specs.inner.Served.{Paths}
 use Rattle.fib_ply.specs.inner.Trie.{IsFilled}
 use Rattle.fib_ply.proofs.Laws.{plies_exact}
 use Rattle.fib_ply.proofs.Needing.{whole_is}
 use Rattle.fib_quiet.proofs.Numbers.{number, or_zero, ply_at, ply_at_is}
-use Rattle.fib_quiet.proofs.Reaching.{balance_at, best_entry, best_reached, entry_of}
+use Rattle.fib_quiet.proofs.Reaching.{balance_at, best_reached, entry_of}
 
 -- the prefix of the addresses below a ply with this path
 abbrev pub block : ℕ → ℕ → Prefix

@@ -1,11 +1,11 @@
 -- The prefix table's answer for an address is the balance of the best entry.
-use Rattle.std.proofs.Common.{◌≡◌, ℕ, ◌*◌, ◌-◌, ◌/◌, ◌%◌, ◌<◌, ◌≤◌, ◌^◌, ◌⊎◌, inl, inr, ⊎_elim, Bool, true, true≢false, eq-eqb, eqb-true, refl, sym, ap, ◌∙◌, subst, arith}
-use Rattle.std.specs.Prelude.{Option, Some, None, Contains, ◌==◌}
+use Rattle.std.proofs.Common.{◌≡◌, ℕ, ◌*◌, ◌-◌, ◌/◌, ◌<◌, ◌≤◌, ◌^◌, inl, inr, ⊎_elim, true, eq-eqb, eqb-true, refl, sym, ap, ◌∙◌, subst}
+use Rattle.std.specs.Prelude.{Option, Some, Contains}
 use Rattle.std.proofs.lemmas.Bool.{cases_lt}
 use Rattle.std.proofs.lemmas.Map.Made.{is_member-Decides}
 use Rattle.std.proofs.Math.Nat.{mul-div_cancel}
 use Rattle.std.proofs.Math.Pow.{pow_pos}
-use Rattle.fib_addr.specs.Prefixes.{Prefix, IsPrefix, contains, masked, same_prefix, size_of}
+use Rattle.fib_addr.specs.Prefixes.{Prefix, IsPrefix, contains, masked, size_of}
 use Rattle.fib_addr.specs.Longest.{IsLongest}
 use Rattle.fib_addr.proofs.LongestLaws.{longest_is_unique}
 use Rattle.fib_addr.proofs.PrefixLaws.{same_fields, same_prefix-Decides}

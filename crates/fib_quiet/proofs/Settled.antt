@@ -1,39 +1,36 @@
 -- At rest what stands between all holds for the one version too: so a version may be settled, and the first one begun.
-use Rattle.std.proofs.Common.{◌≡◌, ℕ, ◌<◌, ◌≤◌, ◌^◌, ◌⊎◌, inl, inr, ⊎_elim, Bool, true, false, true≢false, List, [], ◌∷◌, refl, sym, ap, ◌∙◌, subst, arith}
-use Rattle.std.specs.Prelude.{Option, Some, None, Contains}
+use Rattle.std.proofs.Common.{◌≡◌, ℕ, ◌<◌, ◌^◌, inl, inr, true, true≢false, List, [], ◌∷◌, refl, sym, ap, ◌∙◌, subst, arith}
+use Rattle.std.specs.Prelude.{Some, None, Contains}
 use native.Mathlib.Decide.{ℕ_discrete}
 use mathlib.Core.Logic.{dite}
 use Rattle.fib_addr.specs.Prefixes.{Prefix, IsPrefix}
-use Rattle.fib_resolve.specs.Aims.{aim, marked_list}
+use Rattle.fib_resolve.specs.Aims.{aim}
 use Rattle.fib_resolve.specs.declared.aims.Aim.{Aim}
 use Rattle.fib_resolve.specs.declared.aims.Aim.TheVariants as aims
 use Rattle.fib_resolve.specs.declared.types.End.TheVariants as answers
 use Rattle.fib_resolve.specs.declared.types.Tables.{Tables}
 use Rattle.fib_core.specs.declared.word.Word.{Word}
 use Rattle.fib_core.specs.declared.word.Word.TheVariants as words
-use Rattle.fib_steady.specs.Aims.{IsLasting, WantsAlike}
 use Rattle.fib_serving.specs.Matches.{FitsVersions, best_block, look_of, promised_by}
 use Rattle.fib_serving.specs.Stack.{aim_word, is_some, to_adjacency, to_balance}
 use Rattle.fib_serving.proofs.Answers.{promised_answer, promised_from}
-use Rattle.fib_joined.specs.Promise.{Allows, IsAimed, IsBegun, KeepsBuckets, Promise}
+use Rattle.fib_joined.specs.Promise.{IsAimed, KeepsBuckets, Promise}
 use Rattle.fib_joined.specs.View.{IsLive, View}
 use Rattle.fib_ply.specs.Prefixes.{Look}
 use Rattle.fib_ply.specs.Tables.{Stands, watch_of}
-use Rattle.fib_ply.specs.inner.Change.{Has, IsSound, IsTable, Mixed}
+use Rattle.fib_ply.specs.inner.Change.{Has, IsSound, Mixed}
 use Rattle.fib_ply.specs.inner.Served.{IsKept, IsRight, IsWalked, Paths, Wanted, Watch}
 use Rattle.fib_ply.specs.inner.Trie.{IsFilled}
 use Rattle.fib_ply.proofs.Laws.{held_prefix}
 use Rattle.fib_ply.proofs.Rewatching.{wanted_begun}
 use Rattle.fib_ledger.specs.Deferred.{late_at}
 use Rattle.fib_queue.specs.Queues.{rank_in}
-use Rattle.fib_stack.specs.Buckets.{recorded}
 use Rattle.fib_stack.specs.Joined.{Joined, Parts, balance_in, in_change, state_in, table_of}
 use Rattle.fib_stack.specs.Steadiness.{IsSteady}
 use Rattle.fib_stack.proofs.Settling.{aims_hop, aims_on, settled_steady}
 use Rattle.fib_quiet.specs.Rest.{IsAtRest}
 use Rattle.fib_quiet.proofs.Ends.{hop_kept, objects, placed, stands}
 use Rattle.fib_quiet.proofs.Owning.{IsOwned, paths}
-use Rattle.fib_interned.proofs.Finding.{none_some}
 use Rattle.fib_stack.proofs.Keeping.{some_there}
 use Rattle.fib_quiet.proofs.Reaching.{balance_at, entry_of}
 

@@ -1,7 +1,6 @@
 -- At rest the cells stand for the tables.
-use Rattle.std.proofs.Common.{◌≡◌, ℕ, zero, suc, ◌+◌, ◌*◌, ◌/◌, ◌<◌, ◌≤◌, ◌⊎◌, inl, inr, ⊎_elim, Bool, true, false, true≢false, ◌&&◌, ◌||◌, cond, List, [], ◌∷◌, length, map, refl, sym, ap, ap₂, ◌∙◌, subst, arith}
-use Rattle.std.specs.Prelude.{Option, Some, None, Contains, ◌==◌, flat_map, if◌then◌else◌}
-use Rattle.std.specs.List.{list_any}
+use Rattle.std.proofs.Common.{◌≡◌, ℕ, ◌+◌, ◌*◌, ◌<◌, inl, inr, ⊎_elim, Bool, true, false, true≢false, ◌||◌, cond, List, [], ◌∷◌, map, refl, sym, ap, ap₂, ◌∙◌, subst, arith}
+use Rattle.std.specs.Prelude.{Option, Some, Contains, ◌==◌, flat_map, if◌then◌else◌}
 use native.Mathlib.Decide.{ℕ_discrete}
 use mathlib.Core.Logic.{dite}
 use Rattle.fib_list.proofs.Booleans.{or_right}
@@ -14,7 +13,6 @@ use Rattle.fib_resolve.specs.Aims.{kind_aim, marked, marked_list}
 use Rattle.fib_resolve.specs.Pairs.{chosen, entries}
 use Rattle.fib_resolve.specs.Resolution.{hop_end, mac_of}
 use Rattle.fib_resolve.specs.Sizes.{adjacencies, adjacencies_of, kind_adjacency, same_adjacency}
-use Rattle.fib_resolve.specs.declared.aims.Aim.{Aim}
 use Rattle.fib_resolve.specs.declared.aims.Aim.TheVariants as aims
 use Rattle.fib_resolve.specs.declared.aims.Marked.{Marked}
 use Rattle.fib_resolve.specs.declared.pairs.Adjacency.{Adjacency}
@@ -29,7 +27,6 @@ use Rattle.fib_changes.proofs.CauseLaws.{any_from}
 use Rattle.fib_changes.proofs.SamePairs.{map_from}
 use Rattle.fib_config.proofs.Within.{same_adjacency-Decides}
 use Rattle.std.proofs.lemmas.Map.Made.{is_member-Decides}
-use Rattle.fib_addr.specs.Prefixes.{same_prefix}
 use Rattle.fib_addr.proofs.PrefixLaws.{same_prefix-Decides}
 use Rattle.fib_core.specs.StandsFor.{Thing, ply_of, balance_of, adjacency_of, IsCounted, thing_word}
 use Rattle.fib_pool.specs.declared.object.AdjacencyRecord.{AdjacencyRecord}
@@ -38,11 +35,11 @@ use Rattle.fib_ledger.specs.declared.ledger.Use.{Use}
 use Rattle.fib_ledger.specs.Ledgers.{record_used, same_record, times, used_by}
 use Rattle.fib_serving.specs.Kept.{same_end}
 use Rattle.fib_joined.specs.Promise.{Promise}
-use Rattle.fib_joined.specs.View.{IsBalance, IsLive, IsRecord, View}
+use Rattle.fib_joined.specs.View.{IsBalance, IsLive, View}
 use Rattle.fib_ply.proofs.Laws.{held_prefix}
-use Rattle.fib_stack.specs.Joined.{Parts, balance_in, holds_by, in_change, state_in, table_of}
+use Rattle.fib_stack.specs.Joined.{Parts, balance_in, holds_by, in_change, table_of}
 use Rattle.fib_stack.specs.Records.{end_used, holds_in}
-use Rattle.fib_stack.specs.States.{ends_there, has_hop, is_recorded}
+use Rattle.fib_stack.specs.States.{ends_there, has_hop}
 use Rattle.fib_stack.proofs.Listing.{record_is}
 use Rattle.fib_stands.proofs.Nibbles.{ply_root}
 use Rattle.fib_quiet.specs.Rest.{IsAtRest}

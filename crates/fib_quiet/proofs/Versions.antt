@@ -1,19 +1,18 @@
 -- The promise of a board on which a version was settled or begun.
-use Rattle.std.proofs.Common.{◌≡◌, ℕ, zero, suc, ◌+◌, ◌<◌, ◌≤◌, ◌||◌, true, List, [], ◌∷◌, ◌++◌, length, refl, sym, ap, ap₂, ◌∙◌, subst, arith}
+use Rattle.std.proofs.Common.{◌≡◌, ℕ, zero, suc, ◌+◌, ◌<◌, ◌≤◌, ◌||◌, true, List, [], ◌∷◌, ◌++◌, length, refl, sym, ap, ap₂, ◌∙◌, arith}
 use Rattle.std.specs.Prelude.{Some, drop, slice_get}
 use Rattle.fib_addr.specs.Prefixes.{Prefix}
 use Rattle.fib_resolve.specs.Tables.{IsSound}
 use Rattle.fib_resolve.specs.Touched.{is_touched}
 use Rattle.fib_resolve.specs.declared.types.Tables.{Tables}
 use Rattle.fib_steady.proofs.Lists.{drop_at}
-use Rattle.fib_board.specs.Boards.{Board, board_begun, board_settled}
+use Rattle.fib_board.specs.Boards.{board_begun, board_settled}
 use Rattle.fib_board.specs.Told.{IsHistory}
 use Rattle.fib_plane.specs.Planes.{Plane}
 use Rattle.fib_plane.specs.Sound.{IsPlane}
 use Rattle.fib_queue.specs.Queues.{rank_in}
 use Rattle.fib_queue.specs.declared.order.Queued.{Queued}
 use Rattle.fib_joined.specs.Promise.{Promise}
-use Rattle.fib_joined.specs.View.{View}
 use Rattle.fib_shared.specs.Shares.{promise_of, view_of}
 use Rattle.fib_stack.specs.Joined.{Joined, Parts, queued_in}
 use Rattle.fib_quiet.specs.Rest.{IsAtRest, IsSeen}

@@ -1,5 +1,5 @@
 -- Workers that leave and come home change nothing that stands between the plane, the prefix table, the stack and the queue.
-use Rattle.std.proofs.Common.{◌≡◌, ℕ, ◌<◌, true, List, refl, sym, ap₂, ◌∙◌, subst, arith}
+use Rattle.std.proofs.Common.{◌≡◌, ℕ, ◌<◌, true, List, sym, ap₂, subst, arith}
 use Rattle.std.specs.Prelude.{Contains}
 use Rattle.fib_addr.specs.Prefixes.{Prefix}
 use Rattle.fib_resolve.specs.declared.types.Tables.{Tables}

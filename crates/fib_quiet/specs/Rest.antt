@@ -1,5 +1,5 @@
 -- A plane, the prefix table, the stack and the queue at rest: nothing is queued, deferred or retired.
-use Rattle.std.specs.Prelude.{◌≡◌, ℕ, ◌<◌, List, [], Contains, None, Some}
+use Rattle.std.specs.Prelude.{◌≡◌, ℕ, ◌<◌, [], Contains, None, Some}
 use Rattle.fib_addr.specs.Prefixes.{Prefix, IsPrefix}
 use Rattle.fib_resolve.specs.Pairs.{entries}
 use Rattle.fib_resolve.specs.Tables.{IsSound, fresh}

@@ -1,8 +1,8 @@
 -- Adjacencies that the control plane holds are records'.
-use Rattle.std.proofs.Common.{◌≡◌, ℕ, zero, suc, ◌+◌, ◌<◌, ◌≤◌, inl, inr, Bool, true, false, not, ◌&&◌, List, Option, Some, None, refl, sym, ap, ◌∙◌, arith}
-use Rattle.std.specs.Prelude.{is_some, option_map}
+use Rattle.std.proofs.Common.{◌≡◌, ℕ, inl, inr, Bool, true, false, not, ◌&&◌, Option, Some, None, refl, sym, ap, ◌∙◌, arith}
+use Rattle.std.specs.Prelude.{is_some}
 use Rattle.std.proofs.lemmas.Bool.{cases_eq, cases_lt, lt-ltb}
-use Rattle.std.proofs.Common.{eqb, ne_eqb, ltb, ◌≢◌}
+use Rattle.std.proofs.Common.{ne_eqb, ltb}
 use Rattle.fib_list.proofs.Lists.{either}
 use Rattle.fib_interned.specs.Interned.{Kept, kept_of}
 use Rattle.fib_union.specs.Unions.{into}
@@ -10,7 +10,7 @@ use Rattle.fib_pool.specs.declared.object.AdjacencyRecord.{AdjacencyRecord}
 use Rattle.fib_pool.specs.Objects.{at, count_of}
 use Rattle.fib_pool.specs.Objects as pool
 use Rattle.fib_board.specs.Boards.{union_of}
-use Rattle.fib_plane.specs.Planes.{IsHeld, Plane}
+use Rattle.fib_plane.specs.Planes.{Plane}
 use Rattle.fib_plane.specs.Sound as sound
 use Rattle.fib_joined.specs.View.{IsLive}
 use Rattle.fib_shared.specs.Shares.{AreRecorded, is_adjacency_at, view_of}

@@ -36,7 +36,6 @@ use Rattle.fib_joined.specs.View.{View, GaveRecord, Goes, IsPlane, IsRecord, Sto
 use Rattle.fib_shared.specs.Shares.{cell_in, copy_seen, is_adjacency_at, is_ply_at, is_ply_of, kept_as, promise_of, record_in, same_record, users_of_record, view_of, AreRecorded}
 use Rattle.fib_shared.proofs.Seeing.{cell_down, cell_same, held_down, held_same, kept_down, live_down, record_down, record_is_same, same_record_is}
 use Rattle.fib_shared.proofs.Sounding.{adjacency_not_held, record_apart, record_no_edge, sound_of}
-use Rattle.fib_shared.proofs.Backed.{recorded_by}
 use Rattle.fib_shared.proofs.Sweeping.{adjacency_kept, edge_live, free_kept, ply_kept, ply_leaves, sound_swept, swept_held, swept_seen, swept_stores, swept_adjacencies}
 use Rattle.fib_shared.proofs.Taking.{not_held}
 use Rattle.fib_shared.proofs.Interning.{given_else, kept_before, kept_still, one_less, one_more, record_up, taken_else, taken_in}

@@ -1,5 +1,5 @@
 -- A scan by the view: copies leave, and what they alone kept in use.
-use Rattle.std.proofs.Common.{arith, ◌≡◌, ℕ, zero, suc, ◌+◌, ◌*◌, inl, inr, Bool, true, false, List, [], ◌∷◌, length, map, Option, None, refl, sym, ◌∙◌, ap, subst, ◌<◌}
+use Rattle.std.proofs.Common.{arith, ◌≡◌, ℕ, zero, suc, ◌+◌, ◌*◌, inl, inr, Bool, true, false, List, [], ◌∷◌, length, map, Option, None, refl, sym, ◌∙◌, ap, subst}
 use Rattle.std.specs.Prelude.{Contains}
 use Rattle.std.proofs.lemmas.List.{length-map}
 use Rattle.fib_union.specs.Marks.{looked, all_passed}
@@ -14,7 +14,7 @@ use Rattle.fib_plane.specs.Planes.{Plane, IsHeld}
 use Rattle.fib_plane.specs.Planes as plane
 use Rattle.fib_plane.specs.Sound as sound
 use Rattle.fib_joined.specs.View.{Retired, Goes, IsPlane, IsScanned}
-use Rattle.fib_shared.specs.Shares.{copy_seen, promise_of, record_in, users_of_record, view_of, AreRecorded, is_adjacency_at}
+use Rattle.fib_shared.specs.Shares.{copy_seen, promise_of, record_in, users_of_record, view_of, AreRecorded}
 use Rattle.fib_shared.proofs.Seeing.{held_same}
 use Rattle.fib_shared.proofs.Backed.{recorded_by}
 use Rattle.fib_shared.proofs.Sweeping.{ply_kept, adjacency_kept, free_kept, sound_swept, swept_seen, swept_held, swept_stores, swept_adjacencies}

@@ -56,7 +56,6 @@ module _ (S : Tables) (rank : Prefix → ℕ) (p : Promise) (v0 v : View) (s : P
   recorded_is (answers.Hop i a y) x e = (record { interface = i; next_hop = a; mac = y }, e)
 
   -- a record that the entry used has its object still
-  -- a record that the entry used has its object still
   records_stay : ((m : AdjacencyRecord) → times m (used_by (s.known plan.entry)) ≤ s.total m) → (end : End) → holds_in (used_by (s.known plan.entry)) end ≡ true → recorded v end ≡ recorded v0 end
   records_stay counted answers.Drop held = refl
   records_stay counted answers.Receive held = refl

@@ -1,9 +1,8 @@
 -- Facts on the planes and tables of the tests.
-use Rattle.std.proofs.Common.{arith, ◌≡◌, ℕ, ◌<◌, inl, inr, ⊎_elim, Bool, true, true≢false, List, length, Option, None, refl, sym, ◌∙◌, ap, subst}
+use Rattle.std.proofs.Common.{arith, ◌≡◌, ℕ, inl, inr, ⊎_elim, Bool, true, true≢false, List, length, None, refl, sym, ◌∙◌, ap, subst}
 use Rattle.std.specs.Prelude.{Contains}
 use native.Mathlib.Decide.{ℕ_discrete}
 use mathlib.Core.Logic.{dite}
-use Rattle.fib_addr.specs.Prefixes.{Prefix}
 use Rattle.fib_core.specs.declared.word.Word.{Word}
 use Rattle.fib_core.specs.declared.word.Word.TheVariants as words
 use Rattle.fib_pool.specs.declared.object.AdjacencyRecord.{AdjacencyRecord}
@@ -12,7 +11,7 @@ use Rattle.fib_pool.specs.declared.object.Kind.TheVariants as kinds
 use Rattle.fib_steady.specs.Names.{Names}
 use Rattle.fib_serving.specs.Matches.{look_of}
 use Rattle.fib_joined.specs.Promise.{Promise, Allows, IsBegun, MayClear, MayLetGo, Serves}
-use Rattle.fib_joined.specs.View.{View, Retired, Goes, HasRoom, IsLive, IsPlane, IsTaken, TookRecord, leads}
+use Rattle.fib_joined.specs.View.{View, Retired, Goes, HasRoom, IsLive, IsPlane, IsTaken, TookRecord}
 use Rattle.fib_ply.specs.Rows.{held}
 use Rattle.fib_ply.specs.Tables.{Table, Stands, watch_of}
 use Rattle.fib_ply.specs.declared.rows.Row.{Row}

@@ -1,4 +1,4 @@
-use Rattle.std.proofs.Common.{arith, None, refl, ◌∙◌, ap}
+use Rattle.std.proofs.Common.{arith, refl, ◌∙◌, ap}
 use Rattle.std.specs.Prelude.{List}
 use Rattle.fib_ply.specs.Rows.{held}
 use Rattle.fib_ply.specs.declared.rows.Row.{Row}

@@ -1,5 +1,4 @@
 use Rattle.std.proofs.Common.{arith, ◌∙◌}
-use Rattle.std.proofs.lemmas.Bool.Decides.{nat_tests}
 use Rattle.fib_trials.proofs.Trying.{not_begun, still_early}
 use Rattle.fib_trials.proofs.prefixes.remove.Goals as goal
 
