@@ -1,6 +1,6 @@
 // Entries that follow a script's edits, one by one, each of them also taken back: compared each time with the plain
 // programs.
-ghost use Rattle.std.specs.Prelude.{◌≡◌, IfOk};
+ghost use Rattle.std.specs.Prelude.{◌≡◌, IfOk, IfSome};
 ghost use Rattle.fib_resolve.specs.Reachable.{IsWritten};
 ghost use Rattle.fib_resolve.specs.Tables.{IsSound};
 ghost use Rattle.fib_config.specs.Undone.{undone};
@@ -88,7 +88,9 @@ fn follow_edit(
 }
 
 // The edit of a line, where it is one.
-fn edit_of(alloc: Global, text: &[u8]) -> Result<Option<Edit>, AllocError> {
+fn edit_of(alloc: Global, text: &[u8]) -> Result<Option<Edit>, AllocError>
+    ensures { IfOk result (λ found. IfSome found IsWritten) }
+{
     match read_line(alloc, text) {
         Ok(Line::Change(edit)) => Ok(Some(edit)),
         Ok(_) => Ok(None),
