@@ -29,9 +29,9 @@ fn follow(
     entries: &mut Entries,
     before: &Config,
     after: &Config,
-    change: Change,
+    change: &Change,
 ) -> Result<Option<Part>, AllocError> {
-    let followed = match entries.follow_changes(after, &[change], ROOM) {
+    let followed = match entries.follow_changes(after, &[*change], ROOM) {
         Ok(followed) => followed,
         Err(FollowError::TooMany(_)) => return Ok(Some(Part::Size)),
         Err(FollowError::Memory) => return Err(AllocError),
@@ -56,7 +56,7 @@ fn follow_back(
     let made = config.copy()?;
     let Edited { change, undo } = edited;
     config.undo(undo);
-    follow(alloc, entries, &made, config, change)
+    follow(alloc, entries, &made, config, &change)
 }
 
 // Makes the edit, takes it back and makes it again, and follows each time. A refused edit changes nothing.
@@ -74,15 +74,14 @@ fn follow_edit(
         Err(EditError::Memory) => return Err(AllocError),
         Err(_) => return Ok(None),
     };
-    let change = edited.change;
-    if let Some(part) = follow(alloc, entries, &before, config, change)? {
+    if let Some(part) = follow(alloc, entries, &before, config, &edited.change)? {
         return Ok(Some(part));
     }
     if let Some(part) = follow_back(alloc, config, entries, edited)? {
         return Ok(Some(part));
     }
     match config.change(edit) {
-        Ok(_) => follow(alloc, entries, &before, config, change),
+        Ok(edited) => follow(alloc, entries, &before, config, &edited.change),
         Err(_) => Err(AllocError),
     }
 }
