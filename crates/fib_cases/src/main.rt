@@ -1,10 +1,10 @@
 //! Does one run after the other, each as `fib_tool` would; the words of a run are joined by colons.
 //!
-//! Its data are worked files and generated ones, and the text that it must print for them was made by a program that shares
-//! nothing with this repository (`tests/tables.py` writes the generated ones).
+//! Its data are worked files and generated ones, and the text that it must print for them was made by a program that
+//! shares nothing with this repository (`tests/tables.py` writes the generated ones).
 //!
-//! A run of the words `follow` and a file follows the file's edits with entries, and compares them with the plain programs
-//! after each; it prints nothing, and ends with 9 where they differ.
+//! A run of the words `follow` and a file follows the file's edits with entries, and compares them with the plain
+//! programs after each; it prints nothing, and ends with 9 where they differ.
 #![tactic(auto)]
 
 mod compared;
