@@ -24,6 +24,8 @@ for crate in $names; do
     fi
 done
 printf 'driven: %s\n' "$names" >> "$work/crates.txt"
-cp "$top"/tests/driven/*.rt "$work/crates/driven/src/"
+for part in lib plane stack; do
+    cp "$top/tests/driven/$part.txt" "$work/crates/driven/src/$part.rt"
+done
 cd "$work/crates/driven"
 rt try --test 2> "$work/log" || { tail -20 "$work/log"; exit 1; }
