@@ -6,23 +6,8 @@
 # The program is made in a temporary folder, beside copies of the crates that it stands on. It stands outside the gate, and is tried and not
 # proved: it makes calls whose conditions only the layers above can show.
 set -e
-top=$(cd "$(dirname "$0")/.." && pwd)
-work=$(mktemp -d)
-trap 'rm -rf "$work"' EXIT
-mkdir -p "$work/crates/measure/src"
-names=$(sed -n -e 's/^fib_shared: //p' -e 's/^fib_ply: //p' "$top/crates.txt" | tr ' ' '\n' | sort -u | tr '\n' ' ')
-for crate in $names fib_shared fib_ply; do
-    if [ -d "$top/crates/$crate" ]; then
-        mkdir "$work/crates/$crate"
-        for part in src specs proofs; do
-            if [ -d "$top/crates/$crate/$part" ]; then
-                cp -r "$top/crates/$crate/$part" "$work/crates/$crate/"
-            fi
-        done
-        grep "^$crate:" "$top/crates.txt" >> "$work/crates.txt"
-    fi
-done
-printf 'measure: %s fib_shared fib_ply\n' "$names" >> "$work/crates.txt"
+. "$(dirname "$0")/beside.sh"
+beside fib_shared fib_ply
 cat > "$work/crates/measure/src/main.rt" <<'MAIN'
 //! Times of adding and removing a prefix.
 #![tactic(auto)]

@@ -5,19 +5,8 @@
 #
 # The program is made in a temporary folder, beside copies of the crates that it stands on. It stands outside the gate.
 set -e
-top=$(cd "$(dirname "$0")/.." && pwd)
-work=$(mktemp -d)
-trap 'rm -rf "$work"' EXIT
-mkdir -p "$work/crates/measure/src"
-for crate in fib_list fib_reach fib_union; do
-    mkdir "$work/crates/$crate"
-    for part in src specs proofs; do
-        if [ -d "$top/crates/$crate/$part" ]; then
-            cp -r "$top/crates/$crate/$part" "$work/crates/$crate/"
-        fi
-    done
-done
-printf 'fib_list:\nfib_reach: fib_list\nfib_union: fib_list fib_reach\nmeasure: fib_list fib_reach fib_union\n' > "$work/crates.txt"
+. "$(dirname "$0")/beside.sh"
+beside fib_union
 cat > "$work/crates/measure/src/full.rt" <<'FULL'
 // A union for 8 workers, whose calls do nothing where they may not be made.
 ghost use Rattle.std.specs.Prelude.{◌≡◌, ◌*◌, ◌<◌, length};

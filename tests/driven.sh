@@ -7,25 +7,10 @@
 # The tests are put into a crate in a temporary folder, beside copies of the crates that they stand on. They are tried and not proved, so they
 # stand outside the gate: their calls ask for what stands joined between plane, prefix table, stack and queue, which no caller keeps yet.
 set -e
-top=$(cd "$(dirname "$0")/.." && pwd)
-work=$(mktemp -d)
-trap 'rm -rf "$work"' EXIT
-mkdir -p "$work/crates/driven/src"
-names=$(sed -n 's/^fib_trials: //p' "$top/crates.txt")
-for crate in $names; do
-    if [ -d "$top/crates/$crate" ]; then
-        mkdir "$work/crates/$crate"
-        for part in src specs proofs; do
-            if [ -d "$top/crates/$crate/$part" ]; then
-                cp -r "$top/crates/$crate/$part" "$work/crates/$crate/"
-            fi
-        done
-        grep "^$crate:" "$top/crates.txt" >> "$work/crates.txt"
-    fi
-done
-printf 'driven: %s\n' "$names" >> "$work/crates.txt"
+. "$(dirname "$0")/../bench/beside.sh"
+beside fib_trials
 for part in lib plane stack; do
-    cp "$top/tests/driven/$part.txt" "$work/crates/driven/src/$part.rt"
+    cp "$top/tests/driven/$part.txt" "$work/crates/measure/src/$part.rt"
 done
-cd "$work/crates/driven"
+cd "$work/crates/measure"
 rt try --test 2> "$work/log" || { tail -20 "$work/log"; exit 1; }

@@ -1,0 +1,22 @@
+# Read by the scripts here and by tests/driven.sh. `beside CRATE..` makes a temporary folder, which goes at the end, with copies of these crates and
+# of those that they stand on, and a crate `measure` over them, whose src/ is still to be written. The folder is $work, the repository $top.
+beside() {
+    top=$(cd "$(dirname "$0")/.." && pwd)
+    work=$(mktemp -d)
+    trap 'rm -rf "$work"' EXIT
+    mkdir -p "$work/crates/measure/src"
+    names=$(for crate in "$@"; do sed -n "s/^$crate: / $crate /p" "$top/crates.txt"; done)
+    names=$(echo "$names" | tr ' ' '\n' | sort -u | tr '\n' ' ')
+    for crate in $names; do
+        if [ -d "$top/crates/$crate" ]; then
+            mkdir "$work/crates/$crate"
+            for part in src specs proofs; do
+                if [ -d "$top/crates/$crate/$part" ]; then
+                    cp -r "$top/crates/$crate/$part" "$work/crates/$crate/"
+                fi
+            done
+            grep "^$crate:" "$top/crates.txt" >> "$work/crates.txt"
+        fi
+    done
+    echo "measure: $names" >> "$work/crates.txt"
+}
