@@ -12,16 +12,18 @@ use Rattle.fib_core.specs.declared.word.Word.TheVariants as words
 use Rattle.fib_steady.specs.Aims.{IsLasting, WantsAlike}
 use Rattle.fib_steady.specs.Names.{Names, IsChild}
 use Rattle.fib_steady.specs.Promise.{IsRight}
+use Rattle.fib_board.specs.Boards.{Board}
 use Rattle.fib_joined.specs.declared.put.Put.{Put}
 use Rattle.fib_joined.specs.View.{View, Goes, IsBalance, IsPut, adjacency_end}
 
--- the tables of the versions from settled to applied, and whether all workers are at home. No call of the plane changes it but those that begin
--- and settle a version, and those on workers
+-- the tables of the versions from settled to applied, and whether all workers are at home; and all else that the board keeps beside its words. No
+-- call of the plane changes it but those that begin and settle a version, and those on workers
 pub record Promise : Type 0 where
   pub settled : ℕ
   pub applied : ℕ
   pub versions : List Tables
   pub alone : Bool
+  pub rest : Board
 
 -- from the first change on
 abbrev pub IsBegun : Promise → Type 0

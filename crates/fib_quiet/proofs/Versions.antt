@@ -49,7 +49,7 @@ module _ (S : Tables) (rank : Prefix → ℕ) (q : Plane) (s : Parts) (told : Is
       (ranks : (e : Prefix) (k : ℕ) → rank_in queue e ≡ Some k → k ≡ new e) where
     -- as if the first change had begun with the tables of before
     abbrev first : Promise
-    first = record { settled = 0; applied = 1; versions = S ∷ []; alone = true }
+    first = record { settled = 0; applied = 1; versions = S ∷ []; alone = true; rest = q.board }
 
     alone : q.board.log.history ≡ S ∷ []
     alone = last_one q.board.log.history 0 S (history.long ∙ ap (λ i. i + 1) early) (ap (slice_get q.board.log.history) (sym early) ∙ last)

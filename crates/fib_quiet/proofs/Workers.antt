@@ -12,13 +12,13 @@ use Rattle.fib_stack.specs.Steadiness.{IsSteady}
 
 pub same_versions : (S : Tables) (rank : Prefix → ℕ) (p q : Promise) (v : View) (s : Parts) → Joined S rank p v s → q.settled ≡ p.settled → q.applied ≡ p.applied → q.versions ≡ p.versions → Joined S rank q v s
 same_versions S rank p q v s j settled applied versions =
-    let same : in_change q ≡ in_change p = ap₂ (λ (a : ℕ) (J : List Tables). (let r : Promise = record { settled = 0; applied = a; versions = J; alone = true } in r)) applied versions in
     let before : IsBegun q → IsBegun p = (λ b. omega (arith, b, applied)) in
     let still : p.settled < p.applied → q.settled < q.applied = (λ lt. omega (arith, lt, settled, applied)) in
     record {
       kept = j.kept;
       laid = j.laid;
-      table = subst (λ (r : Promise). Stands r (table_of s) v) (sym same) j.table;
+      table = subst (λ (J : List Tables). Stands (record { settled = 0; applied = q.applied; versions = J; alone = true; rest = q.rest }) (table_of s) v) (sym versions)
+          (subst (λ (a : ℕ). Stands (record { settled = 0; applied = a; versions = p.versions; alone = true; rest = q.rest }) (table_of s) v) (sym applied) j.table);
       fits = λ b. subst (λ (J : List Tables). FitsVersions J (balance_in s)) (sym versions) (j.fits (before b));
       steady = λ b. subst (λ (J : List Tables). IsSteady J (state_in v s)) (sym versions) (j.steady (before b));
       newest = λ b. subst (λ (J : List Tables). Contains J S) (sym versions) (j.newest (before b));

@@ -1,5 +1,5 @@
 -- A plane as the prefix table and the stack of buckets see it: the view, and the promise of its board.
-use Rattle.std.specs.Prelude.{◌≡◌, ℕ, ◌+◌, ◌*◌, ◌%◌, ◌==◌, ◌&&◌, ◌||◌, Bool, true, false, is_some, not, nat_lt, List, Option, Some, None, option_map, find, map, if◌then◌else◌}
+use Rattle.std.specs.Prelude.{◌≡◌, ℕ, ◌+◌, ◌*◌, ◌%◌, ◌==◌, ◌&&◌, ◌||◌, Bool, true, false, is_some, not, nat_lt, List, [], Option, Some, None, option_map, find, map, if◌then◌else◌}
 use Rattle.std.specs.List.{list_any}
 use Rattle.fib_interned.specs.Interned.{Kept, kept_of, users_in}
 use Rattle.fib_union.specs.Unions.{owner, into}
@@ -82,12 +82,17 @@ view_of p = record {
 abbrev pub is_alone : Board → Bool
 is_alone b = not (list_any (λ away. away) b.out)
 
+-- the board but for its words, and for how often they were stored
+abbrev pub but_words : Board → Board
+but_words b = record b { union = record { cells = []; retired = [] }; stored = 0 }
+
 abbrev pub promise_of : Board → Promise
 promise_of b = record {
   settled = b.log.version.settled;
   applied = b.log.version.applied;
   versions = versions b.log;
   alone = is_alone b;
+  rest = but_words b;
 }
 
 -- each adjacency that the control plane holds is a record's

@@ -5,6 +5,8 @@ ghost use Rattle.fib_core.specs.Words.{IsRoomy};
 ghost use Rattle.fib_pool.specs.declared.object.AdjacencyRecord.{AdjacencyRecord};
 ghost use Rattle.fib_pool.specs.declared.object.Kind.TheVariants as kinds;
 ghost use Rattle.fib_pool.specs.Records.{adjacency};
+ghost use Rattle.fib_board.specs.Boards.{board_begun, board_settled};
+ghost use Rattle.fib_board.specs.May.{MayBegin, MaySettle};
 ghost use Rattle.fib_joined.specs.Promise.{MayClear, MayLetGo, MayPut};
 ghost use Rattle.fib_joined.specs.View.{Closes, GaveRecord, HasKind, HasRoom, IsLetGo, IsLive, IsPlane, IsPut, IsRecord, IsScanned, IsStanding, IsTaken, TookOne, leads};
 ghost use Rattle.fib_shared.specs.Shares.{AreRecorded, promise_of, view_of};
@@ -15,7 +17,28 @@ use fib_core::Word;
 use fib_joined::Put;
 use fib_plane::Plane;
 use fib_pool::Kind;
+use fib_resolve::Tables;
 use std::alloc::AllocError;
+
+/// Begins a version with these tables.
+pub fn begin_version<B: Board>(plane: &mut Plane<B>, next: &Tables)
+    requires { MayBegin plane.old.board next.now }
+    ensures plane { plane.new ≡ record plane.old { board = board_begun plane.old.board next.now } }
+    ensures sound { IsPlane (view_of plane.old) → IsPlane (view_of plane.new) }
+    ensures recorded { AreRecorded plane.old → AreRecorded plane.new }
+{
+    plane.begin_version(next)
+}
+
+/// Settles the version: the cells stand for its tables, and nothing is retired.
+pub fn settle_version<B: Board>(plane: &mut Plane<B>)
+    requires { MaySettle plane.old.board }
+    ensures plane { plane.new ≡ record plane.old { board = board_settled plane.old.board } }
+    ensures sound { IsPlane (view_of plane.old) → IsPlane (view_of plane.new) }
+    ensures recorded { AreRecorded plane.old → AreRecorded plane.new }
+{
+    plane.settle_version()
+}
 
 /// The word in a cell of an object that is in use.
 pub fn word<B: Board>(plane: &Plane<B>, object: u32, slot: u32) -> Word

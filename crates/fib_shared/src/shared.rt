@@ -1,7 +1,8 @@
 // A plane as its users see it.
 ghost use Rattle.std.specs.Prelude.{IfOk, [], length, ℕ, ◌-◌, ◌≡◌};
 ghost use Rattle.fib_pool.specs.Objects.{IsLive as IsCounted, free_in, fresh_objects};
-ghost use Rattle.fib_board.specs.Boards.{IsFresh};
+ghost use Rattle.fib_board.specs.Boards.{IsFresh, board_begun, board_settled};
+ghost use Rattle.fib_board.specs.May.{MayBegin, MaySettle};
 ghost use Rattle.fib_plane.specs.Sound.{IsPlane as IsTold};
 ghost use Rattle.fib_joined.specs.View.{IsLive, IsPlane};
 ghost use Rattle.fib_shared.specs.Props.{AreRecorded-prop, IsPlane-prop};
@@ -10,10 +11,11 @@ ghost use Rattle.fib_shared.specs.Shares.{AreRecorded, view_of};
 use crate::calls;
 use fib_addr::{Addr, Mac};
 use fib_board::Board;
-use fib_core::Word;
+use fib_core::{Version, Word};
 use fib_joined::{Objects, Put};
 use fib_plane::Plane;
 use fib_pool::Kind;
+use fib_resolve::Tables;
 use std::alloc::{AllocError, Global};
 
 /// A plane whose edges have the kinds of the objects that they join, as the prefix table and the stack of buckets keep it, and each of whose
@@ -47,6 +49,29 @@ impl<B: Board> Shared<B> {
         ensures seen { (object : ℕ) → IsCounted self.now.plane.objects object → IsLive (view_of self.now.plane) object }
     {
         self.plane.tells();
+    }
+
+    /// The version, as it was stored last.
+    pub fn version(&self) -> Version
+        ensures { result ≡ self.now.plane.board.log.version }
+    {
+        self.plane.version()
+    }
+
+    /// Begins a version with these tables.
+    pub fn begin_version(&mut self, next: &Tables)
+        requires { MayBegin self.old.plane.board next.now }
+        ensures { self.new.plane ≡ record self.old.plane { board = board_begun self.old.plane.board next.now } }
+    {
+        calls::begin_version(&mut self.plane, next)
+    }
+
+    /// Settles the version: the cells stand for its tables, and nothing is retired.
+    pub fn settle_version(&mut self)
+        requires { MaySettle self.old.plane.board }
+        ensures { self.new.plane ≡ record self.old.plane { board = board_settled self.old.plane.board } }
+    {
+        calls::settle_version(&mut self.plane)
     }
 
     /// How many objects aren't free.

@@ -59,7 +59,7 @@ pub record IsLaid (v : View) (s : Parts) : Type 0 where
 
 -- the same versions, at a time at which stores are allowed
 abbrev pub in_change : Promise → Promise
-in_change p = record { settled = 0; applied = p.applied; versions = p.versions; alone = true }
+in_change p = record p { settled = 0; alone = true }
 
 abbrev pub table_of : Parts → Table
 table_of s = record { rows = record { members = s.rows; spare = 0 }; plies = s.plies }

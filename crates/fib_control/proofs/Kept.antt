@@ -1,0 +1,119 @@
+-- What stands of a control stays so.
+use Rattle.std.proofs.Common.{inl, inr, ⊎_elim, ◌≡◌, ◌⊎◌, ℕ, zero, suc, ◌+◌, ◌-◌, ◌^◌, ◌<◌, ◌≤◌, ◌||◌, Bool, true, false, List, [], ◌∷◌, ◌++◌, length, refl, sym, ap, ◌∙◌, subst, arith}
+use Rattle.std.specs.Prelude.{Contains, Option, Some, None, slice_get}
+use Rattle.fib_addr.specs.Prefixes.{Prefix}
+use Rattle.fib_lawful.proofs.Histories.{get_last}
+use Rattle.fib_resolve.specs.Sizes.{size}
+use Rattle.fib_resolve.specs.Tables.{IsSound, fresh}
+use Rattle.fib_resolve.specs.Touched.{is_touched}
+use Rattle.fib_resolve.specs.declared.types.Tables.{Tables}
+use Rattle.fib_core.specs.StandsFor.{Stands}
+use Rattle.fib_entries.specs.Known.{Known, StandsFor, rank_of}
+use Rattle.fib_pool.specs.Objects.{free_in}
+use Rattle.fib_pool.proofs.Pools.{free_few}
+use Rattle.fib_ply.specs.Rows.{ArePrefixes}
+use Rattle.fib_board.specs.Boards.{board_begun, board_settled}
+use Rattle.fib_board.specs.May.{MayBegin, MaySettle}
+use Rattle.fib_plane.specs.Planes.{Plane}
+use Rattle.fib_plane.specs.Sound.{IsPlane as IsTold}
+use Rattle.fib_queue.specs.Queues.{rank_in}
+use Rattle.fib_queue.specs.declared.order.Queued.{Queued}
+use Rattle.fib_joined.specs.View.{IsPlane}
+use Rattle.fib_serving.specs.Stack.{is_some}
+use Rattle.fib_shared.specs.Shares.{promise_of, view_of}
+use Rattle.fib_stack.specs.Joined.{Joined, queued_in}
+use Rattle.fib_stack.proofs.Ordering.{begun_in_order}
+use Rattle.fib_quiet.specs.Rest.{IsAtRest, IsSeen}
+use Rattle.fib_quiet.proofs.Versions.{joined_begun, joined_first, joined_settled}
+use Rattle.fib_quiet.proofs.Planed.{stands_at_rest, used_at_rest}
+use Rattle.fib_control.specs.Controls.{Control, IsQuiet, is_queued, parts_in, promise_in, rank_by, state_now, tables_in, view_in}
+use Rattle.fib_control.specs.inner.Standing.{IsStanding}
+use Rattle.fib_control.proofs.Resting.{AreUsed, first_rests, quiet_rests}
+
+-- what the parts of a control tell
+pub record Tells (c : Control) : Type 0 where
+  pub plane : IsPlane (view_in c)
+  pub told : IsTold c.plane
+  pub seen : IsSeen c.plane
+  pub rows : ArePrefixes c.rows
+  pub used : AreUsed c
+
+-- the control after a change
+abbrev pub changed_to : Control → Tables → Known → List Queued → Control
+changed_to c T v queue = record c {
+  setup = record c.setup { tables = T };
+  entries = v;
+  plane = record c.plane { board = board_begun c.plane.board T };
+  queue = queue;
+  done = [];
+}
+
+module _ (c : Control) (i : IsStanding c) (t : Tells c) where
+  at_first : c.plane.board.log.version.applied ≡ 0 → IsAtRest (tables_in c) (rank_by c) (promise_in c) (view_in c) (parts_in c)
+  at_first early = first_rests c i t.plane t.rows t.used early t.told.board.history
+
+  -- at the first change the tables are the fresh ones, and the cells stand for them
+  fresh_tables : c.plane.board.log.version.applied ≡ 0 → tables_in c ≡ fresh
+  fresh_tables early =
+      let both : Some (tables_in c) ≡ Some fresh = sym i.newest ∙ ap (slice_get c.plane.board.log.history) early ∙ t.told.board.history.first in
+      cc
+
+  pub may_begin : (T : Tables) → IsSound T → c.plane.board.log.version.applied < 2 ^ 32 - 1 → MayBegin c.plane.board T
+  may_begin T sound few = record {
+    room = omega (arith, few);
+    sound = sound;
+    first = λ early. subst (λ (S : Tables). Stands c.plane.board.union S) (fresh_tables early)
+        (stands_at_rest (tables_in c) (rank_by c) (promise_in c) c.plane (parts_in c) t.told t.seen (at_first early));
+  }
+
+  module _ (T : Tables) (v : Known) (queue : List Queued) (stands : StandsFor v T)
+      (queued : (e : Prefix) → is_some (rank_in queue e) ≡ is_queued c e || is_touched (tables_in c) T e)
+      (ranks : (e : Prefix) (k : ℕ) → rank_in queue e ≡ Some k → k ≡ rank_of v.rows e)
+      (fits : size T ≤ c.setup.room) where
+    joined_later : (n : ℕ) → c.plane.board.log.version.applied ≡ n → Joined T (rank_of v.rows) (promise_of (board_begun c.plane.board T)) (view_in c) (record (parts_in c) { queue = queue })
+    joined_later zero early = joined_first (tables_in c) (rank_by c) c.plane (parts_in c) t.told t.seen (at_first early) i.newest T (rank_of v.rows) queue early stands.sound queued ranks
+    joined_later (suc n) late = joined_begun (tables_in c) T (rank_by c) (rank_of v.rows) c.plane (parts_in c) queue t.told i.joined (omega (arith, late)) stands.sound queued ranks
+
+    pub changed_standing : IsStanding (changed_to c T v queue)
+    changed_standing = record {
+      stands = stands;
+      joined = joined_later c.plane.board.log.version.applied refl;
+      newest = subst (λ (k : ℕ). slice_get (c.plane.board.log.history ++ T ∷ []) k ≡ Some T) t.told.board.history.long (get_last c.plane.board.log.history T);
+      calm = λ same. absurd (let o = t.told.board.history.order in omega (arith, o, same));
+      ordered = begun_in_order (rank_of v.rows) (state_now (changed_to c T v queue));
+      once = tt;
+      fits = fits;
+      room = i.room;
+      half = i.half;
+    }
+
+  -- a quiet control has as many objects free as any tables within its room take
+  pub never_crowded : IsQuiet c → (n : ℕ) → n ≤ c.setup.room → free_in c.plane.objects < n → ⊥
+  never_crowded q n fits few =
+      let used = used_at_rest (tables_in c) (rank_by c) (promise_in c) c.plane (parts_in c) t.told t.seen (quiet_rests c i t.plane t.rows t.used q) in
+      let all = free_few c.plane.objects in
+      let h = i.half in
+      let f = i.fits in
+      let s = t.told.size in
+      omega (arith, used, all, h, f, s, fits, few)
+
+  pub may_settle : IsQuiet c → MaySettle c.plane.board
+  may_settle q = record {
+    tables = tables_in c;
+    held = i.newest;
+    sound = i.stands.sound;
+    stands = stands_at_rest (tables_in c) (rank_by c) (promise_in c) c.plane (parts_in c) t.told t.seen (quiet_rests c i t.plane t.rows t.used q);
+  }
+
+  pub settled_standing : IsQuiet c → IsStanding (record c { plane = record c.plane { board = board_settled c.plane.board } })
+  settled_standing q = record {
+    stands = i.stands;
+    joined = joined_settled (tables_in c) (rank_by c) c.plane (parts_in c) t.told t.seen (quiet_rests c i t.plane t.rows t.used q) i.newest;
+    newest = i.newest;
+    calm = λ same. q.retired;
+    ordered = i.ordered;
+    once = i.once;
+    fits = i.fits;
+    room = i.room;
+    half = i.half;
+  }

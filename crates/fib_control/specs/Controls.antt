@@ -1,0 +1,153 @@
+-- What contracts see of a control plane, and what its calls do.
+use Rattle.std.specs.Prelude.{◌≡◌, ℕ, ◌+◌, ◌<◌, ◌≤◌, ◌×◌, ◌||◌, Bool, false, List, [], ◌∷◌, ◌++◌, Option, Some, None, length}
+use Rattle.std.specs.List.{list_any}
+use Rattle.fib_addr.specs.Prefixes.{Prefix, same_prefix}
+use Rattle.fib_resolve.specs.Edits.{edited}
+use Rattle.fib_resolve.specs.Refusals.{refused}
+use Rattle.fib_resolve.specs.Sizes.{size}
+use Rattle.fib_resolve.specs.Touched.{is_touched}
+use Rattle.fib_resolve.specs.declared.types.Edit.{Edit}
+use Rattle.fib_resolve.specs.declared.types.Refusal.TheVariants as refusals
+use Rattle.fib_resolve.specs.declared.types.Tables.{Tables}
+use Rattle.fib_config.specs.Config.{Setup}
+use Rattle.fib_config.specs.declared.errors.EditError.{EditError}
+use Rattle.fib_config.specs.declared.errors.EditError.TheVariants as edit_errors
+use Rattle.fib_entries.specs.Known.{Known, rank_of}
+use Rattle.fib_entries.specs.declared.changes.Moved.{Moved}
+use Rattle.fib_pool.specs.Objects.{free_in}
+use Rattle.fib_board.specs.Boards.{board_begun, board_settled}
+use Rattle.fib_plane.specs.Planes.{Plane}
+use Rattle.fib_queue.specs.declared.order.Queued.{Queued}
+use Rattle.fib_ledger.specs.declared.late.Late.{Late}
+use Rattle.fib_ledger.specs.declared.ledger.Known.{Known as KnownOf}
+use Rattle.fib_ledger.specs.Ledgers.{known_of, total}
+use Rattle.fib_ply.specs.declared.rows.Row.{Row}
+use Rattle.fib_joined.specs.Promise.{Promise}
+use Rattle.fib_joined.specs.View.{View}
+use Rattle.fib_shared.specs.Shares.{promise_of, view_of}
+use Rattle.fib_stack.specs.Joined.{Parts, queued_in, state_in}
+use Rattle.fib_stack.specs.States.{State}
+use Rattle.fib_stack.specs.declared.turn.Turn.{Turn}
+use Rattle.fib_stack.specs.declared.turn.Turn.TheVariants as turns
+use Rattle.fib_control.specs.declared.errors.ApplyError.{ApplyError}
+use Rattle.fib_control.specs.declared.errors.ApplyError.TheVariants as errors
+use Rattle.fib_control.specs.declared.errors.Busy.{Busy}
+use Rattle.fib_control.specs.declared.following.Limits.{Limits}
+
+pub record Control : Type 0 where
+  -- the tables, and the most objects that they may take
+  pub setup : Setup
+  -- what is known of their entries
+  pub entries : Known
+  -- the objects with their words
+  pub plane : Plane
+  -- the prefix table, and how many plies stand for it
+  pub rows : List Row
+  pub plies : ℕ
+  -- what is known of prefixes since their last turns
+  pub known : List (Prefix × KnownOf)
+  -- the deferred buckets
+  pub late : List Late
+  -- the prefixes that wait for a turn, and those that had one since the last change, the latest last
+  pub queue : List Queued
+  pub done : List Prefix
+
+abbrev pub tables_in : Control → Tables
+tables_in c = c.setup.tables
+
+abbrev pub view_in : Control → View
+view_in c = view_of c.plane
+
+abbrev pub promise_in : Control → Promise
+promise_in c = promise_of c.plane.board
+
+abbrev pub parts_in : Control → Parts
+parts_in c = record { rows = c.rows; plies = c.plies; known = known_of c.known; total = total c.known; late = c.late; queue = c.queue }
+
+abbrev pub rank_by : Control → Prefix → ℕ
+rank_by c = rank_of c.entries.rows
+
+abbrev pub state_now : Control → State
+state_now c = state_in (view_in c) (parts_in c)
+
+abbrev pub is_queued : Control → Prefix → Bool
+is_queued c d = queued_in (parts_in c) d
+
+abbrev pub is_among : List Prefix → Prefix → Bool
+is_among ds d = list_any (λ x. same_prefix x d) ds
+
+abbrev pub is_moved : List Moved → Prefix → Bool
+is_moved ms d = list_any (λ m. same_prefix m.prefix d) ms
+
+abbrev pub had_turn : Control → Prefix → Bool
+had_turn c d = is_among c.done d
+
+-- nothing is queued, deferred or retired
+pub record IsQuiet (c : Control) : Type 0 where
+  pub queued : c.queue ≡ []
+  pub deferred : c.late ≡ []
+  pub retired : c.plane.board.union.retired ≡ []
+
+-- the tables were changed to these: a version more, and what the change touches is queued
+pub record IsChanged (c d : Control) (T : Tables) : Type 0 where
+  pub setup : d.setup ≡ record c.setup { tables = T }
+  pub plane : d.plane ≡ record c.plane { board = board_begun c.plane.board T }
+  pub rows : d.rows ≡ c.rows
+  pub plies : d.plies ≡ c.plies
+  pub known : d.known ≡ c.known
+  pub late : d.late ≡ c.late
+  pub queue : (e : Prefix) → is_queued d e ≡ is_queued c e || is_touched (tables_in c) T e
+  pub done : d.done ≡ []
+
+-- a fault of a change says why: the first reason; or that fewer objects are free than the edited tables take, with both numbers
+abbrev pub TellsApply : Control → Edit → ApplyError → Type 0
+TellsApply c e (errors.Refused r) = refused (tables_in c) c.setup.room e ≡ Some r
+TellsApply c e (errors.Crowded free wanted) =
+    (refused (tables_in c) c.setup.room e ≡ None)
+    × (free ≡ free_in c.plane.objects)
+    × (wanted ≡ size (edited (tables_in c) e))
+    × (free < wanted)
+TellsApply c e errors.Memory = Unit {0}
+
+-- it is no want of objects
+abbrev pub IsNotCrowded : ApplyError → Type 0
+IsNotCrowded (errors.Refused r) = Unit {0}
+IsNotCrowded (errors.Crowded free wanted) = ⊥
+IsNotCrowded errors.Memory = Unit {0}
+
+-- a size that is above a limit
+abbrev pub IsTooMuch : Limits → ℕ → ApplyError → Type 0
+IsTooMuch l n (errors.Refused r) = (r ≡ refusals.TooLarge) × (l.room < n)
+IsTooMuch l n (errors.Crowded free wanted) = (n ≤ l.room) × (free ≡ l.free) × (wanted ≡ n) × (l.free < n)
+IsTooMuch l n errors.Memory = Unit {0}
+
+abbrev pub refused_or_memory : EditError → ApplyError
+refused_or_memory (edit_errors.Refused r) = errors.Refused r
+refused_or_memory edit_errors.Memory = errors.Memory
+
+-- beneath these tables: a call that makes no change leaves the tables, what is known of them, and all of the board but its words
+pub record IsBeneath (c d : Control) : Type 0 where
+  pub setup : d.setup ≡ c.setup
+  pub entries : d.entries ≡ c.entries
+  pub promise : promise_in d ≡ promise_in c
+
+abbrev pub noted : Turn → List Prefix → List Prefix
+noted turns.Idle done = done
+noted (turns.Restacked e stores dropped) done = done ++ e ∷ []
+
+-- a prefix that has its turn had none since the last change
+abbrev pub IsDoneAfter : Turn → List Prefix → List Prefix → Type 0
+IsDoneAfter turns.Idle before after = after ≡ before
+IsDoneAfter (turns.Restacked e stores dropped) before after = (after ≡ before ++ e ∷ []) × (is_among before e ≡ false)
+
+-- how much waits, and that something does
+pub record IsBusy (b : Busy) (c : Control) : Type 0 where
+  pub queued : b.queued ≡ length c.queue
+  pub deferred : b.deferred ≡ length c.late
+  pub retired : b.retired ≡ length c.plane.board.union.retired
+  pub some : 0 < b.queued + b.deferred + b.retired
+
+-- the last version is settled, and nothing else is other
+pub record IsSettled (c d : Control) : Type 0 where
+  pub plane : d.plane ≡ record c.plane { board = board_settled c.plane.board }
+  pub others : record d { plane = c.plane } ≡ c

@@ -1,0 +1,275 @@
+// The control plane as one value.
+ghost use Rattle.std.specs.Prelude.{◌≡◌, ◌+◌, ◌-◌, ◌^◌, ◌<◌, ◌≤◌, [], ℕ, IfErr, IfOk, IsTrue, None, OnErr, OnOk, Some, length, false, true, vec_capacity, ◌↔◌};
+ghost use Rattle.fib_addr.specs.Prefixes.{Prefix as PrefixValue};
+ghost use Rattle.fib_resolve.specs.Edits.{edited};
+ghost use Rattle.fib_resolve.specs.Reachable.{IsWritten};
+ghost use Rattle.fib_resolve.specs.Refusals.{refused};
+ghost use Rattle.fib_resolve.specs.Sizes.{size};
+ghost use Rattle.fib_pool.specs.Objects.{free_in};
+ghost use Rattle.fib_ply.specs.Rows.{held};
+ghost use Rattle.fib_core.specs.declared.word.Word.{Word};
+ghost use Rattle.fib_ledger.specs.Deferred.{late_at};
+ghost use Rattle.fib_stack.specs.Done.{IsCounted, IsStored, StaysLate, TurnDone};
+ghost use Rattle.fib_stack.specs.Records.{SamePlane};
+ghost use Rattle.fib_stack.specs.Steps.{Retried};
+ghost use Rattle.fib_control.specs.Controls.{IsBeneath, IsBusy, IsChanged, IsDoneAfter, IsNotCrowded, IsQuiet, IsSettled, TellsApply, noted, parts_in, promise_in, rank_by, state_now, tables_in, view_in};
+
+use crate::errors::{ApplyError, Busy};
+use crate::following::{Limits, follow};
+use crate::queueing::queue_all;
+use fib_addr::Prefix;
+use fib_board::Board;
+use fib_config::{Config, Edited};
+use fib_core::Version;
+use fib_entries::Entries;
+use fib_joined::Objects;
+use fib_ply::PrefixTable;
+use fib_queue::Queue;
+use fib_resolve::{Edit, Tables};
+use fib_shared::Shared;
+use fib_stack::{Stack, Turn, Want};
+use std::alloc::Global;
+use std::marker::Model;
+
+/// Tables under change, and the shared words that stand for them: exactly, whenever nothing is queued, deferred or retired.
+///
+/// A change makes a version more and queues the prefixes that it touches; a turn restacks one of them, the targets of packets before those that
+/// lead to them. A scan lets go what no pass stands on any more, a retry stores what would have closed a cycle before, and then the version may be
+/// settled. Nothing of the tables is ever copied.
+#[derive(Drop)]
+pub struct Control<B: Board> {
+    config: Config,
+    room: u32,
+    entries: Entries,
+    shared: Shared<B>,
+    table: PrefixTable,
+    stack: Stack,
+    queue: Queue,
+    done: Vec<Prefix>,
+    alloc: Global,
+}
+
+impl<B: Board> Model for Control<B> {
+    ghost use Rattle.fib_control.specs.Controls.{Control as Seen};
+    ghost use Rattle.fib_control.specs.inner.Standing.{IsStanding};
+
+    ghost Value = { Seen };
+
+    ghost view = { λ c. record { setup = c.config; entries = c.entries; plane = c.shared.plane; rows = c.table.rows.members; plies = c.table.plies; known = c.stack.ledger.rows; late = c.stack.late.members; queue = c.queue.members; done = c.done.items } };
+
+    ghost invariant = { λ c. IsStanding (record { setup = c.config; entries = c.entries; plane = c.shared.plane; rows = c.table.rows.members; plies = c.table.plies; known = c.stack.ledger.rows; late = c.stack.late.members; queue = c.queue.members; done = c.done.items }) × (c.room ≡ c.config.room) };
+}
+
+impl<B: Board> Control<B> {
+    /// The tables as they are.
+    pub fn tables(&self) -> &Tables
+        ensures { result.now ≡ tables_in self.now }
+    {
+        self.config.tables()
+    }
+
+    /// What is known of their entries.
+    pub fn entries(&self) -> &Entries
+        ensures { result.now ≡ self.now.entries }
+    {
+        &self.entries
+    }
+
+    /// The last version that was settled and the last that was begun.
+    pub fn version(&self) -> Version
+        ensures { result ≡ self.now.plane.board.log.version }
+    {
+        self.shared.version()
+    }
+
+    /// How many objects aren't free.
+    pub fn used(&self) -> u32
+        ensures { result ≡ length self.now.plane.objects - free_in self.now.plane.objects }
+    {
+        self.shared.used()
+    }
+
+    /// The number of a prefix's balance; None exactly where the prefix isn't in the prefix table.
+    pub fn object_of(&self, prefix: Prefix) -> Option<u32>
+        ensures { result ≡ held self.now.rows prefix }
+    {
+        self.table.object(prefix)
+    }
+
+    /// How many buckets are deferred: they drop in place of an edge that would have closed a cycle.
+    pub fn deferred(&self) -> u32
+        ensures { result ≡ length self.now.late }
+    {
+        self.stack.deferred()
+    }
+
+    /// How many copies of replaced edges are kept for passes that may stand on them.
+    pub fn retired(&self) -> u32
+        ensures { result ≡ length self.now.plane.board.union.retired }
+    {
+        self.shared.retired()
+    }
+
+    /// Makes a change of the tables: the edit is made, a version begins, and what the edit touches is queued. Answers the number of the version.
+    ///
+    /// Refused comes exactly where `Config::edit` refuses, and Crowded exactly where it doesn't but fewer objects are free than the edited tables
+    /// take; a quiet control is never crowded. After a fault nothing has changed. The edit is one that a line can write, and there are fewer than
+    /// 2^32 versions.
+    pub fn apply(&mut self, edit: &Edit) -> Result<u32, ApplyError>
+        requires written { IsWritten edit.now }
+        requires version { self.old.plane.board.log.version.applied < 2 ^ 32 - 1 }
+        ensures accepted { OnOk result (refused (tables_in self.old) self.old.setup.room edit.now ≡ None) }
+        ensures changed { OnOk result (IsChanged self.old self.new (edited (tables_in self.old) edit.now)) }
+        ensures fits { OnOk result (size (edited (tables_in self.old) edit.now) ≤ free_in self.old.plane.objects) }
+        ensures version { IfOk result (λ a. a ≡ self.old.plane.board.log.version.applied + 1) }
+        ensures why { IfErr result (TellsApply self.old edit.now) }
+        ensures quiet { IsQuiet self.old → IfErr result IsNotCrowded }
+        ensures err { OnErr result (self.new ≡ self.old) }
+    {
+        self.shared.tells();
+        self.table.tells();
+        self.stack.tells();
+        let Edited { change, undo } = self.config.change(edit)?;
+        let limits = Limits {
+            room: self.room,
+            free: self.shared.free(),
+        };
+        match follow(
+            self.alloc,
+            &self.config,
+            &mut self.entries,
+            &mut self.queue,
+            change,
+            limits,
+        ) {
+            Ok(followed) => {
+                queue_all(&mut self.queue, &self.entries, &followed);
+                self.shared.begin_version(self.config.tables());
+                self.done.clear();
+                Ok(self.shared.version().applied)
+            }
+            Err(error) => {
+                self.config.undo(undo);
+                Err(error)
+            }
+        }
+    }
+
+    /// How many prefixes wait for their turn.
+    pub fn queued(&self) -> u32
+        ensures { result ≡ length self.now.queue }
+    {
+        self.queue.len() as u32
+    }
+
+    /// Whether nothing is queued, deferred or retired. Then the shared words stand for the tables.
+    pub fn is_quiet(&self) -> bool
+        ensures { IsTrue result ↔ IsQuiet self.now }
+    {
+        self.queued() == 0 && self.deferred() == 0 && self.retired() == 0
+    }
+
+    /// Gives the queued prefix of the least rank its turn. An entry's object gets its wanted buckets, and then it is added to the prefix table if it
+    /// isn't there; a prefix that left the entries leaves the table. Idle exactly where nothing is queued.
+    ///
+    /// After a fault the prefix is still queued and all is as before, but for room and the count of stores.
+    pub fn turn(&mut self) -> Result<Turn, Want>
+        ensures turn { IfOk result (λ t. TurnDone (tables_in self.old) (rank_by self.old) t (state_now self.old) (state_now self.new)) }
+        ensures dropped { IfOk result (λ t. IsCounted t self.new.late) }
+        ensures stores { IfOk result (λ t. IsStored t self.old.plane.board.stored self.new.plane.board.stored) }
+        ensures done { IfOk result (λ t. IsDoneAfter t self.old.done self.new.done) }
+        ensures same { IsBeneath self.old self.new }
+        ensures err { OnErr result (SamePlane (view_in self.old) (view_in self.new)) }
+        ensures parts { OnErr result ((parts_in self.new ≡ parts_in self.old) × (self.new.done ≡ self.old.done)) }
+    {
+        if self.queue.len() == 0 {
+            return Ok(Turn::Idle);
+        }
+        if self.done.reserve(1).is_err() {
+            return Err(Want::Memory);
+        }
+        let turn = self.stack.turn(
+            &mut self.shared,
+            self.config.tables(),
+            &self.entries,
+            &mut self.table,
+            &mut self.queue,
+        )?;
+        note(&mut self.done, turn);
+        Ok(turn)
+    }
+
+    /// Looks which replaced edges no pass stands on any more: they are retired no longer, and what they alone kept is given back. Answers how many
+    /// copies are left; none where no worker is out.
+    pub fn scan(&mut self) -> u32
+        ensures left { result ≡ length self.new.plane.board.union.retired }
+        ensures alone { (promise_in self.old).alone ≡ true → self.new.plane.board.union.retired ≡ [] }
+        ensures same { IsBeneath self.old self.new }
+        ensures parts { (parts_in self.new ≡ parts_in self.old) × (self.new.done ≡ self.old.done) }
+    {
+        self.shared.tells();
+        if self.shared.retired() == 0 {
+            return 0;
+        }
+        self.shared.scan()
+    }
+
+    /// Tries each deferred bucket whose prefix isn't queued: its edge is stored where it closes no cycle any more. Answers how many are deferred still;
+    /// none where nothing is queued or retired.
+    pub fn retry(&mut self) -> u32
+        ensures left { result ≡ length self.new.late }
+        ensures calm { self.old.queue ≡ [] → self.old.plane.board.union.retired ≡ [] → (result ≡ 0) × IsQuiet self.new }
+        ensures retried { Retried (state_now self.old) (state_now self.new) }
+        ensures why { (e : PrefixValue) (k : ℕ) (w : Word) → late_at self.new.late e k ≡ Some w → StaysLate (view_in self.new) (parts_in self.new) e w }
+        ensures same { IsBeneath self.old self.new }
+        ensures parts { (self.new.rows ≡ self.old.rows) × (self.new.plies ≡ self.old.plies) × (self.new.queue ≡ self.old.queue) × (self.new.done ≡ self.old.done) }
+    {
+        self.stack.retry(&mut self.shared, &self.table, &self.queue)
+    }
+
+    /// Settles the last version, whose number it answers, where nothing is queued, deferred or retired. Else it says how much is.
+    pub fn mark_settled(&mut self) -> Result<u32, Busy>
+        ensures quiet { OnOk result (IsQuiet self.old) }
+        ensures settled { OnOk result (IsSettled self.old self.new) }
+        ensures version { IfOk result (λ n. n ≡ self.old.plane.board.log.version.applied) }
+        ensures busy { IfErr result (λ b. IsBusy b self.old) }
+        ensures err { OnErr result (self.new ≡ self.old) }
+    {
+        self.shared.tells();
+        self.table.tells();
+        self.stack.tells();
+        let busy = Busy {
+            queued: self.queue.len() as u32,
+            deferred: self.stack.deferred(),
+            retired: self.shared.retired(),
+        };
+        if !is_calm(&busy) {
+            return Err(busy);
+        }
+        self.shared.settle_version();
+        Ok(self.shared.version().applied)
+    }
+}
+
+// Whether nothing waits.
+fn is_calm(busy: &Busy) -> bool
+    ensures yes { result ≡ true → (busy.now.queued ≡ 0) × (busy.now.deferred ≡ 0) × (busy.now.retired ≡ 0) }
+    ensures no { result ≡ false → 0 < busy.now.queued + busy.now.deferred + busy.now.retired }
+{
+    busy.queued == 0 && busy.deferred == 0 && busy.retired == 0
+}
+
+// Notes which prefix had a turn. There must be room.
+fn note(done: &mut Vec<Prefix>, turn: Turn)
+    requires { length done.old.items < vec_capacity done.old }
+    ensures { done.new.items ≡ noted turn done.old.items }
+{
+    match turn {
+        Turn::Restacked { entry, .. } => {
+            let Ok(()) = done.push(entry) else {
+                unreachable!()
+            };
+        }
+        Turn::Idle => {}
+    }
+}
