@@ -8,6 +8,7 @@ use Rattle.fib_resolve.specs.Tables.{IsSound, fresh}
 use Rattle.fib_resolve.specs.Touched.{is_touched}
 use Rattle.fib_resolve.specs.declared.types.Tables.{Tables}
 use Rattle.fib_core.specs.StandsFor.{Stands}
+use Rattle.fib_config.specs.Config.{Setup}
 use Rattle.fib_entries.specs.Known.{Known, StandsFor, rank_of}
 use Rattle.fib_pool.specs.Objects.{free_in}
 use Rattle.fib_pool.proofs.Pools.{free_few}
@@ -117,3 +118,11 @@ module _ (c : Control) (i : IsStanding c) (t : Tells c) where
     room = i.room;
     half = i.half;
   }
+
+-- the same, as its parts come
+pub changed_like : (c : Control) (T : Tables) (v : Known) (queue : List Queued) (s : Setup) (p : Plane) (ds : List Prefix) → s ≡ record c.setup { tables = T } → p ≡ record c.plane { board = board_begun c.plane.board T } → ds ≡ []
+    → IsStanding (changed_to c T v queue) → IsStanding (record c { setup = s; entries = v; plane = p; queue = queue; done = ds })
+changed_like c T v queue s p ds setup plane none h =
+    subst (λ (x : Setup). IsStanding (record c { setup = x; entries = v; plane = p; queue = queue; done = ds })) (sym setup)
+    (subst (λ (x : Plane). IsStanding (record c { setup = record c.setup { tables = T }; entries = v; plane = x; queue = queue; done = ds })) (sym plane)
+    (subst (λ (x : List Prefix). IsStanding (record c { setup = record c.setup { tables = T }; entries = v; plane = record c.plane { board = board_begun c.plane.board T }; queue = queue; done = x })) (sym none) h))

@@ -1,16 +1,21 @@
 -- Queued one by one, and keyed anew.
+use native.Mathlib.Decide.{ℕ_discrete}
 use Rattle.std.proofs.Common.{inl, inr, ⊎_elim, ◌≡◌, ℕ, ◌+◌, ◌<◌, Bool, true, false, true≢false, ◌||◌, List, [], ◌∷◌, length, map, take, get_or, refl, sym, ap, ◌∙◌, subst, arith}
 use Rattle.std.specs.Prelude.{Contains, Option, Some, None, option_map, ◌⊎◌, if◌then◌else◌}
 use Rattle.std.specs.List.{list_any}
 use Rattle.std.proofs.lemmas.List.Folds.{list_any_more}
 use Rattle.fib_addr.specs.Prefixes.{Prefix, same_prefix}
 use Rattle.fib_addr.proofs.PrefixLaws.{same_prefix-Decides}
+use Rattle.fib_list.proofs.Lists.{either}
+use Rattle.fib_resolve.specs.Touched.{is_touched}
+use Rattle.fib_resolve.specs.declared.types.Tables.{Tables}
+use Rattle.fib_changes.proofs.CauseLaws.{any_from}
 use Rattle.fib_changes.proofs.Edits.{any_in}
 use Rattle.fib_changes.proofs.SamePairs.{map_from}
 use Rattle.fib_stack.proofs.Woken.{rank_next, queued_next}
 use Rattle.fib_serving.specs.Stack.{is_some}
 use Rattle.fib_entries.specs.Known.{rank_of}
-use Rattle.fib_entries.specs.Changes.{AreMoved, prefix_moved}
+use Rattle.fib_entries.specs.Changes.{AreMoved, AreTouched, prefix_moved}
 use Rattle.fib_entries.specs.declared.changes.Moved.{Moved}
 use Rattle.fib_entries.specs.declared.rows.Row.{Row}
 use Rattle.fib_control.specs.Controls.{is_among, is_moved}
@@ -65,3 +70,15 @@ ranked_anew old new ms d r first are before h = ⊎_elim
     (λ (a : r ≡ rank_of new d). a)
     (λ (b : (first ≡ Some r) × (is_moved ms d ≡ false)). before r b.0 ∙ sym (unmoved old new ms d are b.1))
     h
+
+-- the listed prefixes are those that are touched
+pub among_touched : (S T : Tables) (ds : List Prefix) (d : Prefix) → AreTouched S T ds → is_among ds d ≡ is_touched S T d
+among_touched S T ds d are = elim (either (is_touched S T d)) [
+  | inl is ↦ any_in (λ y. same_prefix y d) ds d ((are.touched d).1 is) ((same_prefix-Decides d d).1 refl) ∙ sym is
+  | inr none ↦ elim (either (is_among ds d)) [
+      | inl is ↦ absurd (let r = any_from (λ y. same_prefix y d) ds is in
+            let same : r.0 ≡ d = (same_prefix-Decides r.0 d).0 r.2 in
+            true≢false (sym ((are.touched d).0 (subst (λ (x : Prefix). Contains ds x) same r.1)) ∙ none))
+      | inr absent ↦ absent ∙ sym none
+    ]
+]

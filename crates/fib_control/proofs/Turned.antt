@@ -1,6 +1,7 @@
 -- Turns, and what else leaves the tables as they are.
-use Rattle.std.proofs.Common.{inl, inr, ⊎_elim, ◌≡◌, ◌≢◌, ◌⊎◌, ℕ, zero, suc, ◌+◌, ◌-◌, ◌<◌, ◌≤◌, ◌||◌, ◌&&◌, not, Bool, true, false, true≢false, List, [], ◌∷◌, ◌++◌, length, refl, sym, ap, ◌∙◌, subst, arith}
-use Rattle.std.specs.Prelude.{Contains, Option, Some, None, slice_get}
+use native.Mathlib.Decide.{ℕ_discrete}
+use Rattle.std.proofs.Common.{map, inl, inr, ⊎_elim, ◌≡◌, ◌≢◌, ◌⊎◌, ℕ, zero, suc, ◌+◌, ◌-◌, ◌<◌, ◌≤◌, ◌||◌, ◌&&◌, not, Bool, true, false, true≢false, List, [], ◌∷◌, ◌++◌, length, refl, sym, ap, ◌∙◌, subst, arith}
+use Rattle.std.specs.Prelude.{Contains, Option, Some, None, slice_get, if◌then◌else◌}
 use Rattle.std.specs.List.{AllByRecursion, list_any}
 use Rattle.std.proofs.lemmas.List.Folds.{list_any-append}
 use Rattle.fib_list.proofs.Booleans.{and_both, or_cases}
@@ -17,10 +18,15 @@ use Rattle.fib_entries.specs.Known.{Known, StandsFor, rank_of}
 use Rattle.fib_lawful.specs.State.{Log}
 use Rattle.fib_queue.specs.Queues.{rank_in}
 use Rattle.fib_queue.specs.declared.order.Queued.{Queued}
-use Rattle.fib_joined.specs.Promise.{Promise}
+use Rattle.std.proofs.lemmas.List.{length-map}
+use Rattle.fib_board.specs.Told.{IsHistory}
+use Rattle.fib_core.specs.Union.{Retired as Copy}
+use Rattle.fib_shared.specs.Shares.{copy_seen}
+use Rattle.fib_joined.specs.Promise.{MayClear, Promise}
+use Rattle.fib_stack.proofs.Joining.{table_names}
 use Rattle.fib_serving.specs.Stack.{is_some}
 use Rattle.fib_stack.specs.Done.{IsTaken, TurnDone}
-use Rattle.fib_stack.specs.Joined.{Joined, queued_in}
+use Rattle.fib_stack.specs.Joined.{Joined, queued_in, table_of}
 use Rattle.fib_stack.specs.Orders.{InOrder, did_also}
 use Rattle.fib_stack.specs.States.{State}
 use Rattle.fib_stack.specs.Steps.{IsLeast, Removed}
@@ -28,7 +34,7 @@ use Rattle.fib_stack.specs.Turns.{IsRestacked}
 use Rattle.fib_stack.specs.declared.turn.Turn.{Turn}
 use Rattle.fib_stack.specs.declared.turn.Turn.TheVariants as turns
 use Rattle.fib_stack.proofs.Ordering.{removed_in_order, restacked_in_order, was_not_done}
-use Rattle.fib_control.specs.Controls.{Control, IsBeneath, IsDoneAfter, had_turn, is_among, is_queued, parts_in, promise_in, rank_by, state_now, tables_in, view_in}
+use Rattle.fib_control.specs.Controls.{Control, IsBeneath, IsDoneAfter, had_turn, is_among, is_queued, noted, parts_in, promise_in, rank_by, state_now, tables_in, view_in}
 use Rattle.fib_control.specs.inner.Standing.{IsStanding}
 
 -- a turn that was noted also
@@ -138,3 +144,32 @@ module _ (c d : Control) (i : IsStanding c) (same : IsBeneath c d) where
     room = (let r = i.room in let s = same_room in omega (arith, r, s));
     half = (let h = i.half in let s = same_room in let o = same_objects in omega (arith, h, s, o));
   }
+
+pub empty_by : {A : Type 0} (xs : List A) (n : ℕ) → n ≡ length xs → n ≡ 0 → xs ≡ []
+empty_by [] n is none = refl
+empty_by (x ∷ xs) n is none = absurd (omega (arith, is, none))
+
+pub empty_from : {A B : Type 0} (f : A → B) (xs : List A) → map f xs ≡ [] → xs ≡ []
+empty_from f xs is = empty_by xs (length xs) refl (sym (length-map xs f) ∙ ap length is)
+
+-- something is queued: a change is being made
+pub busy_waits : (c : Control) → IsStanding c → (n : ℕ) → n ≡ length c.queue → (n ≡ 0 → ⊥) → c.plane.board.log.version.settled < c.plane.board.log.version.applied
+busy_waits c i n is some = by_list c.queue refl
+  where
+    by_list : (qs : List Queued) → c.queue ≡ qs → c.plane.board.log.version.settled < c.plane.board.log.version.applied
+    by_list [] at = absurd (some (is ∙ ap length at))
+    by_list (q ∷ qs) at = waits c i q qs at
+
+-- something is retired: then too
+pub retired_waits : (c : Control) → IsStanding c → IsHistory c.plane.board → (n : ℕ) → n ≡ length (map copy_seen c.plane.board.union.retired) → (n ≡ 0 → ⊥) → c.plane.board.log.version.settled < c.plane.board.log.version.applied
+retired_waits c i h n is some = elim (ℕ_discrete c.plane.board.log.version.settled c.plane.board.log.version.applied) [
+  | yes same ↦ absurd (some (is ∙ ap (λ (xs : List Copy). length (map copy_seen xs)) (i.calm same)))
+  | no apart ↦ (let o = h.order in omega (arith, o, apart))
+]
+
+pub may_clear_now : (c : Control) → IsStanding c → c.plane.board.log.version.settled < c.plane.board.log.version.applied → MayClear (promise_in c) (view_in c)
+may_clear_now c i lt = (let n = table_names (promise_in c) (table_of (parts_in c)) (view_in c) i.joined.table in (inl lt, (n.0, n.2)))
+
+pub noted_after : (S : Tables) (rank : Prefix → ℕ) (turn : Turn) (s t : State) (before after : List Prefix) → TurnDone S rank turn s t → InOrder rank s (is_among before) → after ≡ noted turn before → IsDoneAfter turn before after
+noted_after S rank turns.Idle s t before after done order is = is
+noted_after S rank (turns.Restacked e stores dropped) s t before after done order is = (is, turn_new S rank e s t before done order)

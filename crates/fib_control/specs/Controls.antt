@@ -1,5 +1,5 @@
 -- What contracts see of a control plane, and what its calls do.
-use Rattle.std.specs.Prelude.{◌≡◌, ℕ, ◌+◌, ◌<◌, ◌≤◌, ◌×◌, ◌||◌, Bool, false, List, [], ◌∷◌, ◌++◌, Option, Some, None, length}
+use Rattle.std.specs.Prelude.{◌≡◌, ℕ, ◌+◌, ◌<◌, ◌≤◌, ◌||◌, Bool, false, List, [], ◌∷◌, ◌++◌, Option, Some, None, length}
 use Rattle.std.specs.List.{list_any}
 use Rattle.fib_addr.specs.Prefixes.{Prefix, same_prefix}
 use Rattle.fib_resolve.specs.Edits.{edited}
@@ -10,8 +10,6 @@ use Rattle.fib_resolve.specs.declared.types.Edit.{Edit}
 use Rattle.fib_resolve.specs.declared.types.Refusal.TheVariants as refusals
 use Rattle.fib_resolve.specs.declared.types.Tables.{Tables}
 use Rattle.fib_config.specs.Config.{Setup}
-use Rattle.fib_config.specs.declared.errors.EditError.{EditError}
-use Rattle.fib_config.specs.declared.errors.EditError.TheVariants as edit_errors
 use Rattle.fib_entries.specs.Known.{Known, rank_of}
 use Rattle.fib_entries.specs.declared.changes.Moved.{Moved}
 use Rattle.fib_pool.specs.Objects.{free_in}
@@ -21,7 +19,9 @@ use Rattle.fib_queue.specs.declared.order.Queued.{Queued}
 use Rattle.fib_ledger.specs.declared.late.Late.{Late}
 use Rattle.fib_ledger.specs.declared.ledger.Known.{Known as KnownOf}
 use Rattle.fib_ledger.specs.Ledgers.{known_of, total}
-use Rattle.fib_ply.specs.declared.rows.Row.{Row}
+use Rattle.fib_ply.specs.declared.rows.Row.{Row as Placed}
+use Rattle.fib_entries.specs.declared.rows.Row.{Row}
+use Rattle.fib_queue.specs.Queues.{rank_in}
 use Rattle.fib_joined.specs.Promise.{Promise}
 use Rattle.fib_joined.specs.View.{View}
 use Rattle.fib_shared.specs.Shares.{promise_of, view_of}
@@ -42,7 +42,7 @@ pub record Control : Type 0 where
   -- the objects with their words
   pub plane : Plane
   -- the prefix table, and how many plies stand for it
-  pub rows : List Row
+  pub rows : List Placed
   pub plies : ℕ
   -- what is known of prefixes since their last turns
   pub known : List (Prefix × KnownOf)
@@ -99,15 +99,18 @@ pub record IsChanged (c d : Control) (T : Tables) : Type 0 where
   pub queue : (e : Prefix) → is_queued d e ≡ is_queued c e || is_touched (tables_in c) T e
   pub done : d.done ≡ []
 
--- a fault of a change says why: the first reason; or that fewer objects are free than the edited tables take, with both numbers
+-- each queued prefix has its rank
+abbrev pub AreRanked : List Row → List Queued → Type 0
+AreRanked rows queue = (d : Prefix) (r : ℕ) → rank_in queue d ≡ Some r → r ≡ rank_of rows d
+
+-- a fault of an edit says why: the first reason; or that fewer objects are free than the edited tables take, with both numbers
+abbrev pub TellsEdit : Tables → Limits → Edit → ApplyError → Type 0
+TellsEdit S l e (errors.Refused r) = refused S l.room e ≡ Some r
+TellsEdit S l e (errors.Crowded free wanted) = (refused S l.room e ≡ None) × (free ≡ l.free) × (wanted ≡ size (edited S e)) × (free < wanted)
+TellsEdit S l e errors.Memory = Unit {0}
+
 abbrev pub TellsApply : Control → Edit → ApplyError → Type 0
-TellsApply c e (errors.Refused r) = refused (tables_in c) c.setup.room e ≡ Some r
-TellsApply c e (errors.Crowded free wanted) =
-    (refused (tables_in c) c.setup.room e ≡ None)
-    × (free ≡ free_in c.plane.objects)
-    × (wanted ≡ size (edited (tables_in c) e))
-    × (free < wanted)
-TellsApply c e errors.Memory = Unit {0}
+TellsApply c e = TellsEdit (tables_in c) (record { room = c.setup.room; free = free_in c.plane.objects }) e
 
 -- it is no want of objects
 abbrev pub IsNotCrowded : ApplyError → Type 0
@@ -120,10 +123,6 @@ abbrev pub IsTooMuch : Limits → ℕ → ApplyError → Type 0
 IsTooMuch l n (errors.Refused r) = (r ≡ refusals.TooLarge) × (l.room < n)
 IsTooMuch l n (errors.Crowded free wanted) = (n ≤ l.room) × (free ≡ l.free) × (wanted ≡ n) × (l.free < n)
 IsTooMuch l n errors.Memory = Unit {0}
-
-abbrev pub refused_or_memory : EditError → ApplyError
-refused_or_memory (edit_errors.Refused r) = errors.Refused r
-refused_or_memory edit_errors.Memory = errors.Memory
 
 -- beneath these tables: a call that makes no change leaves the tables, what is known of them, and all of the board but its words
 pub record IsBeneath (c d : Control) : Type 0 where

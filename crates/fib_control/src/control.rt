@@ -10,16 +10,19 @@ ghost use Rattle.fib_ply.specs.Rows.{held};
 ghost use Rattle.fib_core.specs.declared.word.Word.{Word};
 ghost use Rattle.fib_ledger.specs.Deferred.{late_at};
 ghost use Rattle.fib_stack.specs.Done.{IsCounted, IsStored, StaysLate, TurnDone};
+ghost use Rattle.fib_entries.specs.Known.{StandsFor, rank_of};
+ghost use Rattle.fib_shared.specs.Shares.{promise_of, view_of};
+ghost use Rattle.fib_stack.specs.Joined.{Joined, state_in};
+ghost use Rattle.fib_stack.specs.Turns.{parts_of};
 ghost use Rattle.fib_stack.specs.Records.{SamePlane};
 ghost use Rattle.fib_stack.specs.Steps.{Retried};
 ghost use Rattle.fib_control.specs.Controls.{IsBeneath, IsBusy, IsChanged, IsDoneAfter, IsNotCrowded, IsQuiet, IsSettled, TellsApply, noted, parts_in, promise_in, rank_by, state_now, tables_in, view_in};
 
 use crate::errors::{ApplyError, Busy};
-use crate::following::{Limits, follow};
-use crate::queueing::queue_all;
+use crate::following::{Limits, change};
 use fib_addr::Prefix;
 use fib_board::Board;
-use fib_config::{Config, Edited};
+use fib_config::Config;
 use fib_core::Version;
 use fib_entries::Entries;
 use fib_joined::Objects;
@@ -50,6 +53,7 @@ pub struct Control<B: Board> {
 }
 
 impl<B: Board> Model for Control<B> {
+    ghost use Rattle.std.specs.Prelude.{◌≡◌};
     ghost use Rattle.fib_control.specs.Controls.{Control as Seen};
     ghost use Rattle.fib_control.specs.inner.Standing.{IsStanding};
 
@@ -129,37 +133,32 @@ impl<B: Board> Control<B> {
         self.shared.tells();
         self.table.tells();
         self.stack.tells();
-        let Edited { change, undo } = self.config.change(edit)?;
         let limits = Limits {
             room: self.room,
             free: self.shared.free(),
         };
-        match follow(
+        match change(
             self.alloc,
-            &self.config,
+            &mut self.config,
             &mut self.entries,
             &mut self.queue,
-            change,
+            edit,
             limits,
         ) {
-            Ok(followed) => {
-                queue_all(&mut self.queue, &self.entries, &followed);
+            Ok(()) => {
                 self.shared.begin_version(self.config.tables());
                 self.done.clear();
                 Ok(self.shared.version().applied)
             }
-            Err(error) => {
-                self.config.undo(undo);
-                Err(error)
-            }
+            Err(error) => Err(error),
         }
     }
 
     /// How many prefixes wait for their turn.
-    pub fn queued(&self) -> u32
+    pub fn queued(&self) -> usize
         ensures { result ≡ length self.now.queue }
     {
-        self.queue.len() as u32
+        self.queue.len()
     }
 
     /// Whether nothing is queued, deferred or retired. Then the shared words stand for the tables.
@@ -188,15 +187,20 @@ impl<B: Board> Control<B> {
         if self.done.reserve(1).is_err() {
             return Err(Want::Memory);
         }
-        let turn = self.stack.turn(
+        match restack(
+            &mut self.stack,
             &mut self.shared,
-            self.config.tables(),
+            &self.config,
             &self.entries,
             &mut self.table,
             &mut self.queue,
-        )?;
-        note(&mut self.done, turn);
-        Ok(turn)
+        ) {
+            Ok(turn) => {
+                note(&mut self.done, &turn);
+                Ok(turn)
+            }
+            Err(want) => Err(want),
+        }
     }
 
     /// Looks which replaced edges no pass stands on any more: they are retired no longer, and what they alone kept is given back. Answers how many
@@ -239,7 +243,7 @@ impl<B: Board> Control<B> {
         self.table.tells();
         self.stack.tells();
         let busy = Busy {
-            queued: self.queue.len() as u32,
+            queued: self.queue.len(),
             deferred: self.stack.deferred(),
             retired: self.shared.retired(),
         };
@@ -259,14 +263,37 @@ fn is_calm(busy: &Busy) -> bool
     busy.queued == 0 && busy.deferred == 0 && busy.retired == 0
 }
 
+// A turn of the stack's, with the control's own tables.
+fn restack<B: Board>(
+    stack: &mut Stack,
+    shared: &mut Shared<B>,
+    config: &Config,
+    entries: &Entries,
+    table: &mut PrefixTable,
+    queue: &mut Queue,
+) -> Result<Turn, Want>
+    requires stands { StandsFor entries.now config.now.tables }
+    requires joined { Joined config.now.tables (rank_of entries.now.rows) (promise_of shared.old.plane.board) (view_of shared.old.plane) (parts_of table.old stack.old queue.old) }
+    ensures turn { IfOk result (λ t. TurnDone config.now.tables (rank_of entries.now.rows) t (state_in (view_of shared.old.plane) (parts_of table.old stack.old queue.old)) (state_in (view_of shared.new.plane) (parts_of table.new stack.new queue.new))) }
+    ensures joined { Joined config.now.tables (rank_of entries.now.rows) (promise_of shared.new.plane.board) (view_of shared.new.plane) (parts_of table.new stack.new queue.new) }
+    ensures dropped { IfOk result (λ t. IsCounted t stack.new.late.members) }
+    ensures stores { IfOk result (λ t. IsStored t shared.old.plane.board.stored shared.new.plane.board.stored) }
+    ensures err { OnErr result (SamePlane (view_of shared.old.plane) (view_of shared.new.plane)) }
+    ensures parts { OnErr result (parts_of table.new stack.new queue.new ≡ parts_of table.old stack.old queue.old) }
+    ensures promise { promise_of shared.new.plane.board ≡ promise_of shared.old.plane.board }
+{
+    let tables = config.tables();
+    stack.turn(shared, tables, entries, table, queue)
+}
+
 // Notes which prefix had a turn. There must be room.
-fn note(done: &mut Vec<Prefix>, turn: Turn)
+fn note(done: &mut Vec<Prefix>, turn: &Turn)
     requires { length done.old.items < vec_capacity done.old }
-    ensures { done.new.items ≡ noted turn done.old.items }
+    ensures { done.new.items ≡ noted turn.now done.old.items }
 {
     match turn {
         Turn::Restacked { entry, .. } => {
-            let Ok(()) = done.push(entry) else {
+            let Ok(()) = done.push(*entry) else {
                 unreachable!()
             };
         }

@@ -1,5 +1,4 @@
 // Why a change is not made, or not settled.
-use fib_config::EditError;
 use fib_resolve::Refusal;
 
 /// Why a change was not made.
@@ -19,24 +18,11 @@ pub enum ApplyError {
     Memory,
 }
 
-impl From<EditError> for ApplyError {
-    ghost use Rattle.fib_control.specs.Controls.{refused_or_memory};
-
-    ghost from_gives = { λ e x. x ≡ refused_or_memory e };
-
-    fn from(error: EditError) -> ApplyError {
-        match error {
-            EditError::Refused(refusal) => ApplyError::Refused(refusal),
-            EditError::Memory => ApplyError::Memory,
-        }
-    }
-}
-
 /// What keeps the last version from being settled. One of the three isn't 0.
 #[derive(Clone, Copy, Debug, PartialEq, Eq)]
 pub struct Busy {
     /// The prefixes that wait for their turn.
-    pub queued: u32,
+    pub queued: usize,
     /// The buckets that drop in place of an edge that would have closed a cycle.
     pub deferred: u32,
     /// The copies of edges that were replaced while a pass may have stood on them.

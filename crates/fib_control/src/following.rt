@@ -1,18 +1,29 @@
 // The entries follow a change, once the queue has room for all that it may touch.
-ghost use Rattle.std.specs.Prelude.{◌≡◌, ◌∷◌, ◌*◌, ◌+◌, ◌<◌, ◌≤◌, ◌^◌, ◌-◌, [], IfErr, IfOk, OnErr, OnOk, length, min};
+ghost use Rattle.std.specs.Prelude.{◌≡◌, ◌∷◌, ◌*◌, ◌+◌, ◌<◌, ◌≤◌, ◌^◌, ◌-◌, ◌||◌, [], IfErr, IfOk, None, OnErr, OnOk, min};
+ghost use Rattle.fib_addr.specs.Prefixes.{Prefix as PrefixValue};
+ghost use Rattle.fib_resolve.specs.Edits.{edited};
+ghost use Rattle.fib_resolve.specs.Reachable.{IsWritten};
+ghost use Rattle.fib_resolve.specs.Refusals.{first_reason, reasons, refused};
+ghost use Rattle.fib_resolve.specs.declared.types.Edit.{Edit as EditValue};
+ghost use Rattle.fib_config.specs.Config.{TellsRefusal};
+ghost use Rattle.fib_control.specs.declared.following.Limits.{Limits as LimitsValue};
 ghost use Rattle.fib_resolve.specs.Sizes.{size};
+ghost use Rattle.fib_resolve.specs.Touched.{is_touched};
 ghost use Rattle.fib_resolve.specs.declared.types.Tables.{Tables as TablesValue};
 ghost use Rattle.fib_changes.specs.Differ.{Differ};
 ghost use Rattle.fib_entries.specs.Changes.{AreMoved, AreTouched};
 ghost use Rattle.fib_entries.specs.Known.{StandsFor};
-ghost use Rattle.fib_control.specs.Controls.{IsTooMuch};
+ghost use Rattle.fib_queue.specs.Queues.{rank_in};
+ghost use Rattle.fib_serving.specs.Stack.{is_some};
+ghost use Rattle.fib_control.specs.Controls.{AreRanked, IsTooMuch, TellsEdit};
 
 use crate::errors::ApplyError;
+use crate::queueing::queue_all;
 use fib_changes::Change;
-use fib_config::Config;
+use fib_config::{Config, EditError, Edited, Undo};
 use fib_entries::{Entries, FollowError, Followed};
 use fib_queue::Queue;
-use fib_resolve::Refusal;
+use fib_resolve::{Edit, Refusal};
 use std::alloc::Global;
 
 /// How many objects there are for tables.
@@ -26,8 +37,7 @@ pub struct Limits {
 
 // What the size of tables is refused for, where it is above one of the limits.
 fn too_many(limits: Limits, size: u32) -> ApplyError
-    requires { min limits.room limits.free < size }
-    ensures { IsTooMuch limits size result }
+    ensures { min limits.room limits.free < size → IsTooMuch limits size result }
 {
     if size > limits.room {
         return ApplyError::Refused(Refusal::TooLarge);
@@ -65,9 +75,9 @@ fn follow_within(
     }
 }
 
-/// Makes the entries stand for tables after a change, where their size is within the limits and the queue can be given room for what is touched.
-/// After a fault all but the queue's room is as before.
-pub fn follow(
+// Makes the entries stand for tables after a change, where their size is within the limits and the queue can be given room for what is touched.
+// After a fault all but the queue's room is as before.
+fn follow(
     alloc: Global,
     config: &Config,
     entries: &mut Entries,
@@ -89,4 +99,83 @@ pub fn follow(
         return Err(ApplyError::Memory);
     };
     follow_within(config, entries, change, limits)
+}
+
+// Makes the entries stand for tables after a change, and queues what it touches, where their size is within the limits. After a fault all but the
+// queue's room is as before.
+fn follow_all(
+    alloc: Global,
+    config: &Config,
+    entries: &mut Entries,
+    queue: &mut Queue,
+    change: Change,
+    limits: Limits,
+) -> Result<(), ApplyError>
+    requires room { limits.room < 2 ^ 32 - 1 }
+    requires before { (S : TablesValue) × StandsFor entries.old S × Differ (change ∷ []) S config.now.tables × (size S ≤ limits.room) }
+    ensures stands { OnOk result (StandsFor entries.new config.now.tables) }
+    ensures queued { OnOk result ((S : TablesValue) → StandsFor entries.old S → Differ (change ∷ []) S config.now.tables → (d : PrefixValue) → is_some (rank_in queue.new.members d) ≡ is_some (rank_in queue.old.members d) || is_touched S config.now.tables d) }
+    ensures ranks { OnOk result (AreRanked entries.old.rows queue.old.members → AreRanked entries.new.rows queue.new.members) }
+    ensures fits { OnOk result ((size config.now.tables ≤ limits.room) × (size config.now.tables ≤ limits.free)) }
+    ensures why { IfErr result (IsTooMuch limits (size config.now.tables)) }
+    ensures queue { OnErr result (queue.new.members ≡ queue.old.members) }
+    ensures entries { OnErr result (entries.new ≡ entries.old) }
+{
+    let followed = follow(alloc, config, entries, queue, change, limits)?;
+    queue_all(queue, entries, &followed);
+    Ok(())
+}
+
+// Why an edit that is refused, whatever room it takes, makes no change.
+fn fault_of(error: EditError) -> ApplyError
+    ensures { (S : TablesValue) (l : LimitsValue) (e : EditValue) → TellsRefusal (first_reason (reasons S e)) error → TellsEdit S l e result }
+{
+    match error {
+        EditError::Refused(refusal) => ApplyError::Refused(refusal),
+        EditError::Memory => ApplyError::Memory,
+    }
+}
+
+// What takes an edit back isn't wanted any more.
+fn forget(_undo: Undo) {}
+
+/// Makes an edit of the tables, has the entries follow it, and queues what it touches, where the edited tables are within the limits. After a fault
+/// all but the queue's room is as before.
+pub fn change(
+    alloc: Global,
+    config: &mut Config,
+    entries: &mut Entries,
+    queue: &mut Queue,
+    edit: &Edit,
+    limits: Limits,
+) -> Result<(), ApplyError>
+    requires written { IsWritten edit.now }
+    requires stands { StandsFor entries.old config.old.tables }
+    requires fits { size config.old.tables ≤ limits.room }
+    requires room { limits.room < 2 ^ 32 - 1 }
+    ensures accepted { OnOk result (refused config.old.tables limits.room edit.now ≡ None) }
+    ensures edited { OnOk result (config.new ≡ record config.old { tables = edited config.old.tables edit.now }) }
+    ensures stands { OnOk result (StandsFor entries.new config.new.tables) }
+    ensures queued { OnOk result ((d : PrefixValue) → is_some (rank_in queue.new.members d) ≡ is_some (rank_in queue.old.members d) || is_touched config.old.tables config.new.tables d) }
+    ensures ranks { OnOk result (AreRanked entries.old.rows queue.old.members → AreRanked entries.new.rows queue.new.members) }
+    ensures fits { OnOk result ((size config.new.tables ≤ limits.room) × (size config.new.tables ≤ limits.free)) }
+    ensures why { IfErr result (TellsEdit config.old.tables limits edit.now) }
+    ensures config { OnErr result (config.new ≡ config.old) }
+    ensures queue { OnErr result (queue.new.members ≡ queue.old.members) }
+    ensures entries { OnErr result (entries.new ≡ entries.old) }
+{
+    let Edited { change, undo } = match config.change(edit) {
+        Ok(edited) => edited,
+        Err(error) => return Err(fault_of(error)),
+    };
+    match follow_all(alloc, config, entries, queue, change, limits) {
+        Ok(()) => {
+            forget(undo);
+            Ok(())
+        }
+        Err(error) => {
+            config.undo(undo);
+            Err(error)
+        }
+    }
 }

@@ -8,10 +8,10 @@ pub loop-prefix-preserved : goal.loop-prefix-preserved
 loop-prefix-preserved c =
     let i = c.loop-prefix.invariant in
     let ds = c.args.touched.now in
-    let x = c.next-item.result in
+    let x = c.prefix-item.result in
     let lt = c.loop-prefix-test.true in
     record {
-      queued = λ d. queued_next _ _ _ _ _ _ c.rank.result (c.add.ensures.ranks d) (i.queued d) (among_next ds c.loop-prefix.prefix-index x d lt (sym c.next-item.is));
+      queued = λ d. queued_next _ _ _ _ _ _ c.rank.result (c.add.ensures.ranks d) (i.queued d) (among_next ds c.loop-prefix.prefix-index x d lt (sym c.prefix-item.is));
       ranks = λ d r at. rank_next (rank_of c.args.entries.now.rows) x d _ _ _ c.rank.result r (c.add.ensures.ranks d) c.rank.ensures (λ k before. i.ranks d k before) at;
       spare = omega (arith, i.spare, c.add.ensures.spare);
     }

@@ -1,0 +1,15 @@
+use Rattle.std.proofs.Common.{subst}
+use Rattle.std.specs.Prelude.{IfOk}
+use Rattle.fib_resolve.specs.declared.types.Tables.{Tables}
+use Rattle.fib_entries.specs.Known.{rank_of}
+use Rattle.fib_shared.specs.Shares.{view_of}
+use Rattle.fib_stack.specs.Done.{TurnDone}
+use Rattle.fib_stack.specs.Joined.{state_in}
+use Rattle.fib_stack.specs.Turns.{parts_of}
+use Rattle.fib_control.proofs.control.restack.Goals as goal
+
+pub returns-clause-turn : goal.returns-clause-turn
+returns-clause-turn g c = subst
+    (λ (S : Tables). IfOk c.turn.result (λ t. TurnDone S (rank_of c.args.entries.now.rows) t (state_in (view_of c.args.shared.now.plane) (parts_of c.args.table.now c.args.stack.now c.args.queue.now))
+        (state_in (view_of c.turn.new.on.plane) (parts_of c.turn.new.table c.turn.new.self c.turn.new.queue))))
+    c.tables.ensures.value c.turn.ensures.turn
