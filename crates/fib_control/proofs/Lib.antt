@@ -4,3 +4,5 @@ pub mod Resting
 pub mod Kept
 pub mod Turned
 pub mod Telling
+pub mod Started
+pub mod Born

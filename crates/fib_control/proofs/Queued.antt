@@ -76,9 +76,18 @@ pub among_touched : (S T : Tables) (ds : List Prefix) (d : Prefix) → AreTouche
 among_touched S T ds d are = elim (either (is_touched S T d)) [
   | inl is ↦ any_in (λ y. same_prefix y d) ds d ((are.touched d).1 is) ((same_prefix-Decides d d).1 refl) ∙ sym is
   | inr none ↦ elim (either (is_among ds d)) [
-      | inl is ↦ absurd (let r = any_from (λ y. same_prefix y d) ds is in
-            let same : r.0 ≡ d = (same_prefix-Decides r.0 d).0 r.2 in
-            true≢false (sym ((are.touched d).0 (subst (λ (x : Prefix). Contains ds x) same r.1)) ∙ none))
-      | inr absent ↦ absent ∙ sym none
-    ]
+    | inl is ↦ absurd (let r = any_from (λ y. same_prefix y d) ds is in
+        let same : r.0 ≡ d = (same_prefix-Decides r.0 d).0 r.2 in
+        true≢false (sym ((are.touched d).0 (subst (λ (x : Prefix). Contains ds x) same r.1)) ∙ none))
+    | inr absent ↦ absent ∙ sym none
+  ]
+]
+
+pub swapped : (a b : Prefix) → same_prefix a b ≡ same_prefix b a
+swapped a b = elim (either (same_prefix a b)) [
+  | inl is ↦ is ∙ sym ((same_prefix-Decides b a).1 (sym ((same_prefix-Decides a b).0 is)))
+  | inr no_same ↦ no_same ∙ sym (elim (either (same_prefix b a)) [
+    | inl is ↦ absurd (true≢false (sym ((same_prefix-Decides a b).1 (sym ((same_prefix-Decides b a).0 is))) ∙ no_same))
+    | inr none ↦ none
+  ])
 ]

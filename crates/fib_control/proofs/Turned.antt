@@ -34,6 +34,7 @@ use Rattle.fib_stack.specs.Turns.{IsRestacked}
 use Rattle.fib_stack.specs.declared.turn.Turn.{Turn}
 use Rattle.fib_stack.specs.declared.turn.Turn.TheVariants as turns
 use Rattle.fib_stack.proofs.Ordering.{removed_in_order, restacked_in_order, was_not_done}
+use Rattle.fib_control.proofs.Queued.{swapped}
 use Rattle.fib_control.specs.Controls.{Control, IsBeneath, IsDoneAfter, had_turn, is_among, is_queued, noted, parts_in, promise_in, rank_by, state_now, tables_in, view_in}
 use Rattle.fib_control.specs.inner.Standing.{IsStanding}
 
@@ -41,15 +42,6 @@ use Rattle.fib_control.specs.inner.Standing.{IsStanding}
 pub also_among : (done : List Prefix) (e d : Prefix) → is_among (done ++ e ∷ []) d ≡ did_also e (is_among done) d
 also_among done e d = list_any-append (λ x. same_prefix x d) done (e ∷ []) ∙ turned (is_among done d) (same_prefix e d) (same_prefix d e) (swapped e d)
   where
-    swapped : (a b : Prefix) → same_prefix a b ≡ same_prefix b a
-    swapped a b = elim (either (same_prefix a b)) [
-      | inl is ↦ is ∙ sym ((same_prefix-Decides b a).1 (sym ((same_prefix-Decides a b).0 is)))
-      | inr no_same ↦ no_same ∙ sym (elim (either (same_prefix b a)) [
-        | inl is ↦ absurd (true≢false (sym ((same_prefix-Decides a b).1 (sym ((same_prefix-Decides b a).0 is))) ∙ no_same))
-        | inr none ↦ none
-      ])
-    ]
-
     turned : (a x y : Bool) → x ≡ y → a || (x || false) ≡ y || a
     turned true true y s = ap (λ b. b || true) s
     turned true false y s = ap (λ b. b || true) s

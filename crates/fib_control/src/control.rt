@@ -1,10 +1,12 @@
 // The control plane as one value.
-ghost use Rattle.std.specs.Prelude.{◌≡◌, ◌+◌, ◌-◌, ◌^◌, ◌<◌, ◌≤◌, [], ℕ, IfErr, IfOk, IsTrue, None, OnErr, OnOk, Some, length, false, true, vec_capacity, ◌↔◌};
+ghost use Rattle.std.specs.Prelude.{◌≡◌, ◌+◌, ◌-◌, ◌/◌, ◌^◌, ◌<◌, ◌≤◌, [], ℕ, IfErr, IfOk, IsTrue, None, OnErr, OnOk, Some, length, false, true, vec_capacity, ◌↔◌};
 ghost use Rattle.fib_addr.specs.Prefixes.{Prefix as PrefixValue};
 ghost use Rattle.fib_resolve.specs.Edits.{edited};
 ghost use Rattle.fib_resolve.specs.Reachable.{IsWritten};
 ghost use Rattle.fib_resolve.specs.Refusals.{refused};
 ghost use Rattle.fib_resolve.specs.Sizes.{size};
+ghost use Rattle.fib_resolve.specs.Tables.{fresh};
+ghost use Rattle.fib_board.specs.Boards.{IsFresh};
 ghost use Rattle.fib_pool.specs.Objects.{free_in};
 ghost use Rattle.fib_ply.specs.Rows.{held};
 ghost use Rattle.fib_core.specs.declared.word.Word.{Word};
@@ -18,6 +20,7 @@ ghost use Rattle.fib_stack.specs.Records.{SamePlane};
 ghost use Rattle.fib_stack.specs.Steps.{Retried};
 ghost use Rattle.fib_control.specs.Controls.{IsBeneath, IsBusy, IsChanged, IsDoneAfter, IsNotCrowded, IsQuiet, IsSettled, TellsApply, noted, parts_in, promise_in, rank_by, state_now, tables_in, view_in};
 
+use crate::beginning::first_table;
 use crate::errors::{ApplyError, Busy};
 use crate::following::{Limits, change};
 use fib_addr::Prefix;
@@ -62,6 +65,39 @@ impl<B: Board> Model for Control<B> {
     ghost view = { λ c. record { setup = c.config; entries = c.entries; plane = c.shared.plane; rows = c.table.rows.members; plies = c.table.plies; known = c.stack.ledger.rows; late = c.stack.late.members; queue = c.queue.members; done = c.done.items } };
 
     ghost invariant = { λ c. IsStanding (record { setup = c.config; entries = c.entries; plane = c.shared.plane; rows = c.table.rows.members; plies = c.table.plies; known = c.stack.ledger.rows; late = c.stack.late.members; queue = c.queue.members; done = c.done.items }) × (c.room ≡ c.config.room) };
+}
+
+impl<B: Board + Drop> Control<B> {
+    /// Over a fresh board: the tables are those without interfaces and routes, in version (0, 0), for which the cells stand. The room is half of the
+    /// objects. `Want::Object` comes only where too few objects are free for those tables.
+    pub fn new(alloc: Global, board: B) -> Result<Control<B>, Want>
+        requires { IsFresh (B.view board) }
+        ensures setup { IfOk result (λ c. c.setup ≡ record { tables = fresh; room = (B.view board).objects / 2 }) }
+        ensures rest { IfOk result (λ c. promise_in c ≡ promise_of (B.view board)) }
+        ensures quiet { IfOk result IsQuiet }
+    {
+        board.tells();
+        let room = board.objects() / 2;
+        let (Ok(config), Ok(entries)) = (Config::new(alloc, room), Entries::new(alloc)) else {
+            return Err(Want::Memory);
+        };
+        let Ok(mut shared) = Shared::new(alloc, board) else {
+            return Err(Want::Memory);
+        };
+        let table = first_table(alloc, &mut shared, &entries)?;
+        shared.scan();
+        Ok(Control {
+            config,
+            room,
+            entries,
+            shared,
+            table,
+            stack: Stack::new(alloc),
+            queue: Queue::new(alloc),
+            done: Vec::new(alloc),
+            alloc,
+        })
+    }
 }
 
 impl<B: Board> Control<B> {

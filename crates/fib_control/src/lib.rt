@@ -4,6 +4,7 @@
 //! carries proofs.
 #![tactic(auto)]
 
+mod beginning;
 mod control;
 mod errors;
 mod following;

@@ -11,3 +11,4 @@ pub mod Changed
 pub mod Versions
 pub mod Fresh
 pub mod Workers
+pub mod Early

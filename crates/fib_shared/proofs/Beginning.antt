@@ -5,19 +5,24 @@ use Rattle.std.proofs.lemmas.Bool.{cases_eq, cases_lt}
 use Rattle.std.proofs.lemmas.List.{get_or-replicate, get_or_past, length-replicate}
 use Rattle.fib_pool.specs.declared.object.Kind.TheVariants as kinds
 use Rattle.fib_pool.specs.declared.object.Object.{Object}
-use Rattle.fib_pool.specs.Objects.{as_new, at, fresh_objects}
+use Rattle.fib_pool.specs.Objects.{as_new, at, count_in, count_of, fresh_objects}
 use Rattle.fib_core.specs.declared.word.Word.{Word}
 use Rattle.fib_core.specs.declared.word.Word.TheVariants as words
 use Rattle.fib_core.specs.Words.{decoded, goes}
 use Rattle.fib_core.specs.Union as core
 use Rattle.fib_core.specs.Union.{Union, IsBucketWord}
 use Rattle.fib_core.proofs.Numbers.{zeros, decoded-zero, goes-zero}
-use Rattle.fib_board.specs.Boards.{Board, IsFresh}
+use Rattle.fib_board.specs.Boards.{Board, IsFresh, union_of}
 use Rattle.fib_plane.specs.Planes.{Plane}
 use Rattle.fib_plane.specs.Sound as sound
 use Rattle.fib_joined.specs.View.{Goes, IsPlane, leads}
-use Rattle.fib_shared.specs.Shares.{AreRecorded, is_adjacency_at, view_of}
-use Rattle.fib_shared.proofs.Seeing.{cell_is, goes_down}
+use Rattle.fib_interned.specs.Interned.{Kept}
+use Rattle.fib_list.proofs.Lists.{either}
+use Rattle.fib_pool.specs.declared.object.AdjacencyRecord.{AdjacencyRecord}
+use Rattle.fib_rule.specs.Steady.{versions}
+use Rattle.fib_union.specs.Unions.{into}
+use Rattle.fib_shared.specs.Shares.{AreRecorded, IsBare, is_adjacency_at, is_alone, promise_of, users_of_record, view_of}
+use Rattle.fib_shared.proofs.Seeing.{cell_is, goes_down, held_down}
 use Rattle.fib_shared.proofs.Sounding.{sound_of}
 
 module _ (p : Plane) (b : Board) (told : sound.IsPlane p) (fresh : IsFresh b) (is : p.board ≡ b) where
@@ -57,3 +62,28 @@ none_yet n o some = elim (cases_eq o 0) [
 
 pub fresh_recorded : (p : Plane) (n : ℕ) → 0 < n → p.objects ≡ fresh_objects n → AreRecorded p
 fresh_recorded p n some is o adjacency held = absurd (true≢false (sym adjacency ∙ ap (λ (xs : List (Option Object)). is_adjacency_at (at xs o)) is ∙ none_yet n o some))
+
+none_held : (p : Plane) (n : ℕ) → p.objects ≡ fresh_objects n → (x : ℕ) → (view_of p).is_held x ≡ false
+none_held p n is x = elim (either ((view_of p).is_held x)) [
+  | inl h ↦ absurd (
+      let d = held_down p.board p.objects x h in
+      let none : count_of p.objects x ≡ 0 = ap (λ (xs : List (Option Object)). count_of xs x) is
+      ∙ ap count_in (get_or-set_other (replicate n None) 0 x (as_new kinds.Ply) None d.0 ∙ none_free n x) in
+      let more : into (union_of p.board) x < count_of p.objects x = d.1 in
+      omega (arith, none, more))
+  | inr none ↦ none
+]
+
+-- so it is bare
+pub fresh_bare : (p : Plane) (b : Board) → sound.IsPlane p → IsFresh b → p.board ≡ b → (n : ℕ) → p.objects ≡ fresh_objects n → p.records ≡ [] → IsBare (promise_of p.board) (view_of p)
+fresh_bare p b told fresh is n objects records =
+    let whole = is ∙ fresh.fresh in
+    record {
+      first = (ap (λ (c : Board). c.log.version.applied) whole, ap (λ (c : Board). c.log.version.settled) whole);
+      alone = ap is_alone whole;
+      versions = ap (λ (c : Board). versions c.log) whole;
+      root = refl;
+      held = none_held p n objects;
+      edges = λ x s y w l g. no_edge p b told fresh is x s w y l g;
+      users = λ m. ap (λ (rows : List (Kept AdjacencyRecord)). users_of_record rows m) records;
+    }

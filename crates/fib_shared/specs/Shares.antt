@@ -1,5 +1,5 @@
 -- A plane as the prefix table and the stack of buckets see it: the view, and the promise of its board.
-use Rattle.std.specs.Prelude.{◌≡◌, ℕ, ◌+◌, ◌*◌, ◌%◌, ◌==◌, ◌&&◌, ◌||◌, Bool, true, false, is_some, not, nat_lt, List, [], Option, Some, None, option_map, find, map, if◌then◌else◌}
+use Rattle.std.specs.Prelude.{◌≡◌, ◌∷◌, ℕ, ◌+◌, ◌*◌, ◌%◌, ◌==◌, ◌&&◌, ◌||◌, Bool, true, false, is_some, not, nat_lt, List, [], Option, Some, None, option_map, find, map, if◌then◌else◌}
 use Rattle.std.specs.List.{list_any}
 use Rattle.fib_interned.specs.Interned.{Kept, kept_of, users_in}
 use Rattle.fib_union.specs.Unions.{owner, into}
@@ -15,7 +15,8 @@ use Rattle.fib_pool.specs.Objects.{at, count_of, free_in}
 use Rattle.fib_rule.specs.Steady.{versions}
 use Rattle.fib_board.specs.Boards.{Board, union_of, word_in}
 use Rattle.fib_plane.specs.Planes.{IsHeld, Plane}
-use Rattle.fib_joined.specs.View.{View, Retired, is_ply_kind}
+use Rattle.fib_resolve.specs.Tables.{fresh}
+use Rattle.fib_joined.specs.View.{Goes, View, Retired, is_ply_kind, leads}
 use Rattle.fib_joined.specs.Promise.{Promise}
 
 -- objects have sixteen cells
@@ -98,3 +99,14 @@ promise_of b = record {
 -- each adjacency that the control plane holds is a record's
 abbrev pub AreRecorded : Plane → Type 0
 AreRecorded p = (o : ℕ) → is_adjacency_at (at p.objects o) ≡ true → IsHeld p.board p.objects o → is_some (kept_of p.records o) ≡ true
+
+-- a plane over a fresh board, to which nothing was done yet: nobody is out, the first version has the fresh tables, and there is no edge, nothing
+-- held and no record
+pub record IsBare (p : Promise) (u : View) : Type 0 where
+  pub first : (p.applied ≡ 0) × (p.settled ≡ 0)
+  pub alone : p.alone ≡ true
+  pub versions : p.versions ≡ fresh ∷ []
+  pub root : u.is_ply 0 ≡ true
+  pub held : (x : ℕ) → u.is_held x ≡ false
+  pub edges : (x s y : ℕ) (w : Word) → leads w y → Goes u x s w → ⊥
+  pub users : (m : AdjacencyRecord) → u.users m ≡ 0

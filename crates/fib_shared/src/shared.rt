@@ -6,7 +6,7 @@ ghost use Rattle.fib_board.specs.May.{MayBegin, MaySettle};
 ghost use Rattle.fib_plane.specs.Sound.{IsPlane as IsTold};
 ghost use Rattle.fib_joined.specs.View.{IsLive, IsPlane};
 ghost use Rattle.fib_shared.specs.Props.{AreRecorded-prop, IsPlane-prop};
-ghost use Rattle.fib_shared.specs.Shares.{AreRecorded, view_of};
+ghost use Rattle.fib_shared.specs.Shares.{AreRecorded, IsBare, promise_of, view_of};
 
 use crate::calls;
 use fib_addr::{Addr, Mac};
@@ -35,6 +35,7 @@ impl<B: Board + Drop> Shared<B> {
         ensures board { IfOk result (λ s. s.plane.board ≡ B.view board) }
         ensures objects { IfOk result (λ s. s.plane.objects ≡ fresh_objects (B.view board).objects) }
         ensures records { IfOk result (λ s. s.plane.records ≡ []) }
+        ensures bare { IfOk result (λ s. IsBare (promise_of s.plane.board) (view_of s.plane)) }
     {
         let plane = Plane::new(alloc, board)?;
         plane.tells();

@@ -3,7 +3,7 @@ ghost use Rattle.std.specs.Prelude.{IfOk, IsTrue, None, OnOk, ◌+◌, ◌<◌, 
 ghost use Rattle.fib_pool.specs.Records.{adjacency};
 ghost use Rattle.fib_shared.specs.Shares.{promise_of, view_of};
 ghost use Rattle.fib_ply.specs.Tables.{object_in};
-ghost use Rattle.fib_trials.specs.Tried.{IsDropping, IsEmpty, IsTried};
+ghost use Rattle.fib_quiet.specs.Early.{IsDropping, IsEmpty, IsTried};
 
 use fib_addr::{Addr, Prefix};
 use fib_core::Word;

@@ -2,7 +2,7 @@
 ghost use Rattle.std.specs.Prelude.{IfOk, None, OnOk, ◌≡◌};
 ghost use Rattle.fib_pool.specs.Records.{adjacency};
 ghost use Rattle.fib_joined.specs.View.{IsBalance, IsRecord};
-ghost use Rattle.fib_trials.specs.Tried.{IsEmpty};
+ghost use Rattle.fib_quiet.specs.Early.{IsEmpty};
 
 use crate::prefixes::{first_balance, fresh};
 use fib_addr::Addr;

@@ -1,6 +1,6 @@
 // Random sets of prefixes against the plain longest match.
 ghost use Rattle.std.specs.Prelude.{OnOk};
-ghost use Rattle.fib_trials.specs.Tried.{IsTried};
+ghost use Rattle.fib_quiet.specs.Early.{IsTried};
 
 use crate::prefixes::{add_new, answer, remove, started};
 use fib_addr::{Addr, Prefix};

@@ -11,5 +11,5 @@ use Rattle.fib_control.proofs.control.restack.Goals as goal
 pub returns-clause-turn : goal.returns-clause-turn
 returns-clause-turn g c = subst
     (λ (S : Tables). IfOk c.turn.result (λ t. TurnDone S (rank_of c.args.entries.now.rows) t (state_in (view_of c.args.shared.now.plane) (parts_of c.args.table.now c.args.stack.now c.args.queue.now))
-        (state_in (view_of c.turn.new.on.plane) (parts_of c.turn.new.table c.turn.new.self c.turn.new.queue))))
-    c.tables.ensures.value c.turn.ensures.turn
+    (state_in (view_of c.turn.new.on.plane) (parts_of c.turn.new.table c.turn.new.self c.turn.new.queue))))
+    c.tables-tables.ensures.value c.turn.ensures.turn

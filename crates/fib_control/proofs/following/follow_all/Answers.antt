@@ -14,7 +14,7 @@ queue_all-requires c =
     let fits = e.fits before.0 before.1 before.2 in
     let t = touched_few before.0 c.args.config.now.tables c.args.limits.room c.in_ok-followed.followed.touched before.3 fits.0 (e.touched before.0 before.1 before.2) in
     let m = moved_few c.args.entries.now c.follow.new.entries before.0 c.args.config.now.tables c.args.limits.room c.in_ok-followed.followed.moved before.3 fits.0 before.1
-        (e.stands before.0 before.1 before.2) (e.moved before.0 before.1 before.2) in
+    (e.stands before.0 before.1 before.2) (e.moved before.0 before.1 before.2) in
     let room = e.space in
     record { room = omega (arith, t, m, room) }
 
@@ -30,4 +30,4 @@ returns-clause-ranks c = λ ranked.
     let before = c.requires.before in
     let e = c.in_ok-followed.ensures in
     c.queue_all.ensures.ranks c.args.entries.now.rows (e.moved before.0 before.1 before.2)
-        (λ d r at. ranked d r (ap (λ (q : List Queued). rank_in q d) (sym e.queue) ∙ at))
+    (λ d r at. ranked d r (ap (λ (q : List Queued). rank_in q d) (sym e.queue) ∙ at))

@@ -2,7 +2,7 @@ use Rattle.std.proofs.Common.{arith, refl, ◌∙◌, ap}
 use Rattle.std.specs.Prelude.{List}
 use Rattle.fib_ply.specs.Rows.{held}
 use Rattle.fib_ply.specs.declared.rows.Row.{Row}
-use Rattle.fib_trials.proofs.Trying.{not_begun, room_dropping, room_free, same_stands, still_early}
+use Rattle.fib_quiet.proofs.Early.{not_begun, room_dropping, room_free, same_stands, still_early}
 use Rattle.fib_trials.proofs.prefixes.add.Goals as goal
 
 pub room-requires-clause-stands : goal.room-requires-clause-stands

@@ -1,4 +1,4 @@
-use Rattle.fib_trials.proofs.Trying.{cell_live, trie_of}
+use Rattle.fib_quiet.proofs.Early.{cell_live, trie_of}
 use Rattle.fib_trials.proofs.prefixes.answer.Goals as goal
 
 pub find-at-requires : goal.find-at-requires

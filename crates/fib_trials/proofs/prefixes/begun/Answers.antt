@@ -1,5 +1,5 @@
 use Rattle.std.proofs.Common.{◌∙◌}
-use Rattle.fib_trials.proofs.Trying.{blank_of, still_early}
+use Rattle.fib_quiet.proofs.Early.{blank_of, still_early}
 use Rattle.fib_trials.proofs.prefixes.begun.Goals as goal
 
 pub ready-requires-clause-blank : goal.ready-requires-clause-blank

@@ -1,4 +1,4 @@
-use Rattle.fib_trials.proofs.Trying.{dropping_taken, empty_taken}
+use Rattle.fib_quiet.proofs.Early.{dropping_taken, empty_taken}
 use Rattle.fib_trials.proofs.prefixes.first_balance.Goals as goal
 
 pub returns-in-Some-clause-empty : goal.returns-in-Some-clause-empty

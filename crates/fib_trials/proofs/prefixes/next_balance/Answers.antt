@@ -1,4 +1,4 @@
-use Rattle.fib_trials.proofs.Trying.{dropping_taken, tried_taken}
+use Rattle.fib_quiet.proofs.Early.{dropping_taken, tried_taken}
 use Rattle.fib_trials.proofs.prefixes.next_balance.Goals as goal
 
 pub returns-in-Some-clause-tried : goal.returns-in-Some-clause-tried

@@ -1,5 +1,5 @@
 use Rattle.std.proofs.Common.{arith, ◌∙◌}
-use Rattle.fib_trials.proofs.Trying.{not_begun, still_early}
+use Rattle.fib_quiet.proofs.Early.{not_begun, still_early}
 use Rattle.fib_trials.proofs.prefixes.remove.Goals as goal
 
 pub room-requires-clause-stands : goal.room-requires-clause-stands

@@ -1,4 +1,4 @@
-use Rattle.fib_trials.proofs.Trying.{tried_clear}
+use Rattle.fib_quiet.proofs.Early.{tried_clear}
 use Rattle.fib_trials.proofs.prefixes.scan.Goals as goal
 
 pub scan-requires : goal.scan-requires

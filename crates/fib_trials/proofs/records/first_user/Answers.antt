@@ -1,7 +1,7 @@
 use Rattle.std.proofs.Common.{None, Ok, Option, ℕ, subst}
 use Rattle.fib_pool.specs.Records.{adjacency}
 use Rattle.fib_joined.specs.View.{TookOne}
-use Rattle.fib_trials.proofs.Trying.{empty_took, may_clear}
+use Rattle.fib_quiet.proofs.Early.{empty_took, may_clear}
 use Rattle.fib_trials.proofs.records.first_user.Goals as goal
 
 pub take_adj-requires-clause-promise : goal.take_adj-requires-clause-promise

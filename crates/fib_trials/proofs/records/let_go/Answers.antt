@@ -1,4 +1,4 @@
-use Rattle.fib_trials.proofs.Trying.{may_let_go}
+use Rattle.fib_quiet.proofs.Early.{may_let_go}
 use Rattle.fib_trials.proofs.records.let_go.Goals as goal
 
 pub let_go-requires-clause-promise : goal.let_go-requires-clause-promise

@@ -1,4 +1,4 @@
-use Rattle.fib_trials.proofs.Trying.{may_clear}
+use Rattle.fib_quiet.proofs.Early.{may_clear}
 use Rattle.fib_trials.proofs.records.user_goes.Goals as goal
 
 pub give_adj-requires-clause-promise : goal.give_adj-requires-clause-promise

@@ -1,4 +1,4 @@
-use Rattle.fib_trials.specs.Tried.{IsTried}
+use Rattle.fib_quiet.specs.Early.{IsTried}
 use Rattle.fib_trials.proofs.sets.grow_all.Given as goal
 
 abbrev pub invariant-loop-turn : goal.invariant-loop-turn

@@ -15,13 +15,14 @@ pub invariant_of-self : goal.invariant_of-self
 invariant_of-self g c =
     let old : Control = record { setup = c.self.inside.config; entries = c.self.inside.entries; plane = c.self.inside.shared.plane; rows = c.self.inside.table.rows.members; plies = c.self.inside.table.plies; known = c.self.inside.stack.ledger.rows; late = c.self.inside.stack.late.members; queue = c.self.inside.queue.members; done = c.self.inside.done.items } in
     let new : Control = record old { plane = c.scan.new.self.plane } in
-    let waits = retired_waits old c.self.invariant.0 c.tells.ensures.told.board.history c.retired.result c.retired.ensures c.if-retired-eq0.false in
-    (beneath old new c.self.invariant.0 (record { setup = refl; entries = refl; promise = c.scan.ensures.promise })
-        (subst (λ (p : Promise). Joined (tables_in old) (rank_by old) p (view_of c.scan.new.self.plane) (parts_in old)) (sym c.scan.ensures.promise)
-            (moved_joined (tables_in old) (rank_by old) (promise_of c.self.inside.shared.plane.board) (view_of c.self.inside.shared.plane) (view_of c.scan.new.self.plane) (parts_in old) c.self.invariant.0.joined
-                (scan_moved (promise_of c.self.inside.shared.plane.board) (view_of c.self.inside.shared.plane) (view_of c.scan.new.self.plane) c.scan.result c.scan.new.self.sound c.scan.ensures.scanned)
-                c.scan.new.self.sound (λ d r. times_within c.self.inside.stack.ledger.rows d r)))
-        (λ same. absurd (omega (arith, waits, same)))
-        (order_same (rank_by old) (state_now old) (state_now new) (had_turn old) (had_turn new) (λ d. refl) (λ d. refl) c.self.invariant.0.ordered)
-        c.self.invariant.0.once,
-     c.self.invariant.1)
+    let waits = retired_waits old c.self.invariant.0 c.tells.ensures.told.board.history c.retired.result c.retired.ensures c.if-retired-eq0.false in (
+      beneath old new c.self.invariant.0 (record { setup = refl; entries = refl; promise = c.scan.ensures.promise })
+          (subst (λ (p : Promise). Joined (tables_in old) (rank_by old) p (view_of c.scan.new.self.plane) (parts_in old)) (sym c.scan.ensures.promise)
+          (moved_joined (tables_in old) (rank_by old) (promise_of c.self.inside.shared.plane.board) (view_of c.self.inside.shared.plane) (view_of c.scan.new.self.plane) (parts_in old) c.self.invariant.0.joined
+          (scan_moved (promise_of c.self.inside.shared.plane.board) (view_of c.self.inside.shared.plane) (view_of c.scan.new.self.plane) c.scan.result c.scan.new.self.sound c.scan.ensures.scanned)
+          c.scan.new.self.sound (λ d r. times_within c.self.inside.stack.ledger.rows d r)))
+          (λ same. absurd (omega (arith, waits, same)))
+          (order_same (rank_by old) (state_now old) (state_now new) (had_turn old) (had_turn new) (λ d. refl) (λ d. refl) c.self.invariant.0.ordered)
+          c.self.invariant.0.once,
+      c.self.invariant.1,
+    )

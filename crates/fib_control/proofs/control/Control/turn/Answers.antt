@@ -1,31 +1,49 @@
-use Rattle.std.proofs.Common.{rules, ◌≡◌, ◌+◌, ◌-◌, ◌^◌, ◌<◌, ◌≤◌, [], ℕ, IfErr, IfOk, IsTrue, None, OnErr, OnOk, Some, length, false, true, vec_capacity, ◌↔◌, ◌*◌, ◌/◌, ◌%◌, Bool, nat_eq, nat_lt, List, ◌∷◌, ◌++◌, slice_index_or, slice_set, bit_and, bit_or, Fits, w8, w32, w64, Bor, MutBor}
-use Rattle.fib_addr.specs.Prefixes.{Prefix as PrefixValue}
-use Rattle.fib_resolve.specs.Edits.{edited}
-use Rattle.fib_resolve.specs.Reachable.{IsWritten}
-use Rattle.fib_resolve.specs.Refusals.{refused}
-use Rattle.fib_resolve.specs.Sizes.{size}
-use Rattle.fib_pool.specs.Objects.{free_in}
-use Rattle.fib_ply.specs.Rows.{held}
-use Rattle.fib_core.specs.declared.word.Word.{Word}
-use Rattle.fib_ledger.specs.Deferred.{late_at}
-use Rattle.fib_stack.specs.Done.{IsCounted, IsStored, StaysLate, TurnDone}
-use Rattle.fib_entries.specs.Known.{StandsFor, rank_of}
-use Rattle.fib_shared.specs.Shares.{promise_of, view_of}
-use Rattle.fib_stack.specs.Joined.{Joined, state_in}
-use Rattle.fib_stack.specs.Turns.{parts_of}
-use Rattle.fib_stack.specs.Records.{SamePlane}
-use Rattle.fib_stack.specs.Steps.{Retried}
-use Rattle.fib_control.specs.Controls.{IsBeneath, IsBusy, IsChanged, IsDoneAfter, IsNotCrowded, IsQuiet, IsSettled, TellsApply, noted, parts_in, promise_in, rank_by, state_now, tables_in, view_in}
+use Rattle.std.proofs.Common.{◌≡◌, ◌<◌, List, refl, sym, ap, ◌∙◌, subst, arith}
+use Rattle.fib_addr.specs.Prefixes.{Prefix}
+use Rattle.fib_reach.specs.Walks.{AllDiffer}
+use Rattle.fib_stack.specs.Done.{TurnDone}
+use Rattle.fib_stack.specs.Joined.{Parts}
+use Rattle.fib_queue.specs.Queues.{rank_in}
+use Rattle.fib_serving.specs.Stack.{is_some}
+use Rattle.fib_control.specs.Controls.{Control, IsDoneAfter, had_turn, is_among, noted, parts_in, rank_by, state_now, tables_in}
+use Rattle.fib_control.proofs.Resting.{is_ranked}
+use Rattle.fib_control.proofs.Turned.{beneath, busy_waits, noted_after, order_same, turned_once, turned_order}
 use Rattle.fib_control.proofs.control.Control.turn.Goals as goal
 
--- src/control.rt:200:17
 pub invariant_of-self-in-Ok : goal.invariant_of-self-in-Ok
-invariant_of-self-in-Ok g c = ?
+invariant_of-self-in-Ok g c =
+    let old : Control = record { setup = c.self.inside.config; entries = c.self.inside.entries; plane = c.self.inside.shared.plane; rows = c.self.inside.table.rows.members; plies = c.self.inside.table.plies; known = c.self.inside.stack.ledger.rows; late = c.self.inside.stack.late.members; queue = c.self.inside.queue.members; done = c.self.inside.done.items } in
+    let new : Control = record { setup = c.self.inside.config; entries = c.self.inside.entries; plane = c.restack.new.shared.plane; rows = c.restack.new.table.rows.members; plies = c.restack.new.table.plies; known = c.restack.new.stack.ledger.rows; late = c.restack.new.stack.late.members; queue = c.restack.new.queue.members; done = c.note.new.done.items } in
+    let i = c.self.invariant.0 in
+    let e = c.in-Ok.ensures in
+    let waits = busy_waits old i c.len.result c.len.ensures c.if-len-eq0.false in
+    let noted_now : c.note.new.done.items ≡ noted c.in-Ok.turn c.self.inside.done.items = c.note.ensures ∙ ap (noted c.in-Ok.turn) c.reserve.ensures.items in
+    let after : IsDoneAfter c.in-Ok.turn c.self.inside.done.items c.note.new.done.items =
+    noted_after (tables_in old) (rank_by old) c.in-Ok.turn (state_now old) (state_now new) c.self.inside.done.items c.note.new.done.items e.turn i.ordered noted_now in (
+      beneath old new i (record { setup = refl; entries = refl; promise = e.promise })
+          e.joined
+          (λ same. absurd (omega (arith, waits, same)))
+          (turned_order (tables_in old) (rank_by old) c.in-Ok.turn (state_now old) (state_now new) c.self.inside.done.items c.note.new.done.items (is_ranked old i) e.turn i.ordered after)
+          (turned_once c.in-Ok.turn c.self.inside.done.items c.note.new.done.items after i.once),
+      c.self.invariant.1,
+    )
 
--- src/control.rt:202:26
 pub invariant_of-self-in-Err : goal.invariant_of-self-in-Err
-invariant_of-self-in-Err g c = ?
+invariant_of-self-in-Err g c =
+    let old : Control = record { setup = c.self.inside.config; entries = c.self.inside.entries; plane = c.self.inside.shared.plane; rows = c.self.inside.table.rows.members; plies = c.self.inside.table.plies; known = c.self.inside.stack.ledger.rows; late = c.self.inside.stack.late.members; queue = c.self.inside.queue.members; done = c.self.inside.done.items } in
+    let new : Control = record { setup = c.self.inside.config; entries = c.self.inside.entries; plane = c.restack.new.shared.plane; rows = c.restack.new.table.rows.members; plies = c.restack.new.table.plies; known = c.restack.new.stack.ledger.rows; late = c.restack.new.stack.late.members; queue = c.restack.new.queue.members; done = c.reserve.new.self.items } in
+    let i = c.self.invariant.0 in
+    let e = c.in-Err.ensures in
+    let waits = busy_waits old i c.len.result c.len.ensures c.if-len-eq0.false in (
+      beneath old new i (record { setup = refl; entries = refl; promise = e.promise })
+          e.joined
+          (λ same. absurd (omega (arith, waits, same)))
+          (order_same (rank_by old) (state_now old) (state_now new) (had_turn old) (had_turn new) (λ d. ap (λ (s : Parts). is_some (rank_in s.queue d)) e.parts) (λ d. ap (λ (xs : List Prefix). is_among xs d) c.reserve.ensures.items) i.ordered)
+          (subst AllDiffer (sym c.reserve.ensures.items) i.once),
+      c.self.invariant.1,
+    )
 
--- src/control.rt:175:5
 pub returns-in-Ok-clause-turn : goal.returns-in-Ok-clause-turn
-returns-in-Ok-clause-turn g c = ?
+returns-in-Ok-clause-turn g c =
+    let new : Control = record { setup = c.self.inside.config; entries = c.self.inside.entries; plane = c.restack.new.shared.plane; rows = c.restack.new.table.rows.members; plies = c.restack.new.table.plies; known = c.restack.new.stack.ledger.rows; late = c.restack.new.stack.late.members; queue = c.restack.new.queue.members; done = c.note.new.done.items } in
+    subst (λ (x : Control). TurnDone (tables_in x) (rank_by x) c.in-Ok.turn (state_now x) (state_now new)) c.self.view_is c.in-Ok.ensures.turn

@@ -1,4 +1,4 @@
--- Planes and prefix tables of the tests, before the first change, while nobody is out.
+-- Planes and prefix tables before the first change, while nobody is out.
 use Rattle.std.specs.Prelude.{◌≡◌, ℕ, ◌<◌, true, List, ◌∷◌}
 use Rattle.fib_core.specs.declared.word.Word.{Word}
 use Rattle.fib_core.specs.declared.word.Word.TheVariants as words

@@ -1,5 +1,5 @@
--- Facts on the planes and tables of the tests.
-use Rattle.std.proofs.Common.{arith, ◌≡◌, ℕ, inl, inr, ⊎_elim, Bool, true, true≢false, List, length, None, refl, sym, ◌∙◌, ap, subst}
+-- Planes and prefix tables before the first change: what is taken, and what is added.
+use Rattle.std.proofs.Common.{arith, ◌≡◌, ℕ, inl, inr, ⊎_elim, Bool, true, true≢false, List, [], length, None, refl, sym, ◌∙◌, ap, subst}
 use Rattle.std.specs.Prelude.{Contains}
 use native.Mathlib.Decide.{ℕ_discrete}
 use mathlib.Core.Logic.{dite}
@@ -23,7 +23,9 @@ use Rattle.fib_ply.proofs.Paths.{fits_trie}
 use Rattle.fib_ply.proofs.Promises.{serves_of}
 use Rattle.fib_ply.proofs.Quiet.{quiet_stands}
 use Rattle.fib_stack.proofs.Leaving.{take_quiet}
-use Rattle.fib_trials.specs.Tried.{IsDropping, IsEarly, IsEmpty, IsTried}
+use Rattle.fib_resolve.specs.Tables.{fresh}
+use Rattle.fib_shared.specs.Shares.{IsBare}
+use Rattle.fib_quiet.specs.Early.{IsDropping, IsEarly, IsEmpty, IsTried}
 
 pub not_begun : (p : Promise) → IsEarly p → IsBegun p → ⊥
 not_begun p e b = (let z = e.first in omega arith)
@@ -33,6 +35,14 @@ still_early p q same e = subst IsEarly (sym same) e
 
 allows : (p : Promise) → IsEarly p → Allows p
 allows p e = inr (e.first, e.alone)
+
+pub bare_empty : (p : Promise) (u : View) → IsBare p u → IsEmpty p u
+bare_empty p u b = record {
+  early = record { first = b.first.0; alone = b.alone; versions = (fresh, [], b.versions) };
+  root = b.root;
+  none = λ x ply held. true≢false (sym held ∙ b.held x);
+  edges = b.edges;
+}
 
 -- where there is no edge nothing is promised
 abbrev none_named : Names
