@@ -12,3 +12,6 @@ mod queueing;
 
 pub use control::Control;
 pub use errors::{ApplyError, Busy};
+
+#[cfg(test)]
+mod tests;
