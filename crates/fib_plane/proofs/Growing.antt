@@ -1,19 +1,19 @@
 -- Planes of the tests: filled for the fresh tables by their own puts, and a ply that grows and leaves beneath a held pass.
-use Rattle.std.proofs.Common.{arith, ◌≡◌, ◌≢◌, inl, inr, ℕ, zero, suc, ◌+◌, ◌*◌, ◌/◌, ◌%◌, ◌-◌, ◌<◌, ◌≤◌, false, List, [], ◌∷◌, length, Option, Some, None, refl, sym, ◌∙◌, ap, subst}
-use Rattle.std.specs.Prelude.{slice_index, slice_index_or}
+use Rattle.std.proofs.Common.{arith, ◌≡◌, ◌≢◌, inl, inr, ℕ, zero, suc, ◌+◌, ◌*◌, ◌/◌, ◌%◌, ◌-◌, ◌<◌, ◌≤◌, true, List, [], ◌∷◌, length, Option, Some, None, refl, sym, ◌∙◌, ap, subst}
+use Rattle.std.specs.Prelude.{count_by, slice_index, slice_index_or}
 use Rattle.std.proofs.lemmas.Bool.{cases_eq}
 use Rattle.fib_interned.specs.Interned.{Kept}
 use Rattle.fib_resolve.specs.Tables.{fresh}
 use Rattle.fib_resolve.specs.declared.types.Tables.{Tables}
 use Rattle.fib_union.specs.Marks.{is_even}
 use Rattle.fib_union.specs.Unions.{owner, into}
-use Rattle.fib_union.proofs.Counts.{has_in_counted}
+use Rattle.fib_union.proofs.Counts.{has_in_counted, there_counted}
 use Rattle.fib_core.specs.declared.word.Word.{Word}
 use Rattle.fib_core.specs.declared.word.Word.TheVariants as words
 use Rattle.fib_core.specs.Trails.{place, IsGoing}
 use Rattle.fib_pool.specs.declared.object.Object.{Object}
 use Rattle.fib_pool.specs.declared.object.AdjacencyRecord.{AdjacencyRecord}
-use Rattle.fib_pool.specs.Objects.{at, count_in, count_of, free_in, IsLive}
+use Rattle.fib_pool.specs.Objects.{at, count_in, count_of, free_in, is_free, IsLive}
 use Rattle.fib_pool.proofs.Pools.{live_at}
 use Rattle.fib_lawful.specs.State.{Log, left_of}
 use Rattle.fib_board.specs.Boards.{Board, IsFresh, Pass, board_begun, board_scanned, board_scans, board_stored, edge_of, union_of, word_in}
@@ -45,10 +45,11 @@ no_drop e = cc
 -- all objects are taken
 none_free : (xs : List (Option Object)) → free_in xs ≡ 0 → (o : ℕ) → o < length xs → (x : Object) × (at xs o ≡ Some x)
 unfolding free_in
-none_free [] full o lt = absurd (omega (arith, lt))
-none_free (None ∷ xs) full o lt = absurd (omega (arith, full))
-none_free (Some x ∷ xs) full zero lt = (x, refl)
-none_free (Some x ∷ xs) full (suc o) lt = none_free xs full o (omega arith)
+none_free xs full o lt = by_at (at xs o) refl
+  where
+    by_at : (e : Option Object) → at xs o ≡ e → (x : Object) × (at xs o ≡ Some x)
+    by_at None is = absurd (let some = there_counted is_free xs o None lt (ap is_free is) in let bad : ⊥ = omega arith in bad)
+    by_at (Some x) is = (x, is)
 
 fresh_one : IsFresh (fresh_plain 64 1)
 fresh_one = record { some = omega arith; few = omega arith; fresh = refl }
@@ -137,6 +138,9 @@ module _ (i : ℕ) (lt : i < 254) (p : Plane) (f : IsFillingPlane i p) where
 
     pub calm_filled : IsCalm p.board → IsCalm q.board
     calm_filled c = record { passes = ap (λ (b : Board). b.passes) is ∙ c.passes; rests = ap (λ (b : Board). b.rests) is ∙ c.rests }
+
+pub whole : (k : ℕ) → 16 * (k / 16) + k % 16 ≡ k
+whole k = omega arith
 
 one_word : (ws : List ℕ) → length ws ≡ 1 → (w : ℕ) × (ws ≡ w ∷ [])
 one_word [] e = absurd (omega (arith, e))

@@ -1,5 +1,5 @@
 -- Where each object is live a sweep changes nothing: a put is a store then, and a scan is looks alone.
-use Rattle.std.proofs.Common.{arith, ◌≡◌, ◌≢◌, ⊎_elim, ℕ, zero, suc, ◌+◌, ◌*◌, ◌<◌, ◌×◌, List, [], ◌∷◌, length, map, Option, Some, None, refl, sym, ◌∙◌, ap, subst, length-set}
+use Rattle.std.proofs.Common.{arith, ◌≡◌, ◌≢◌, ⊎_elim, ℕ, zero, suc, ◌+◌, ◌*◌, ◌<◌, List, [], ◌∷◌, length, map, Option, Some, None, refl, sym, ◌∙◌, ap, subst, length-set}
 use Rattle.std.specs.Prelude.{count_by, slice_index, slice_set}
 use Rattle.std.proofs.lemmas.List.{ext_get_or, length-map}
 use Rattle.fib_union.specs.Unions.{owner}

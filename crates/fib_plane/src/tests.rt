@@ -240,7 +240,8 @@ fn held_plane(alloc: Global) -> Result<Plane<PlainBoard>, Fail>
 
 // A store of the filling.
 fn fill_one(plane: &mut Plane<PlainBoard>, store: u32)
-    requires filling { (store < 254) × IsFillingPlane store plane.old }
+    requires store { store < 254 }
+    requires filling { IsFillingPlane store plane.old }
     ensures filling { IsFillingPlane (store + 1) plane.new }
     ensures calm { IsCalm plane.old.board → IsCalm plane.new.board }
 {
@@ -290,13 +291,16 @@ fn changing_plane(alloc: Global) -> Result<Plane<PlainBoard>, Fail>
 {
     let mut plane = held_plane(alloc)?;
     fill(&mut plane);
-    plane.begin_version(&Tables::fresh(alloc));
+    let tables = Tables::fresh(alloc);
+    plane.begin_version(&tables);
     Ok(plane)
 }
 
 // A store of the ply that grows.
 fn grow_one(plane: &mut Plane<PlainBoard>, store: u32)
-    requires growing { (254 ≤ store) × (store < 271) × IsGrowingPlane 64 store plane.old }
+    requires from { 254 ≤ store }
+    requires to { store < 271 }
+    requires growing { IsGrowingPlane 64 store plane.old }
     ensures growing { IsGrowingPlane 64 (store + 1) plane.new }
     ensures calm { IsCalm plane.old.board → IsCalm plane.new.board }
 {
@@ -373,13 +377,14 @@ fn end_pass(plane: &mut Plane<PlainBoard>) -> Result<End, Fail>
     requires on { IsOnItsWay plane.old.board 0 }
     ensures { OnOk result (MayLook plane.new) }
 {
-    if plane.hop(0).is_some() {
-        return Err(Fail::from("the ply's cell is empty"));
+    match plane.hop(0) {
+        Some(_) => return Err(Fail::from("the ply's cell is empty")),
+        None => {}
     }
-    let Some(_) = plane.hop(0) else {
-        return Err(Fail::from("another edge"));
-    };
-    Ok(plane.end(0).end)
+    match plane.hop(0) {
+        Some(_) => Ok(plane.end(0).end),
+        None => Err(Fail::from("another edge")),
+    }
 }
 
 #[test]
