@@ -12,8 +12,8 @@ ghost use Rattle.fib_plane.specs.inner.Young.{IsLinked, IsYoung};
 use super::*;
 use fib_addr::{Addr, Mac};
 use fib_core::{Version, Word};
-use fib_plainboard::filling::{FILLED, GROWN, cell, word};
 use fib_plainboard::PlainBoard;
+use fib_plainboard::filling::{FILLED, GROWN, cell, word};
 use fib_pool::{AdjacencyRecord, Kind};
 use fib_resolve::{End, Tables};
 use std::alloc::{AllocError, Global};
@@ -362,17 +362,45 @@ fn replace_edge(plane: &mut Plane<PlainBoard>) -> Result<(), Fail>
     }
 }
 
-// A scan.
-fn look(plane: &mut Plane<PlainBoard>) -> u32
+// A plane on which a pass has come to a ply that only the root's edge keeps.
+fn standing_plane(alloc: Global) -> Result<Plane<PlainBoard>, Fail>
+    ensures growing { IfOk result (λ p. IsGrowingPlane 20 271 p) }
+    ensures on { IfOk result (λ p. IsOnItsWay p.board 0) }
+{
+    let mut plane = changing_plane(alloc)?;
+    grow(&mut plane);
+    let_ply_go(&mut plane);
+    come_to_ply(&mut plane)?;
+    Ok(plane)
+}
+
+// A scan leaves so many copies.
+fn look(plane: &mut Plane<PlainBoard>, left: u32) -> Result<(), Fail>
     requires { MayLook plane.old }
     ensures look { MayLook plane.new }
     ensures passes { plane.new.board.passes ≡ plane.old.board.passes }
 {
-    plane.scan()
+    if plane.scan() == left {
+        return Ok(());
+    }
+    Err(Fail::from("another number of copies is left"))
+}
+
+// So many objects are used, and this word stands in the ply's first cell.
+fn finds(plane: &Plane<PlainBoard>, used: u32, word: Word) -> Result<(), Fail>
+    requires { plane.now.board.objects ≡ 64 }
+{
+    if plane.used() != used {
+        return Err(Fail::from("another number of objects is used"));
+    }
+    if plane.word(20, 0) == word {
+        return Ok(());
+    }
+    Err(Fail::from("another word is in the ply"))
 }
 
 // The pass goes on to its end, by two loads.
-fn end_pass(plane: &mut Plane<PlainBoard>) -> Result<End, Fail>
+fn end_pass(plane: &mut Plane<PlainBoard>) -> Result<(), Fail>
     requires look { MayLook plane.old }
     requires on { IsOnItsWay plane.old.board 0 }
     ensures { OnOk result (MayLook plane.new) }
@@ -382,26 +410,31 @@ fn end_pass(plane: &mut Plane<PlainBoard>) -> Result<End, Fail>
         None => {}
     }
     match plane.hop(0) {
-        Some(_) => Ok(plane.end(0).end),
-        None => Err(Fail::from("another edge")),
+        Some(_) => {}
+        None => return Err(Fail::from("another edge")),
     }
+    match plane.end(0).end {
+        End::Drop => Ok(()),
+        _ => Err(Fail::from("another end")),
+    }
+}
+
+// The pass finds the ply after its last edge was replaced and a scan came; the scan after its end frees it.
+fn leaves_beneath_a_pass(plane: &mut Plane<PlainBoard>) -> Result<(), Fail>
+    requires growing { IsGrowingPlane 20 271 plane.old }
+    requires on { IsOnItsWay plane.old.board 0 }
+{
+    finds(plane, 64, Word::ToBalance(15))?;
+    replace_edge(plane)?;
+    look(plane, 2)?;
+    finds(plane, 64, Word::ToBalance(15))?;
+    end_pass(plane)?;
+    look(plane, 0)?;
+    finds(plane, 63, Word::Drop)
 }
 
 #[test]
 fn a_held_pass_finds_a_ply_that_left(rt: HostRuntime) -> Result<(), Fail> {
-    let mut plane = changing_plane(rt.alloc())?;
-    grow(&mut plane);
-    let_ply_go(&mut plane);
-    come_to_ply(&mut plane)?;
-    assert_eq!(rt; plane.used(), 64);
-    replace_edge(&mut plane)?;
-    assert_eq!(rt; look(&mut plane), 2);
-    assert_eq!(rt; plane.used(), 64);
-    assert_eq!(rt; plane.word(20, 0), Word::ToBalance(15));
-    let end = end_pass(&mut plane)?;
-    assert_eq!(rt; end, End::Drop);
-    assert_eq!(rt; look(&mut plane), 0);
-    assert_eq!(rt; plane.used(), 63);
-    assert_eq!(rt; plane.word(20, 0), Word::Drop);
-    Ok(())
+    let mut plane = standing_plane(rt.alloc())?;
+    leaves_beneath_a_pass(&mut plane)
 }

@@ -7,6 +7,12 @@ scan-requires-clause-allowed c = λ some. look_allows c.args.plane.now c.require
 pub scan-requires-clause-serves : goal.scan-requires-clause-serves
 scan-requires-clause-serves c = c.requires.serves
 
+pub returns-then-scan-left-clause-look : goal.returns-then-scan-left-clause-look
+returns-then-scan-left-clause-look c = look_again c.args.plane.now c.scan.new.self c.scan.ensures.scanned c.requires c.scan.ensures.serves
+
+pub returns-then-scan-left-clause-passes : goal.returns-then-scan-left-clause-passes
+returns-then-scan-left-clause-passes c = looked_passes c.args.plane.now c.scan.new.self c.scan.ensures.scanned
+
 pub returns-clause-look : goal.returns-clause-look
 returns-clause-look c = look_again c.args.plane.now c.scan.new.self c.scan.ensures.scanned c.requires c.scan.ensures.serves
 
