@@ -1,5 +1,5 @@
 -- Beneath a pass a number is stored into an object that no pass can reach, and cleared again: the stores of a change that touches nothing.
-use Rattle.std.proofs.Common.{◌≡◌, inl, inr, ⊎_elim, ℕ, ◌+◌, ◌*◌, ◌/◌, ◌<◌, true, false, List, [], ◌∷◌, length, refl, sym, ap, ◌∙◌, subst, arith, length-set}
+use Rattle.std.proofs.Common.{◌≡◌, inl, inr, ⊎_elim, ℕ, ◌+◌, ◌*◌, ◌/◌, ◌^◌, ◌<◌, true, false, List, [], ◌∷◌, length, refl, sym, ap, ◌∙◌, subst, arith, length-set}
 use Rattle.std.specs.Prelude.{Bool, IfNone, None, Option, Some, is_some, if◌then◌else◌, slice_get, slice_index, slice_set, ◌&&◌}
 use mathlib.Core.Logic.{dite}
 use native.Mathlib.Decide.{ℕ_discrete}
@@ -9,7 +9,7 @@ use Rattle.std.proofs.lemmas.Map.Made.{is_member-Decides}
 use Rattle.fib_addr.specs.Prefixes.{Prefix, same_prefix}
 use Rattle.fib_addr.proofs.PrefixLaws.{same_prefix-Decides}
 use Rattle.fib_resolve.specs.Pairs.{entries}
-use Rattle.fib_resolve.specs.Tables.{fresh}
+use Rattle.fib_resolve.specs.Tables.{IsSound, fresh}
 use Rattle.fib_resolve.specs.declared.types.End.{End}
 use Rattle.fib_resolve.specs.declared.types.Tables.{Tables}
 use Rattle.fib_resolve.proofs.Sound.{sound_fresh}
@@ -24,7 +24,7 @@ use Rattle.fib_core.specs.Union.{AreEdges, Goes, Retired, Union, edges_of, must_
 use Rattle.fib_core.proofs.Edges.{edge_is, goes_words}
 use Rattle.fib_core.proofs.Numbers.{decoded_encoded, goes_of, target_of}
 use Rattle.fib_core.proofs.Unions.{goes_stored}
-use Rattle.fib_lawful.specs.State.{Log, begun, fresh_marks, stored_union}
+use Rattle.fib_lawful.specs.State.{Log, begun, first_control, fresh_marks, stored_union}
 use Rattle.fib_steady.specs.Names.{Names}
 use Rattle.fib_steady.specs.Promise.{IsPromised}
 use Rattle.fib_steady.specs.Undisturbed.{since}
@@ -35,11 +35,10 @@ use Rattle.fib_rule.proofs.Named.{names_of}
 use Rattle.fib_rule.proofs.Settled.{stands_since}
 use Rattle.fib_board.specs.Boards.{Board, as_control, board_begun, board_stored}
 use Rattle.fib_board.proofs.Serving.{clear_empties}
-use Rattle.fib_board.specs.May.{IsReached, MayClear, MaySettle, MayStore}
-use Rattle.fib_plainboard.specs.Passes.{fresh_plain}
+use Rattle.fib_board.specs.May.{IsReached, MayBegin, MayClear, MaySettle, MayStore}
 use Rattle.fib_plainboard.specs.inner.Fresh.{number_of}
 use Rattle.fib_plainboard.specs.inner.Filling.{HasNumber, IsChanging, IsReady, seven}
-use Rattle.fib_plainboard.proofs.Filling.{set_else, set_there_is}
+use Rattle.fib_plainboard.proofs.Forests.{set_else, set_there_is}
 use Rattle.fib_plainboard.proofs.Passing.{some_is, some_none}
 use Rattle.fib_plainboard.proofs.Freshly.{entries_are_prefixes, entry_low, low}
 
@@ -69,13 +68,20 @@ retired_by keep r rs is none = ap (retire_if (keep && goes r.word) r) none ∙ n
 -- the first version but one
 pub begins_changing : (b c : Board) (next : Tables) → IsReady b → next ≡ fresh → c ≡ board_begun b next → IsChanging c
 begins_changing b c next r same is = subst IsChanging (sym is) (record {
-  log = (λ i. begun (ap (λ (d : Board). d.log) r.rest i) (same i));
-  all = ap (λ (d : Board). d.objects) r.rest;
+  log = (λ i. begun (r.first.log i) (same i));
+  all = r.first.all;
   named = r.named;
   quiet = r.stands.quiet;
-  long = r.long;
+  long = r.stores.long;
   free = r.free;
 })
+
+pub ready_begins : (b : Board) (next : Tables) → IsReady b → next ≡ fresh → MayBegin b next
+ready_begins b next r same = record {
+  room = subst (λ (l : Log). l.version.applied + 1 < 2 ^ 32) (sym r.first.log) (omega arith);
+  sound = subst IsSound (sym same) sound_fresh;
+  first = λ z. r.stands;
+}
 
 -- passes go on
 pub still_changing : (b c : Board) → IsChanging b → c.union ≡ b.union → c.log ≡ b.log → c.objects ≡ b.objects → IsChanging c
@@ -100,31 +106,35 @@ changing_settles b r = record {
 }
 
 module _ (b : Board) (r : IsChanging b) where
-  abbrev History : List Tables
+  abbrev pub History : List Tables
   History = fresh ∷ fresh ∷ []
 
   -- the promise holds by the numbers
-  abbrev names : Names
+  abbrev pub names : Names
   names = names_of number_of fresh
 
-  empty : decoded (slice_index b.union.cells 320) ≡ words.Drop
-  empty = ⊎_elim
+  pub free_cells : (s : ℕ) → s < 16 → word_at b.union.cells 20 s ≡ words.Drop
+  free_cells = ⊎_elim
       (λ (h : (x : Thing) × IsCounted fresh x × (number_of x ≡ 20)). absurd (let lt = low h.0 h.1 in let is = h.2 in let bad : ⊥ = omega arith in bad))
-      (λ (drops : (s : ℕ) → s < 16 → word_at b.union.cells 20 s ≡ words.Drop). drops 0 (omega arith))
+      (λ (drops : (s : ℕ) → s < 16 → word_at b.union.cells 20 s ≡ words.Drop). drops)
       (r.named.others 20 (let long = r.long in omega arith))
 
-  unnamed : (e : Prefix) → names.balance e ≡ Some 20 → ⊥
-  unnamed e is = by_test (is_member same_prefix (entries fresh) e) refl
-    where
-      by_test : (t : Bool) → is_member same_prefix (entries fresh) e ≡ t → ⊥
-      by_test true there =
-          let named : Some (number_of (balance_of e)) ≡ Some 20 = sym (ap (λ (t : Bool). if t then Some (number_of (balance_of e)) else None) there) ∙ is in
-          let lt = (entry_low e ((is_member-Decides same_prefix-Decides (entries fresh) e).0 there)).1 in
-          let same : number_of (balance_of e) ≡ 20 = some_is (number_of (balance_of e)) 20 named in
-          omega arith
-      by_test false there = some_none 20 (sym is ∙ ap (λ (t : Bool). if t then Some (number_of (balance_of e)) else None) there)
+  empty : decoded (slice_index b.union.cells 320) ≡ words.Drop
+  empty = free_cells 0 (omega arith)
 
-  promised : IsPromised History names b.union
+  pub balances : (e : Prefix) (o : ℕ) → names.balance e ≡ Some o → (14 < o) × (o < 20)
+  balances e o is = by_test (is_member same_prefix (entries fresh) e) refl
+    where
+      by_test : (t : Bool) → is_member same_prefix (entries fresh) e ≡ t → (14 < o) × (o < 20)
+      by_test true there =
+          let named : Some (number_of (balance_of e)) ≡ Some o = sym (ap (λ (t : Bool). if t then Some (number_of (balance_of e)) else None) there) ∙ is in
+          subst (λ (n : ℕ). (14 < n) × (n < 20)) (some_is (number_of (balance_of e)) o named) (entry_low e ((is_member-Decides same_prefix-Decides (entries fresh) e).0 there))
+      by_test false there = absurd (some_none o (sym is ∙ ap (λ (t : Bool). if t then Some (number_of (balance_of e)) else None) there))
+
+  unnamed : (e : Prefix) → names.balance e ≡ Some 20 → ⊥
+  unnamed e is = (let lt = (balances e 20 is).1 in omega arith)
+
+  pub promised : IsPromised History names b.union
   promised = asks_less (since History 1) (since History 0) (later_too History 0 1 (omega arith)) names b.union
       (stands_since History 1 fresh refl b.union number_of r.quiet r.named entries_are_prefixes 64 r.long)
 
@@ -200,7 +210,7 @@ module _ (b : Board) (h : HasNumber b) where
   none_reached : edges.HasIn (edges_of With) 20 → ⊥
   none_reached (k, g) = (let q = goes_words With (subst AreEdges (sym none_left) tt) k 20 g in none_leads k q.0 q.2 q.1)
 
-  log_is : b.log ≡ begun (fresh_plain 64 1).log fresh
+  log_is : b.log ≡ begun (first_control 64 1).log fresh
   log_is = h.log ∙ h.was.log
 
   clear : MayClear b 20

@@ -5,7 +5,8 @@ pub mod Passing
 pub mod Hopping
 pub mod Ending
 pub mod Calls
-pub mod Filling
+pub mod Forests
 pub mod Freshly
 pub mod Fills
 pub mod Changing
+pub mod Growing

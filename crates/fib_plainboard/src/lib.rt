@@ -5,16 +5,15 @@
 //! same laws. So it shows that what the rule and the trait `Board` ask can be met together.
 //!
 //! What contracts see of it is the value `Board` of fib_board; `specs/Passes.antt` says what begin, hop and end make of
-//! it. `specs/inner` only carries proofs: `Reads`, `Sits` those of the code, the others those of the tests.
+//! it. `specs/inner` only carries proofs: `Reads`, `Sits` those of the code, the others those of `filling`, which fills boards for tests.
 #![tactic(auto)]
 
+pub mod filling;
 mod memory;
 mod plain_board;
 mod running;
 
 pub use plain_board::PlainBoard;
 
-#[cfg(test)]
-mod standing;
 #[cfg(test)]
 mod tests;

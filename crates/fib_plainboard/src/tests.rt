@@ -1,10 +1,14 @@
 // Each public call.
+ghost use Rattle.std.specs.Prelude.{IfOk, None, replicate, ◌≡◌};
+ghost use Rattle.fib_plainboard.specs.inner.Filling.{IsReady};
+
 use super::*;
-use crate::standing::filled_board;
+use crate::filling::fill;
 use fib_addr::Addr;
 use fib_board::Board;
 use fib_core::{Record, Version, Word};
 use fib_resolve::{End, Tables};
+use std::alloc::{AllocError, Global};
 use std::test::Fail;
 
 #[test]
@@ -37,6 +41,17 @@ fn a_pass_on_a_fresh_board(rt: HostRuntime) -> Result<(), Fail> {
     assert_eq!(rt; board.scan(1), 2);
     assert_eq!(rt; board.passes_left(1), 9_223_372_036_854_775_806);
     Ok(())
+}
+
+// A board of 64 objects and one worker whose cells stand for the fresh tables.
+fn filled_board(alloc: Global) -> Result<PlainBoard, AllocError>
+    ensures ready { IfOk result IsReady }
+    ensures passes { IfOk result (λ b. b.passes ≡ replicate 8 None) }
+    ensures rests { IfOk result (λ b. b.rests ≡ replicate 8 0) }
+{
+    let mut board = PlainBoard::new(alloc, 64, 1)?;
+    fill(&mut board);
+    Ok(board)
 }
 
 #[test]

@@ -30,7 +30,7 @@ edge_at_word b k = edge_in_at b.union.cells k
 abbrev pub edge_word : Word → Option ℕ
 edge_word w = if is_edge w then Some (value_of w) else None
 
-edge_is : (n : ℕ) → edge_in n ≡ edge_word (decoded n)
+pub edge_is : (n : ℕ) → edge_in n ≡ edge_word (decoded n)
 unfolding goes target
 edge_is n = refl
 

@@ -10,3 +10,5 @@ pub mod Recording
 pub mod Filling
 pub mod Firsts
 pub mod Trying
+pub mod Living
+pub mod Growing

@@ -3,17 +3,19 @@ ghost use Rattle.std.specs.Prelude.{IfOk, None, OnOk, Some, [], ◌+◌, ◌<◌
 ghost use Rattle.fib_interned.specs.Interned.{kept_of};
 ghost use Rattle.fib_pool.specs.Objects.{fresh_objects};
 ghost use Rattle.fib_pool.specs.Records.{adjacency};
-ghost use Rattle.fib_plainboard.specs.Passes.{fresh_plain};
+ghost use Rattle.fib_plainboard.specs.Passes.{IsOnItsWay, fresh_plain};
 ghost use Rattle.fib_joined.specs.declared.put.Put.TheVariants as puts;
 ghost use Rattle.fib_plane.specs.Planes.{Holds};
+ghost use Rattle.fib_plane.specs.inner.Grown.{IsCalm, IsFillingPlane, IsGrowingPlane, IsReadyPlane, MayLook};
 ghost use Rattle.fib_plane.specs.inner.Young.{IsLinked, IsYoung};
 
 use super::*;
 use fib_addr::{Addr, Mac};
 use fib_core::{Version, Word};
 use fib_plainboard::PlainBoard;
+use fib_plainboard::filling::{FILLED, GROWN, cell, word};
 use fib_pool::{AdjacencyRecord, Kind};
-use fib_resolve::End;
+use fib_resolve::{End, Tables};
 use std::alloc::{AllocError, Global};
 use std::test::Fail;
 
@@ -216,4 +218,223 @@ fn a_scan_frees_what_a_replaced_edge_led_to(rt: HostRuntime) -> Result<(), Fail>
     assert_eq!(rt; plane.used(), 1);
     assert_eq!(rt; plane.stored(), 2);
     Ok(())
+}
+
+// A plane over 64 objects and one worker, of which the control plane holds each.
+fn held_plane(alloc: Global) -> Result<Plane<PlainBoard>, Fail>
+    ensures filling { IfOk result (λ p. IsFillingPlane 0 p) }
+    ensures calm { IfOk result (λ p. IsCalm p.board) }
+{
+    let board = PlainBoard::new(alloc, 64, 1)?;
+    let mut plane = Plane::new(alloc, board)?;
+    plane.room(300)?;
+    for _ in 0..63 {
+        let _ = plane.take(Kind::Balance);
+    }
+    if plane.free() != 0 {
+        return Err(Fail::from("an object is free"));
+    }
+    plane.tells();
+    Ok(plane)
+}
+
+// A store of the filling.
+fn fill_one(plane: &mut Plane<PlainBoard>, store: u32)
+    requires store { store < 254 }
+    requires filling { IsFillingPlane store plane.old }
+    ensures filling { IsFillingPlane (store + 1) plane.new }
+    ensures calm { IsCalm plane.old.board → IsCalm plane.new.board }
+{
+    plane.tells();
+    let _retired = plane.retired();
+    let cell = cell(store);
+    plane.put(cell / 16, cell % 16, word(store));
+    plane.tells();
+}
+
+// The cells stand for the fresh tables then.
+fn fill(plane: &mut Plane<PlainBoard>)
+    requires filling { IsFillingPlane 0 plane.old }
+    requires calm { IsCalm plane.old.board }
+    ensures ready { IsReadyPlane plane.new }
+    ensures calm { IsCalm plane.new.board }
+{
+    for store in 0..FILLED {
+        fill_one(plane, store);
+    }
+    plane.tells();
+    plane.scan();
+    plane.tells();
+}
+
+#[test]
+fn a_version_begins_and_is_settled(rt: HostRuntime) -> Result<(), Fail> {
+    let mut plane = held_plane(rt.alloc())?;
+    fill(&mut plane);
+    assert_eq!(rt; (plane.stored(), plane.retired()), (254, 0));
+    let tables = Tables::fresh(rt.alloc());
+    plane.begin_version(&tables);
+    let version = Version {
+        settled: 0,
+        applied: 1,
+    };
+    assert_eq!(rt; plane.version(), version);
+    plane.settle_version();
+    assert_eq!(rt; plane.version(), Version::settled_at(1));
+    Ok(())
+}
+
+// A change to the same tables is being made on it.
+fn changing_plane(alloc: Global) -> Result<Plane<PlainBoard>, Fail>
+    ensures growing { IfOk result (λ p. IsGrowingPlane 64 254 p) }
+    ensures calm { IfOk result (λ p. IsCalm p.board) }
+{
+    let mut plane = held_plane(alloc)?;
+    fill(&mut plane);
+    let tables = Tables::fresh(alloc);
+    plane.begin_version(&tables);
+    Ok(plane)
+}
+
+// A store of the ply that grows.
+fn grow_one(plane: &mut Plane<PlainBoard>, store: u32)
+    requires from { 254 ≤ store }
+    requires to { store < 271 }
+    requires growing { IsGrowingPlane 64 store plane.old }
+    ensures growing { IsGrowingPlane 64 (store + 1) plane.new }
+    ensures calm { IsCalm plane.old.board → IsCalm plane.new.board }
+{
+    plane.tells();
+    let _retired = plane.retired();
+    let cell = cell(store);
+    plane.put(cell / 16, cell % 16, word(store));
+    plane.tells();
+}
+
+// A ply grows in object 20, below the root's cell 1.
+fn grow(plane: &mut Plane<PlainBoard>)
+    requires growing { IsGrowingPlane 64 254 plane.old }
+    requires calm { IsCalm plane.old.board }
+    ensures growing { IsGrowingPlane 64 271 plane.new }
+    ensures calm { IsCalm plane.new.board }
+{
+    for store in FILLED..GROWN {
+        grow_one(plane, store);
+    }
+}
+
+// Its hold ends.
+fn let_ply_go(plane: &mut Plane<PlainBoard>)
+    requires growing { IsGrowingPlane 64 271 plane.old }
+    requires calm { IsCalm plane.old.board }
+    ensures growing { IsGrowingPlane 20 271 plane.new }
+    ensures calm { IsCalm plane.new.board }
+{
+    plane.tells();
+    plane.let_go(20);
+    plane.tells();
+}
+
+// A pass to 16.0.0.0 comes to the ply.
+fn come_to_ply(plane: &mut Plane<PlainBoard>) -> Result<(), Fail>
+    requires growing { IsGrowingPlane 20 271 plane.old }
+    requires calm { IsCalm plane.old.board }
+    ensures growing { OnOk result (IsGrowingPlane 20 271 plane.new) }
+    ensures on { OnOk result (IsOnItsWay plane.new.board 0) }
+{
+    plane.begin(0, Addr(0x1000_0000), 5);
+    match plane.hop(0) {
+        None => Ok(()),
+        Some(_) => Err(Fail::from("no edge to the ply")),
+    }
+}
+
+// The last edge to the ply is replaced.
+fn replace_edge(plane: &mut Plane<PlainBoard>) -> Result<(), Fail>
+    requires growing { IsGrowingPlane 20 271 plane.old }
+    ensures look { OnOk result (MayLook plane.new) }
+    ensures passes { OnOk result (plane.new.board.passes ≡ plane.old.board.passes) }
+{
+    plane.tells();
+    match plane.put(0, 1, Word::ToBalance(15)) {
+        Put::Stored => Ok(()),
+        Put::Same | Put::Dropped => Err(Fail::from("the edge isn't replaced")),
+    }
+}
+
+// A plane on which a pass has come to a ply that only the root's edge keeps.
+fn standing_plane(alloc: Global) -> Result<Plane<PlainBoard>, Fail>
+    ensures growing { IfOk result (λ p. IsGrowingPlane 20 271 p) }
+    ensures on { IfOk result (λ p. IsOnItsWay p.board 0) }
+{
+    let mut plane = changing_plane(alloc)?;
+    grow(&mut plane);
+    let_ply_go(&mut plane);
+    come_to_ply(&mut plane)?;
+    Ok(plane)
+}
+
+// A scan leaves so many copies.
+fn look(plane: &mut Plane<PlainBoard>, left: u32) -> Result<(), Fail>
+    requires { MayLook plane.old }
+    ensures look { MayLook plane.new }
+    ensures passes { plane.new.board.passes ≡ plane.old.board.passes }
+{
+    if plane.scan() == left {
+        return Ok(());
+    }
+    Err(Fail::from("another number of copies is left"))
+}
+
+// So many objects are used, and this word stands in the ply's first cell.
+fn finds(plane: &Plane<PlainBoard>, used: u32, word: Word) -> Result<(), Fail>
+    requires { plane.now.board.objects ≡ 64 }
+{
+    if plane.used() != used {
+        return Err(Fail::from("another number of objects is used"));
+    }
+    if plane.word(20, 0) == word {
+        return Ok(());
+    }
+    Err(Fail::from("another word is in the ply"))
+}
+
+// The pass goes on to its end, by two loads.
+fn end_pass(plane: &mut Plane<PlainBoard>) -> Result<(), Fail>
+    requires look { MayLook plane.old }
+    requires on { IsOnItsWay plane.old.board 0 }
+    ensures { OnOk result (MayLook plane.new) }
+{
+    match plane.hop(0) {
+        Some(_) => return Err(Fail::from("the ply's cell is empty")),
+        None => {}
+    }
+    match plane.hop(0) {
+        Some(_) => {}
+        None => return Err(Fail::from("another edge")),
+    }
+    match plane.end(0).end {
+        End::Drop => Ok(()),
+        _ => Err(Fail::from("another end")),
+    }
+}
+
+// The pass finds the ply after its last edge was replaced and a scan came; the scan after its end frees it.
+fn leaves_beneath_a_pass(plane: &mut Plane<PlainBoard>) -> Result<(), Fail>
+    requires growing { IsGrowingPlane 20 271 plane.old }
+    requires on { IsOnItsWay plane.old.board 0 }
+{
+    finds(plane, 64, Word::ToBalance(15))?;
+    replace_edge(plane)?;
+    look(plane, 2)?;
+    finds(plane, 64, Word::ToBalance(15))?;
+    end_pass(plane)?;
+    look(plane, 0)?;
+    finds(plane, 63, Word::Drop)
+}
+
+#[test]
+fn a_held_pass_finds_a_ply_that_left(rt: HostRuntime) -> Result<(), Fail> {
+    let mut plane = standing_plane(rt.alloc())?;
+    leaves_beneath_a_pass(&mut plane)
 }

@@ -1,19 +1,29 @@
-use Rattle.std.proofs.Common.{ap, sym, ◌∙◌, subst}
+use Rattle.std.proofs.Common.{arith, ap, sym, ◌∙◌, subst, ℕ, ◌<◌, None}
+use Rattle.std.specs.Prelude.{slice_index, slice_index_or}
+use Rattle.fib_lawful.specs.State.{left_of}
 use Rattle.fib_board.specs.Boards.{Board}
 use Rattle.fib_plainboard.specs.Passes.{FoundEdge, IsOnItsWay, loads_in, pass_of}
 use Rattle.fib_plainboard.proofs.Changing as changing
 use Rattle.fib_plainboard.proofs.tests.a_change_beneath_a_pass.Goals as goal
 
+pub begin-requires-clause-rests : goal.begin-requires-clause-rests
+begin-requires-clause-rests g c = ap (λ (b : Board). pass_of b 0) c.begin_version.ensures ∙ ap (λ ps. slice_index_or ps 0 None) c.in_ok-board.ensures.passes
+
+pub begin-requires-clause-left : goal.begin-requires-clause-left
+begin-requires-clause-left g c =
+    let none = ap (λ (b : Board). slice_index b.rests 0) c.begin_version.ensures ∙ ap (λ rs. slice_index rs 0) c.in_ok-board.ensures.rests in
+    subst (λ (n : ℕ). 0 < left_of n) (sym none) (omega arith)
+
 pub store-requires-clause-may : goal.store-requires-clause-may
 store-requires-clause-may g c =
-    let first = changing.begins_changing c.in_ok-board.board c.begin_version.new.self c.fresh-tables.result c.in_ok-board.ensures c.fresh-tables.ensures.value c.begin_version.ensures in
+    let first = changing.begins_changing c.in_ok-board.board c.begin_version.new.self c.fresh-tables.result c.in_ok-board.ensures.ready c.fresh-tables.ensures.value c.begin_version.ensures in
     let begun = changing.still_changing c.begin_version.new.self c.begin.new.self first (ap (λ (b : Board). b.union) c.begin.ensures.pass) (ap (λ (b : Board). b.log) c.begin.ensures.pass) (ap (λ (b : Board). b.objects) c.begin.ensures.pass) in
     let hopped = changing.still_changing c.begin.new.self c.hop.new.self begun (ap (λ (b : Board). b.union) c.hop.ensures.pass) (ap (λ (b : Board). b.log) c.hop.ensures.pass) (ap (λ (b : Board). b.objects) c.hop.ensures.pass) in
     changing.may_number c.hop.new.self hopped
 
 pub store-requires-2-clause-may : goal.store-requires-2-clause-may
 store-requires-2-clause-may g c =
-    let first = changing.begins_changing c.in_ok-board.board c.begin_version.new.self c.fresh-tables.result c.in_ok-board.ensures c.fresh-tables.ensures.value c.begin_version.ensures in
+    let first = changing.begins_changing c.in_ok-board.board c.begin_version.new.self c.fresh-tables.result c.in_ok-board.ensures.ready c.fresh-tables.ensures.value c.begin_version.ensures in
     let begun = changing.still_changing c.begin_version.new.self c.begin.new.self first (ap (λ (b : Board). b.union) c.begin.ensures.pass) (ap (λ (b : Board). b.log) c.begin.ensures.pass) (ap (λ (b : Board). b.objects) c.begin.ensures.pass) in
     let hopped = changing.still_changing c.begin.new.self c.hop.new.self begun (ap (λ (b : Board). b.union) c.hop.ensures.pass) (ap (λ (b : Board). b.log) c.hop.ensures.pass) (ap (λ (b : Board). b.objects) c.hop.ensures.pass) in
     let with_number = changing.numbered c.hop.new.self c.store.new.self hopped c.store.ensures in
@@ -28,7 +38,7 @@ hop-requires-3 g c =
 
 pub settle_version-requires : goal.settle_version-requires
 settle_version-requires g c =
-    let first = changing.begins_changing c.in_ok-board.board c.begin_version.new.self c.fresh-tables.result c.in_ok-board.ensures c.fresh-tables.ensures.value c.begin_version.ensures in
+    let first = changing.begins_changing c.in_ok-board.board c.begin_version.new.self c.fresh-tables.result c.in_ok-board.ensures.ready c.fresh-tables.ensures.value c.begin_version.ensures in
     let begun = changing.still_changing c.begin_version.new.self c.begin.new.self first (ap (λ (b : Board). b.union) c.begin.ensures.pass) (ap (λ (b : Board). b.log) c.begin.ensures.pass) (ap (λ (b : Board). b.objects) c.begin.ensures.pass) in
     let hopped = changing.still_changing c.begin.new.self c.hop.new.self begun (ap (λ (b : Board). b.union) c.hop.ensures.pass) (ap (λ (b : Board). b.log) c.hop.ensures.pass) (ap (λ (b : Board). b.objects) c.hop.ensures.pass) in
     let with_number = changing.numbered c.hop.new.self c.store.new.self hopped c.store.ensures in

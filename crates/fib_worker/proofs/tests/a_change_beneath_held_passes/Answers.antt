@@ -1,14 +1,15 @@
 use Rattle.std.proofs.Common.{ap, sym, ◌∙◌}
 use Rattle.fib_board.specs.Boards.{Board}
 use Rattle.fib_board.specs.Crews.{Seated}
-use Rattle.fib_worker.proofs.Lives.{begins_changing, home_settles, sent_changing}
+use Rattle.fib_plainboard.proofs.Changing.{begins_changing}
+use Rattle.fib_worker.proofs.Lives.{home_settles, sent_changing}
 use Rattle.fib_worker.proofs.tests.a_change_beneath_held_passes.Goals as goal
 
 pub loop-held-init : goal.loop-held-init
 loop-held-init g c =
     let ready = c.filled_board-board.ensures in (
       sent_changing c.begin_version.new.self c.worker.new.self 0
-          (begins_changing c.filled_board-board.result c.begin_version.new.self c.fresh-tables.result ready c.fresh-tables.ensures.value c.begin_version.ensures)
+          (begins_changing c.filled_board-board.result c.begin_version.new.self c.fresh-tables.result ready.ready c.fresh-tables.ensures.value c.begin_version.ensures)
           c.worker.ensures.board,
       ap (λ (b : Board). b.workers) c.worker.ensures.board ∙ ap (λ (b : Board). b.workers) c.begin_version.ensures ∙ ap (λ (b : Board). b.workers) ready.rest,
       ap (λ (b : Board). b.objects) c.worker.ensures.board ∙ ap (λ (b : Board). b.objects) c.begin_version.ensures ∙ ap (λ (b : Board). b.objects) ready.rest,

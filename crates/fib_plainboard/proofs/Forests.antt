@@ -1,7 +1,7 @@
 -- What may be stored while a board is filled.
 use Rattle.std.proofs.Common.{◌≡◌, ◌≢◌, ◌⊎◌, inl, inr, ⊎_elim, ℕ, zero, suc, ◌+◌, ◌*◌, ◌/◌, ◌%◌, ◌^◌, ◌<◌, ◌≤◌, true, false, List, length, refl, sym, ap, ◌∙◌, subst, arith, get_or-set_same, get_or-set_other, length-set}
 use Rattle.std.specs.Prelude.{Bool, if◌then◌else◌, nat_lt, slice_index, slice_set}
-use Rattle.std.proofs.lemmas.Bool.{false≢true}
+use Rattle.std.proofs.lemmas.Bool.{false≢true, true≢false}
 use Rattle.std.proofs.lemmas.List.{get_or_past}
 use mathlib.Core.Logic.{dite}
 use native.Mathlib.Decide.{ℕ_discrete, dec_lt}
@@ -19,50 +19,58 @@ use Rattle.fib_core.specs.Union.{Edge, Goes, HasForm, IsPlyWord, PlyEdge, Union,
 use Rattle.fib_core.specs.Trails.{IsEndOf}
 use Rattle.fib_core.proofs.Numbers.{decoded_encoded, goes_of, target_of}
 use Rattle.fib_core.proofs.Edges.{edge_is, edge_words}
-use Rattle.fib_lawful.specs.State.{Control}
 use Rattle.fib_steady.specs.Names.{LeadsNow}
+use Rattle.fib_steady.specs.Rooted.{IsLeaf}
 use Rattle.fib_rule.specs.Change.{MayChange, MayEnter, MayPlace}
+use Rattle.fib_rule.specs.Steady.{MayStoreSteadily}
 use Rattle.fib_board.specs.Boards.{Board, as_control}
-use Rattle.fib_board.specs.May.{MayStore}
-use Rattle.fib_plainboard.specs.inner.Filled.{Forest, IsForest, Fits, IsFilled, IsStill}
+use Rattle.fib_board.specs.May.{Allows, MayStore}
+use Rattle.fib_plainboard.specs.inner.Filled.{Forest, IsForest, Fits, IsFilled}
 
--- an edge that fits is one to a ply or one to a balance
+-- an edge that fits is one to a deeper ply or one to a balance
 abbrev IsDeeper : Forest → ℕ → Word → Type 0
-IsDeeper f x w = (tag_of w ≡ 3) × (x < value_of w) × (value_of w < f.plies) × (f.depth (value_of w) ≡ suc (f.depth x))
+IsDeeper f x w = (tag_of w ≡ 3) × (f.is_ply x ≡ true) × (f.is_ply (value_of w) ≡ true) × (value_of w < f.objects) × (f.depth (value_of w) ≡ suc (f.depth x))
 
 abbrev IsLast : Forest → ℕ → Word → Type 0
-IsLast f x w = (tag_of w ≡ 4) × (x < f.plies) × (f.plies ≤ value_of w) × (value_of w < f.objects)
+IsLast f x w = (tag_of w ≡ 4) × (f.is_ply x ≡ true) × (f.is_ply (value_of w) ≡ false) × (value_of w < f.objects)
 
 side : (f : Forest) (x : ℕ) (w : Word) → Fits f x w → is_edge w ≡ true → IsDeeper f x w ⊎ IsLast f x w
 side f x words.Drop fits edge = absurd (false≢true edge)
 side f x words.Receive fits edge = absurd fits
 side f x (words.Glean i) fits edge = absurd fits
-side f x (words.ToPly y) fits edge = inl (refl, fits.0, fits.1, fits.2)
+side f x (words.ToPly y) fits edge = inl (refl, fits.0, fits.1, fits.2, fits.3)
 side f x (words.ToBalance y) fits edge = inr (refl, fits.0, fits.1, fits.2)
 side f x (words.ToAdjacency y) fits edge = absurd fits
 side f x (words.Plain n) fits edge = absurd fits
 
--- so it leads to a greater number
-greater : (f : Forest) (x : ℕ) (w : Word) → Fits f x w → is_edge w ≡ true → x < value_of w
-greater f x w fits edge = ⊎_elim
-    (λ (d : IsDeeper f x w). d.1)
-    (λ (l : IsLast f x w). let lt = l.1 in let le = l.2 in omega arith)
+-- a ply stands by its depth, and each balance behind all plies
+abbrev rank : Forest → ℕ → ℕ
+rank f x = if f.is_ply x then f.depth x else 8
+
+rank_ply : (f : Forest) (x : ℕ) → f.is_ply x ≡ true → rank f x ≡ f.depth x
+rank_ply f x is = ap (λ (b : Bool). if b then f.depth x else 8) is
+
+rank_flat : (f : Forest) (x : ℕ) → f.is_ply x ≡ false → rank f x ≡ 8
+rank_flat f x is = ap (λ (b : Bool). if b then f.depth x else 8) is
+
+-- so an edge leads further back
+greater : (f : Forest) → IsForest f → (x : ℕ) (w : Word) → Fits f x w → is_edge w ≡ true → rank f x < rank f (value_of w)
+greater f ok x w fits edge = ⊎_elim
+    (λ (d : IsDeeper f x w). let a = rank_ply f x d.1 in let b = rank_ply f (value_of w) d.2 in let e = d.4 in omega arith)
+    (λ (l : IsLast f x w). let a = rank_ply f x l.1 in let b = rank_flat f (value_of w) l.2 in let c = ok.low x l.1 in omega arith)
     (side f x w fits edge)
 
-below : (f : Forest) (x : ℕ) (w : Word) → f.plies ≤ f.objects → Fits f x w → is_edge w ≡ true → value_of w < f.objects
-below f x w part fits edge = ⊎_elim
-    (λ (d : IsDeeper f x w). let lt = d.2 in omega arith)
-    (λ (l : IsLast f x w). l.3)
-    (side f x w fits edge)
+below : (f : Forest) (x : ℕ) (w : Word) → Fits f x w → is_edge w ≡ true → value_of w < f.objects
+below f x w fits edge = ⊎_elim (λ (d : IsDeeper f x w). d.3) (λ (l : IsLast f x w). l.3) (side f x w fits edge)
 
-roomy : (f : Forest) (x : ℕ) (w : Word) → f.plies ≤ f.objects → f.objects < 2 ^ 32 → Fits f x w → IsRoomy w
-roomy f x words.Drop part few fits = tt
-roomy f x words.Receive part few fits = absurd fits
-roomy f x (words.Glean i) part few fits = absurd fits
-roomy f x (words.ToPly y) part few fits = (let lt = fits.1 in omega arith)
-roomy f x (words.ToBalance y) part few fits = (let lt = fits.2 in omega arith)
-roomy f x (words.ToAdjacency y) part few fits = absurd fits
-roomy f x (words.Plain n) part few fits = absurd fits
+pub roomy : (f : Forest) (x : ℕ) (w : Word) → f.objects < 2 ^ 32 → Fits f x w → IsRoomy w
+roomy f x words.Drop few fits = tt
+roomy f x words.Receive few fits = absurd fits
+roomy f x (words.Glean i) few fits = absurd fits
+roomy f x (words.ToPly y) few fits = (let lt = fits.2 in omega arith)
+roomy f x (words.ToBalance y) few fits = (let lt = fits.2 in omega arith)
+roomy f x (words.ToAdjacency y) few fits = absurd fits
+roomy f x (words.Plain n) few fits = absurd fits
 
 ply_word : (f : Forest) (x : ℕ) (w : Word) → Fits f x w → is_edge w ≡ true → IsPlyWord w
 ply_word f x words.Drop fits edge = absurd (false≢true edge)
@@ -91,11 +99,11 @@ no_end f x (words.ToBalance y) P cells fits = tt
 no_end f x (words.ToAdjacency y) P cells fits = absurd fits
 no_end f x (words.Plain n) P cells fits = absurd fits
 
-no_drop : (w : Word) → is_edge w ≡ true → w ≡ words.Drop → ⊥
+pub no_drop : (w : Word) → is_edge w ≡ true → w ≡ words.Drop → ⊥
 no_drop w edge e = false≢true (sym (ap is_edge e) ∙ edge)
 
 -- what stands in a cell after a store
-set_cases : (cells : List ℕ) (k j w : ℕ) → (slice_index (slice_set cells k w) j ≡ slice_index cells j) ⊎ ((j ≡ k) × (slice_index (slice_set cells k w) j ≡ w))
+pub set_cases : (cells : List ℕ) (k j w : ℕ) → (slice_index (slice_set cells k w) j ≡ slice_index cells j) ⊎ ((j ≡ k) × (slice_index (slice_set cells k w) j ≡ w))
 set_cases cells k j w = dite (ℕ_discrete j k)
     (λ e. dite (dec_lt k (length cells))
     (λ room. inr (e, ap (slice_index (slice_set cells k w)) e ∙ get_or-set_same cells k w 0 room))
@@ -162,27 +170,30 @@ module _ (f : Forest) (cells : List ℕ) (all : (k : ℕ) → Fits f (owner k) (
   unfolding walk
   walks_drop a h = calm_end (after cells a h (length cells / 16 + 1) root) (calm_after a h (length cells / 16 + 1) root tt)
 
--- edges lead upwards, and plies lie at their depths
-module _ (f : Forest) (ok : IsForest f) (u : Union) (h : IsFilled f u) where
+-- edges lead backwards, and plies lie at their depths
+module _ (f : Forest) (ok : IsForest f) (b : Board) (h : IsFilled f b.union) where
+  abbrev u : Union
+  u = b.union
+
   edge_fits : (j v : ℕ) → Goes u j v → IsDeeper f (owner j) (decoded v) ⊎ IsLast f (owner j) (decoded v)
   edge_fits j v g = side f (owner j) (decoded v) (h.copies j v g) (sym (goes_of v (decoded v) refl) ∙ g.0)
 
-  edge_up : (x y : ℕ) → Edge u x y → x < y
+  edge_up : (x y : ℕ) → Edge u x y → rank f x < rank f y
   edge_up x y (k, w, from, to, g) =
-      let lt = greater f (owner k) (decoded w) (h.copies k w g) (sym (goes_of w (decoded w) refl) ∙ g.0) in
-      let same : target w ≡ value_of (decoded w) = target_of w (decoded w) refl in
-      omega (arith, lt, same, from, to)
+      let lt = greater f ok (owner k) (decoded w) (h.copies k w g) (sym (goes_of w (decoded w) refl) ∙ g.0) in
+      let same : value_of (decoded w) ≡ y = sym (target_of w (decoded w) refl) ∙ to in
+      subst (λ (o : ℕ). rank f o < rank f y) from (subst (λ (o : ℕ). rank f (owner k) < rank f o) same lt)
 
-  leads_up : (n x y : ℕ) → Walk (edges.Edge (edges_of u)) n x y → x ≤ y
-  leads_up zero x y e = omega (arith, e)
+  leads_up : (n x y : ℕ) → Walk (edges.Edge (edges_of u)) n x y → rank f x ≤ rank f y
+  leads_up zero x y e = (let same : rank f x ≡ rank f y = ap (rank f) e in omega arith)
   leads_up (suc n) x y (z, e, more) =
-      let up : x < z = edge_up x z (edge_words u h.edges x z e) in
+      let up : rank f x < rank f z = edge_up x z (edge_words u h.edges x z e) in
       let on = leads_up n z y more in
       omega arith
 
-  ply_down : (x y : ℕ) → PlyEdge u x y → (y < f.plies) × (f.depth y ≡ suc (f.depth x))
-  ply_down x y (k, w, from, is, g) = subst (λ o. (y < f.plies) × (f.depth y ≡ suc (f.depth o))) from
-      (let fits = subst (Fits f (owner k)) is (h.copies k w g) in (fits.1, fits.2))
+  ply_down : (x y : ℕ) → PlyEdge u x y → (f.is_ply y ≡ true) × (f.depth y ≡ suc (f.depth x))
+  ply_down x y (k, w, from, is, g) = subst (λ o. (f.is_ply y ≡ true) × (f.depth y ≡ suc (f.depth o))) from
+      (let fits = subst (Fits f (owner k)) is (h.copies k w g) in (fits.1, fits.3))
 
   depth_of : (n x y : ℕ) → Walk (PlyEdge u) n x y → f.depth y ≡ n + f.depth x
   depth_of zero x y e = ap f.depth (sym e) ∙ plain (f.depth x)
@@ -194,17 +205,17 @@ module _ (f : Forest) (ok : IsForest f) (u : Union) (h : IsFilled f u) where
       let rest = depth_of n z y more in
       omega arith
 
-  stays_low : (n x y : ℕ) → x < f.plies → Walk (PlyEdge u) n x y → y < f.plies
-  stays_low zero x y lt e = subst (λ o. o < f.plies) e lt
-  stays_low (suc n) x y lt (z, e, more) = stays_low n z y (ply_down x z e).0 more
+  stays_low : (n x y : ℕ) → f.is_ply x ≡ true → Walk (PlyEdge u) n x y → f.is_ply y ≡ true
+  stays_low zero x y is e = subst (λ o. f.is_ply o ≡ true) e is
+  stays_low (suc n) x y is (z, e, more) = stays_low n z y (ply_down x z e).0 more
 
   -- a store of an edge
-  module _ (b : Board) (same : b.union ≡ u) (still : IsStill f b) (k : ℕ) (w : Word) (inside : k < 16 * f.objects) (fits : Fits f (owner k) w) (edge : is_edge w ≡ true)
+  module _ (all : b.objects ≡ f.objects) (k : ℕ) (w : Word) (inside : k < 16 * f.objects) (fits : Fits f (owner k) w) (edge : is_edge w ≡ true)
       (other : decoded (slice_index u.cells k) ≢ w) (formed : (s : ℕ) → s < 16 → HasForm w s (word_at u.cells (value_of w) s))
       (linked : (c : ℕ) → w ≡ words.ToPly c → owner k ≢ 0 → LeadsNow u.cells (owner k))
-      (kept : (c : ℕ) → decoded (slice_index u.cells k) ≡ words.ToPly c → ⊥) where
+      (unlinked : (c : ℕ) → decoded (slice_index u.cells k) ≡ words.ToPly c → IsLeaf u.cells c) where
     pub back : decoded (encoded w) ≡ w
-    back = decoded_encoded w (roomy f (owner k) w ok.part ok.few fits)
+    back = decoded_encoded w (roomy f (owner k) w ok.few fits)
 
     leads : target (encoded w) ≡ value_of w
     leads = target_of (encoded w) w back
@@ -212,17 +223,14 @@ module _ (f : Forest) (ok : IsForest f) (u : Union) (h : IsFilled f u) where
     mine : IsDeeper f (owner k) w ⊎ IsLast f (owner k) w
     mine = side f (owner k) w fits edge
 
-    owned : owner k < f.plies
-    owned = ⊎_elim
-        (λ (d : IsDeeper f (owner k) w). let a = d.1 in let b = d.2 in omega arith)
-        (λ (l : IsLast f (owner k) w). l.1)
-        mine
+    owned : f.is_ply (owner k) ≡ true
+    owned = ⊎_elim (λ (d : IsDeeper f (owner k) w). d.1) (λ (l : IsLast f (owner k) w). l.1) mine
 
     -- an edge into the object of the cell comes from a ply
     from_ply_edge : (j v : ℕ) → Goes u j v → target v ≡ owner k → tag_of (decoded v) ≡ 3
     from_ply_edge j v g e = ⊎_elim
         (λ (d : IsDeeper f (owner j) (decoded v)). d.0)
-        (λ (l : IsLast f (owner j) (decoded v)). absurd (let is : target v ≡ value_of (decoded v) = target_of v (decoded v) refl in let le = l.2 in let lt = owned in let bad : ⊥ = omega arith in bad))
+        (λ (l : IsLast f (owner j) (decoded v)). absurd (true≢false (sym owned ∙ ap f.is_ply (sym e ∙ target_of v (decoded v) refl) ∙ l.2)))
         (edge_fits j v g)
 
     one_tag : (j v : ℕ) → Goes u j v → target v ≡ target (encoded w) → tag_of (decoded v) ≡ tag_of (decoded (encoded w))
@@ -231,9 +239,9 @@ module _ (f : Forest) (ok : IsForest f) (u : Union) (h : IsFilled f u) where
         ⊎_elim
         (λ (d : IsDeeper f (owner j) (decoded v)). ⊎_elim
         (λ (c : IsDeeper f (owner k) w). d.0 ∙ sym c.0 ∙ ap tag_of (sym back))
-        (λ (l : IsLast f (owner k) w). absurd (let x = d.2 in let y = l.2 in let bad : ⊥ = omega arith in bad)) mine)
+        (λ (l : IsLast f (owner k) w). absurd (true≢false (sym d.2 ∙ ap f.is_ply is ∙ l.2))) mine)
         (λ (d : IsLast f (owner j) (decoded v)). ⊎_elim
-        (λ (c : IsDeeper f (owner k) w). absurd (let x = d.2 in let y = c.2 in let bad : ⊥ = omega arith in bad))
+        (λ (c : IsDeeper f (owner k) w). absurd (true≢false (sym c.2 ∙ ap f.is_ply (sym is) ∙ d.2)))
         (λ (l : IsLast f (owner k) w). d.0 ∙ sym l.0 ∙ ap tag_of (sym back)) mine)
         (edge_fits j v g)
 
@@ -242,10 +250,10 @@ module _ (f : Forest) (ok : IsForest f) (u : Union) (h : IsFilled f u) where
         (λ (d : IsDeeper f (owner k) w).
         let top : f.depth (owner k) ≡ n + f.depth 0 = depth_of n 0 (owner k) up in
         let from : f.depth y ≡ m + f.depth (value_of w) = subst (λ o. f.depth y ≡ m + f.depth o) leads (depth_of m (target (encoded w)) y down) in
-        let low : y < f.plies = stays_low m (value_of w) y d.2 (subst (λ o. Walk (PlyEdge u) m o y) leads down) in
+        let low : f.is_ply y ≡ true = stays_low m (value_of w) y d.2 (subst (λ o. Walk (PlyEdge u) m o y) leads down) in
         let most = ok.low y low in
         let zero_deep = ok.root in
-        let one = d.3 in
+        let one = d.4 in
         omega arith)
         (λ (l : IsLast f (owner k) w). absurd (let a : tag_of w ≡ 3 = sym (ap tag_of back) ∙ three in let c = l.0 in let bad : ⊥ = omega arith in bad))
         mine
@@ -254,13 +262,13 @@ module _ (f : Forest) (ok : IsForest f) (u : Union) (h : IsFilled f u) where
     others no_ply j v g three e = ⊎_elim
         (λ (d : IsDeeper f (owner j) (decoded v)). ⊎_elim
         (λ (c : IsDeeper f (owner k) w). no_ply (ap tag_of back ∙ c.0))
-        (λ (l : IsLast f (owner k) w). let x = d.1 in let y = d.2 in let z = l.2 in let t : target (encoded w) ≡ value_of w = leads in let bad : ⊥ = omega arith in bad) mine)
+        (λ (l : IsLast f (owner k) w). absurd (true≢false (sym d.1 ∙ ap f.is_ply (e ∙ leads) ∙ l.2))) mine)
         (λ (d : IsLast f (owner j) (decoded v)). let a = d.0 in let bad : ⊥ = omega arith in bad)
         (edge_fits j v g)
 
     enter : MayEnter u k (encoded w)
     enter = record {
-      away = (λ e. let lt = greater f (owner k) w fits edge in let t = leads in omega arith);
+      away = (λ e. let lt = greater f ok (owner k) w fits edge in let z : rank f (value_of w) ≡ rank f 0 = ap (rank f) (sym leads ∙ e) in let t = rank_ply f 0 ok.top in let r = ok.root in omega arith);
       one_tag = one_tag;
       formed = λ s lt. subst (λ (x : Word × ℕ). HasForm x.0 s (word_at u.cells x.1 s)) (λ i. (sym back i, sym leads i)) (formed s lt);
       plies = λ three j v g e. from_ply_edge j v g e;
@@ -268,43 +276,40 @@ module _ (f : Forest) (ok : IsForest f) (u : Union) (h : IsFilled f u) where
       others = others;
     }
 
-    abbrev Mine : Control
-    Mine = as_control b
-
     pub then_fits : (j : ℕ) → Fits f (owner j) (decoded (slice_index (slice_set u.cells k (encoded w)) j))
     then_fits j = ⊎_elim
         (λ (e : slice_index (slice_set u.cells k (encoded w)) j ≡ slice_index u.cells j). subst (λ n. Fits f (owner j) (decoded n)) (sym e) (h.found j))
         (λ (e : (j ≡ k) × (slice_index (slice_set u.cells k (encoded w)) j ≡ encoded w)). subst (λ (x : ℕ × ℕ). Fits f (owner x.0) (decoded x.1)) (λ i. (sym e.0 i, sym e.1 i)) (subst (Fits f (owner k)) (sym back) fits))
         (set_cases u.cells k j (encoded w))
 
-    change : MayChange Mine k w
-    change = subst (λ (v : Union). MayChange (record Mine { union = v }) k w) (sym same) (record {
-      roomy = roomy f (owner k) w ok.part ok.few fits;
+    change : MayStoreSteadily (as_control b) k (encoded w) → MayChange (as_control b) k w
+    change steadily = record {
+      roomy = roomy f (owner k) w ok.few fits;
       root = λ z. inl (ply_word f (owner k) w fits edge);
       form = λ j v g e. ply_form (decoded v) w (k % 16) (from_ply_edge j v g e) (ply_word f (owner k) w fits edge);
       whole = λ j v o g is. absurd (subst (Fits f (owner j)) is (h.copies j v g));
       edge = λ going. enter;
       end = no_end f (owner k) w (IsEndOf b.log.history b.log.version.settled b.log.version.applied) u.cells fits;
       drops = λ z a h' flow. walks_drop f (slice_set u.cells k (encoded w)) then_fits a h';
-      steady = λ begun. absurd (let z = still.before in let bad : ⊥ = omega arith in bad);
+      steady = steadily;
       rooted = record {
         links = λ c is. linked c (sym back ∙ is);
-        unlinks = λ c is. absurd (kept c is);
+        unlinks = λ c is. inl (unlinked c is);
       };
-    })
+    }
 
-    place : MayPlace Mine k w
-    place = subst (λ (v : Union). MayPlace (record Mine { union = v }) k w) (sym same) (record {
-      inside = (let all = still.all in omega arith);
+    place : Allows b → MayPlace (as_control b) k w
+    place allowed = record {
+      inside = omega (arith, all, inside);
       other = other;
-      target = λ y e. let t = (edge_is (encoded w) y e).1 in let up = greater f (owner k) w fits edge in let lt = below f (owner k) w ok.part fits edge in let all = still.all in let is = leads in
-          ((let small : y < b.objects = omega arith in small), λ l. let on = leads_up l.0 y (owner k) l.1 in let bad : ⊥ = omega arith in bad);
-      allowed = inr (still.before, still.home);
-    })
+      target = λ y e. let t = (edge_is (encoded w) y e).1 in let up = greater f ok (owner k) w fits edge in let lt = below f (owner k) w fits edge in let is = leads in
+          ((let small : y < b.objects = omega arith in small), λ l. let on = leads_up l.0 y (owner k) l.1 in let same : rank f (value_of w) ≡ rank f y = ap (rank f) (sym is ∙ t) in let bad : ⊥ = omega arith in bad);
+      allowed = allowed;
+    }
 
-    pub may_fill : MayStore b k w
-    may_fill = record {
-      place = place;
-      seen = λ reached. change;
+    pub may_fill : Allows b → MayStoreSteadily (as_control b) k (encoded w) → MayStore b k w
+    may_fill allowed steadily = record {
+      place = place allowed;
+      seen = λ reached. change steadily;
       aside = λ is. absurd (no_drop w edge is);
     }

@@ -1,0 +1,10 @@
+use Rattle.std.proofs.Common.{ap}
+use Rattle.fib_board.specs.Boards.{Board}
+use Rattle.fib_plane.proofs.Growing.{begin_growing, calm_left, calm_pass, hop_growing}
+use Rattle.fib_plane.proofs.tests.come_to_ply.Goals as goal
+
+pub begin-requires-clause-rests : goal.begin-requires-clause-rests
+begin-requires-clause-rests c = calm_pass c.args.plane.now.board c.requires.calm
+
+pub begin-requires-clause-left : goal.begin-requires-clause-left
+begin-requires-clause-left c = calm_left c.args.plane.now.board c.requires.calm
