@@ -16,7 +16,9 @@ with its capture, run with 1 to 6 workers; where a round's lines change the tabl
 the tables at the round's opening. The long files (a chain, a ring, a line of many paths) are written here too. All other files of
 the crate's data are kept, and their answers are made anew by the oracle.
 
-A line of the crate's `args` is the words of one run, joined by colons.
+A line of the crate's `args` is the words of one run, joined by colons. A run of the words `follow` and a file has entries follow the
+file's edits, and prints nothing where they are what the plain programs say after each; every generated table and short worked file
+is followed so, and further generated command files.
 """
 import pathlib
 import random
@@ -27,8 +29,11 @@ import tempfile
 
 PROFILES = {"recursive": 75, "need": 75, "small": 20, "hostile": 15, "batch": 15}
 ROUNDS = {"recursive": 6, "need": 4, "small": 4, "hostile": 4, "batch": 6}
+FOLLOWED = {"recursive": 40, "need": 40, "batch": 20}
 PACKETS = 24
 FIRST_SEED = 2001
+FIRST_FOLLOWED = 4001
+MOST_FOLLOWED = 100
 LINES = 24
 LOOKUPS = 12
 LINK = ["create interface eth0", "set interface state eth0 up", "set interface ip address eth0 10.0.0.1/24"]
@@ -117,6 +122,25 @@ def rounds_text(commands, capture):
     return "".join(line + "\n" for line in lines).encode()
 
 
+def followed(oracle, crate):
+    """The files that entries follow alone; they are written."""
+    names = []
+    for profile, count in FOLLOWED.items():
+        for seed in range(FIRST_FOLLOWED, FIRST_FOLLOWED + count):
+            with tempfile.TemporaryDirectory() as folder:
+                run(oracle, "gen", seed, "--profile", profile, "--lines", LINES, "-o", folder)
+                text = (pathlib.Path(folder) / "commands").read_bytes()
+            name = f"followed_{profile}_{seed}.fib"
+            (crate / "data" / name).write_bytes(text)
+            names.append(name)
+    return names
+
+
+def is_short(crate, words):
+    """Whether the words name one file of few lines: entries are compared pair by pair after each of them."""
+    return words.endswith(".fib") and ":" not in words and (crate / "data" / words).read_bytes().count(b"\n") < MOST_FOLLOWED
+
+
 def is_read(capture):
     from fibref.capture import CaptureRefused, read_capture
 
@@ -147,6 +171,8 @@ def rounds(oracle, crate):
 
 
 def expected(oracle, crate, words):
+    if words.startswith("follow:"):
+        return b""
     names = [word for word in words.split(":") if not word.startswith("--")]
     options = [word for word in words.split(":") if word.startswith("--objects")]
     if not names:
@@ -161,7 +187,7 @@ def main():
     oracle = sys.argv[1]
     sys.path.insert(0, str(pathlib.Path(oracle).resolve().parent))
     crate = pathlib.Path(sys.argv[2] if len(sys.argv) > 2 else "crates/fib_cases")
-    runs = [words for words in (crate / "args").read_text().split() if not re.match(r"table_|--workers=\d:rounds_", words)]
+    runs = [words for words in (crate / "args").read_text().split() if not re.match(r"table_|follow:|--workers=\d:rounds_", words)]
     for name, lines in worked().items():
         (crate / "data" / name).write_text("\n".join(lines) + "\n")
         runs += [] if name in runs else [name]
@@ -170,7 +196,9 @@ def main():
             name = f"table_{profile}_{seed}.fib"
             (crate / "data" / name).write_text(table(oracle, profile, seed), errors="surrogateescape")
             runs.append(name)
+    files = [words for words in runs if is_short(crate, words)]
     runs += rounds(oracle, crate)
+    runs += [f"follow:{name}" for name in files + followed(oracle, crate)]
     (crate / "args").write_text("\n".join(runs) + "\n")
     (crate / "stdout").write_bytes(b"".join(expected(oracle, crate, words) for words in runs))
     print(f"{len(runs)} runs")

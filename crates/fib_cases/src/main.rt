@@ -1,15 +1,31 @@
 //! Does one run after the other, each as `fib_tool` would; the words of a run are joined by colons.
 //!
-//! Its data are worked files and generated ones, and the text that it must print for them was made by a program that shares
-//! nothing with this repository (`tests/tables.py` writes the generated ones).
+//! Its data are worked files and generated ones, and the text that it must print for them was made by a program that
+//! shares nothing with this repository (`tests/tables.py` writes the generated ones).
+//!
+//! A run of the words `follow` and a file follows the file's edits with entries, and compares them with the plain
+//! programs after each; it prints nothing, and ends with 9 where they differ.
 #![tactic(auto)]
+
+mod compared;
+mod followed;
 
 use fib_outside::{FileShelf, FreeGate, StandardOut};
 use fib_run::fib_main;
+use followed::{Difference, follow_script};
 use std::alloc::{AllocError, Global};
-use std::env;
+use std::io::Print;
 use std::process::ExitCode;
-use std::rt::Env;
+use std::rt::{Env, Files};
+use std::sync::Wait;
+use std::thread::Threads;
+use std::{env, fs};
+
+/// The status where memory or a file is wanted.
+const MEMORY: u8 = 6;
+
+/// The status where entries that followed a script are others than the plain programs say.
+const DIFFERENT: u8 = 9;
 
 // The words after the program's name, or None where they cannot be had.
 fn runs_of<R: Env + Alloc<A = Global>>(rt: &R) -> Option<Vec<String>> {
@@ -30,17 +46,64 @@ fn words_of(alloc: Global, run: &str) -> Result<Vec<String>, AllocError> {
     Ok(words)
 }
 
+// Prints where the entries differ.
+fn tell<R: Print>(rt: &R, name: &str, found: Difference) -> u8 {
+    match println!(rt; "{name} line {}: {:?}", found.line, found.part) {
+        Ok(()) => DIFFERENT,
+        Err(_) => MEMORY,
+    }
+}
+
+// The status of a run that follows the edits of a file.
+fn follow<R: Files + Print + Alloc<A = Global>>(rt: &R, name: &str) -> u8 {
+    let Ok(bytes) = fs::read(rt, name) else {
+        return MEMORY;
+    };
+    match follow_script(rt.alloc(), bytes.as_slice()) {
+        Ok(None) => 0,
+        Ok(Some(found)) => tell(rt, name, found),
+        Err(_) => MEMORY,
+    }
+}
+
+// The status of a run as `fib_tool` does it.
+fn run<R: Files + Print + Threads + Wait + Sync + Alloc<A = Global>>(
+    rt: &R,
+    words: &[String],
+) -> u8 {
+    let mut shelf = FileShelf::new(rt);
+    let mut out = StandardOut::new(rt);
+    fib_main(rt, rt.alloc(), words, &mut shelf, &mut out, &FreeGate)
+}
+
+// The file whose edits a run follows, where it does.
+fn followed_file(words: &[String]) -> Option<&str> {
+    match words {
+        [first, name] if first.as_str() == "follow" => Some(name.as_str()),
+        _ => None,
+    }
+}
+
+// Does one run, and answers its status.
+fn status_of<R: Files + Print + Threads + Wait + Sync + Alloc<A = Global>>(
+    rt: &R,
+    words: &[String],
+) -> u8 {
+    match followed_file(words) {
+        Some(name) => follow(rt, name),
+        None => run(rt, words),
+    }
+}
+
 fn main(rt: HostRuntime) -> ExitCode {
     let Some(runs) = runs_of(&rt) else {
-        return ExitCode::from(6);
+        return ExitCode::from(MEMORY);
     };
     for run in &runs {
         let Ok(words) = words_of(rt.alloc(), run) else {
-            return ExitCode::from(6);
+            return ExitCode::from(MEMORY);
         };
-        let mut shelf = FileShelf::new(&rt);
-        let mut out = StandardOut::new(&rt);
-        let status = fib_main(&rt, rt.alloc(), &words, &mut shelf, &mut out, &FreeGate);
+        let status = status_of(&rt, &words);
         if status != 0 {
             return ExitCode::from(status);
         }

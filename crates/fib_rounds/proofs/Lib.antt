@@ -11,3 +11,4 @@ pub mod Shares
 pub mod Crews
 pub mod Closing
 pub mod Quiet
+pub mod Tallies

@@ -3,6 +3,7 @@ pub mod Packets
 pub mod Output
 pub mod Frozen
 pub mod Summaries
+pub mod Closed
 pub mod Counts
 pub mod Crew
 pub mod Rounds

@@ -41,5 +41,7 @@ fn three_rounds_on_two_workers(rt: HostRuntime) -> Result<(), Fail> {
     assert_eq!(rt; (counts.quiet, counts.drops, counts.receives), (1, 1, 0));
     laws::quiet_rounds_give_one_output();
     laws::frozen_workers_give_an_output();
+    laws::counts_are_of_quiet_flows();
+    laws::flows_add_up();
     Ok(())
 }
