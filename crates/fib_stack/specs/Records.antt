@@ -1,6 +1,7 @@
 -- Adjacency records that are taken, or given back, one user each.
-use Rattle.std.specs.Prelude.{◌≡◌, ℕ, ◌+◌, ◌<◌, ◌≤◌, Bool, List, [], ◌∷◌, ◌++◌, length, flat_map, option_to_list, Option, Some, None, Result, Ok, Err}
+use Rattle.std.specs.Prelude.{◌≡◌, ℕ, ◌+◌, ◌<◌, ◌≤◌, Bool, List, [], ◌∷◌, ◌++◌, length, flat_map, option_to_list, Contains, Option, Some, None, Result, Ok, Err}
 use Rattle.std.specs.List.{AllByRecursion, list_any}
+use Rattle.fib_reach.specs.Walks.{AllDiffer}
 use Rattle.fib_resolve.specs.declared.aims.Aim.{Aim}
 use Rattle.fib_resolve.specs.declared.aims.Aim.TheVariants as aims
 use Rattle.fib_resolve.specs.declared.aims.Marked.{Marked}
@@ -79,3 +80,16 @@ TookFor u v None old new (Ok x) = (v ≡ u) × (new ≡ old)
 TookFor u v None old new (Err e) = ⊥
 TookFor u v (Some m) old new (Ok x) = (o : ℕ) × TookRecord u v m o × (new ≡ old ++ (record { interface = m.interface; next_hop = m.next_hop; mac = m.mac; object = o }) ∷ [])
 TookFor u v (Some m) old new (Err e) = (v ≡ u) × (new ≡ old) × (e ≡ wants.Object → u.free ≡ 0)
+
+-- these records have no users, and stand in the list; each is named once
+pub record AreNew (u : View) (rs ms : List AdjacencyRecord) : Type 0 where
+  pub apart : AllDiffer ms
+  pub new : AllByRecursion (λ m. (u.users m ≡ 0) × Contains rs m) ms
+
+-- objects were taken for new records of the list alone, and as many others
+abbrev pub TookNew : View → View → List AdjacencyRecord → ℕ → Type 0
+TookNew u v rs others = (ms : List AdjacencyRecord) × AreNew u rs ms × (u.free ≤ v.free + length ms + others)
+
+-- fewer objects are free than some new records of the list need, and as many others
+abbrev pub LacksFor : View → List AdjacencyRecord → ℕ → Type 0
+LacksFor u rs others = (ms : List AdjacencyRecord) × AreNew u rs ms × (u.free < length ms + others)
