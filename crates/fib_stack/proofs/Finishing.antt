@@ -15,7 +15,7 @@ use Rattle.fib_steady.specs.Aims.{IsLasting}
 use Rattle.fib_joined.specs.Promise.{Promise, MayClear, MayLetGo}
 use Rattle.fib_joined.specs.View.{View, IsBalance, IsLetGo, IsPlane}
 use Rattle.fib_ply.specs.Rows.{held}
-use Rattle.fib_ply.specs.Tables.{Table, Stands, object_in}
+use Rattle.fib_ply.specs.Tables.{Came, Table, Stands, object_in}
 use Rattle.fib_queue.specs.Queues.{rank_in}
 use Rattle.fib_serving.specs.Matches.{FitsVersions, added, removed}
 use Rattle.fib_serving.specs.Stack.{is_some}
@@ -77,6 +77,9 @@ whole_is e h z =
     let c : e.bits % 4294967296 ≡ 0 = subst (λ (n : ℕ). e.bits % size_of n ≡ 0) z h.cleared in
     let b : e.bits ≡ 0 = bits_none e.bits h.fits c in
     λ k. record { bits = b k; len = z k }
+
+pub none_came : (look : Prefix → Option ℕ) (e : Prefix) → Came look e 0
+none_came look e = record { few = omega arith; bare = λ d lt le needs. absurd (omega (arith, lt, le)) }
 
 -- 0.0.0.0/0 is in every table, and among all entries
 pub some_length : (p : Promise) (t : Table) (v : View) (e : Prefix) → Stands p t v → IsPrefix e → object_in t e ≡ None → 1 ≤ e.len

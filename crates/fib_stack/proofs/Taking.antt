@@ -63,7 +63,7 @@ assoc : (a b c : List AdjacencyRecord) → a ++ (b ++ c) ≡ (a ++ b) ++ c
 assoc [] b c = refl
 assoc (x ∷ a) b c = ap (λ l. x ∷ l) (assoc a b c)
 
-records_take : (ms : List Marked) (i : ℕ) (d : Marked) → i < length ms → records_for (take (suc i) ms) ≡ records_for (take i ms) ++ option_to_list (record_for (get_or ms i d).aim)
+pub records_take : (ms : List Marked) (i : ℕ) (d : Marked) → i < length ms → records_for (take (suc i) ms) ≡ records_for (take i ms) ++ option_to_list (record_for (get_or ms i d).aim)
 records_take [] i d lt = absurd (omega arith)
 records_take (m ∷ ms) zero d lt = sym (append_none (option_to_list (record_for m.aim)))
 records_take (m ∷ ms) (suc i) d lt =

@@ -7,7 +7,7 @@ ghost use Rattle.fib_ledger.specs.Ledgers.{record_used, times, used_by};
 ghost use Rattle.fib_steady.specs.Names.{Names};
 ghost use Rattle.fib_joined.specs.Frames.{IsQuiet};
 ghost use Rattle.fib_joined.specs.Promise.{MayClear, Serves};
-ghost use Rattle.fib_stack.specs.Records.{AreObjects, GaveAll, SamePlane, TookAll, TookFor, record_for, records_for};
+ghost use Rattle.fib_stack.specs.Records.{AreObjects, GaveAll, LacksFor, SamePlane, TookAll, TookFor, TookNew, record_for, records_for};
 
 use fib_addr::{Addr, Mac};
 use fib_joined::Objects;
@@ -119,7 +119,8 @@ fn take_for<P: Objects>(on: &mut P, aim: Aim, uses: &mut Vec<Use>) -> Result<(),
 }
 
 /// Takes a user of each record at which a path ends, or of none: after a fault all is as it was, but for the count of stores. There must be
-/// room for them in the list, which must be empty. `Object` comes only where fewer objects are free than there are paths.
+/// room for them in the list, which must be empty. An object goes only to a record without users: `Object` comes only where fewer objects are free
+/// than such records need.
 pub fn take_all<P: Objects>(on: &mut P, marks: &[Marked], uses: &mut Vec<Use>) -> Result<(), Want>
     requires none { uses.old.items ≡ [] }
     requires room { length marks.now ≤ vec_capacity uses.old }
@@ -129,6 +130,8 @@ pub fn take_all<P: Objects>(on: &mut P, marks: &[Marked], uses: &mut Vec<Use>) -
     ensures records { OnOk result (map record_used uses.new.items ≡ records_for marks.now) }
     ensures err { OnErr result (SamePlane (P.view on.old) (P.view on.new)) }
     ensures short { IsErrOf result Want.Object → (P.view on.old).free < length marks.now }
+    ensures new { OnOk result (TookNew (P.view on.old) (P.view on.new) (records_for marks.now) 0) }
+    ensures lacks { IsErrOf result Want.Object → LacksFor (P.view on.old) (records_for marks.now) 1 }
     ensures quiet { (look : Prefix → Option ℕ) → IsQuiet look (P.view on.old) (P.view on.new) }
     ensures serves { (n : Names) → Serves (P.promise on.old) n (P.view on.old) → Serves (P.promise on.old) n (P.view on.new) }
     ensures promise { P.promise on.new ≡ P.promise on.old }

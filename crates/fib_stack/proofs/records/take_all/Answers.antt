@@ -1,11 +1,12 @@
-use Rattle.std.proofs.Common.{◌≡◌, ◌∙◌, ◌≤◌, List, refl, sym, subst, arith, rules}
+use Rattle.std.proofs.Common.{◌≡◌, ◌∙◌, ◌≤◌, List, take, refl, sym, subst, arith, rules}
 use Rattle.std.specs.Prelude.{Ok}
 use Rattle.fib_ledger.specs.declared.ledger.Use.{Use}
 use Rattle.fib_ledger.specs.Ledgers.{times}
-use Rattle.fib_stack.specs.Records.{AreObjects, GaveAll, TookAll, TookFor, record_for}
+use Rattle.fib_stack.specs.Records.{AreObjects, GaveAll, TookAll, TookFor, record_for, records_for}
 use Rattle.fib_stack.specs.declared.records.Want.TheVariants as wants
 use Rattle.fib_stack.proofs.Leaving.{quiet_none, quiet_then}
 use Rattle.fib_stack.proofs.Listing.{took_none, times_length, enough_users, same_after}
+use Rattle.fib_stack.proofs.Newly.{lacks_next, new_all, new_next, new_none}
 use Rattle.fib_stack.proofs.Taking.{failed_short, failed_took, took_quietly, took_serving, took_step, records_next, few_step}
 use Rattle.fib_stack.proofs.records.take_all.Goals as goal
 
@@ -13,6 +14,7 @@ pub loop-mark-init : goal.loop-mark-init
 loop-mark-init g c = record {
   took = subst (λ (us : List Use). TookAll (g.P.Objects.view c.args.on.now) (g.P.Objects.view c.args.on.now) us) (sym c.requires.none) (took_none (g.P.Objects.view c.args.on.now));
   records = search rules;
+  new = new_none (g.P.Objects.view c.args.on.now) (records_for (take 0 c.args.marks.now));
   few = search rules;
   capacity = refl;
   quiet = λ look. quiet_none look _;
@@ -55,9 +57,20 @@ loop-mark-preserved g c =
     record {
       took = took_step _ _ _ c.loop-mark.uses.items c.take_for.new.uses.items o c.in_default.field-0 i.took took;
       records = records_next _ _ c.loop-mark.uses.items c.take_for.new.uses.items c.args.marks.now c.loop-mark.mark-index c.mark-item.result c.in_default.field-0 c.loop-mark-test.true (sym c.mark-item.is) i.records took;
+      new = new_next _ _ _ c.loop-mark.uses.items c.take_for.new.uses.items c.args.marks.now c.loop-mark.mark-index c.mark-item.result c.in_default.field-0 c.loop-mark-test.true (sym c.mark-item.is) i.took i.records i.new took;
       few = omega (arith, i.few, few_step _ _ c.loop-mark.uses.items c.take_for.new.uses.items o c.in_default.field-0 took);
       capacity = c.take_for.ensures.capacity ∙ i.capacity;
       quiet = λ look. quiet_then look _ _ _ (i.quiet look) (took_quietly _ _ o c.loop-mark.uses.items c.take_for.new.uses.items c.take_for.result (g.met.P.Objects.sound c.loop-mark.on) (g.met.P.Objects.sound c.take_for.new.on) c.take_for.ensures.took look);
       serves = λ n h. took_serving (g.P.Objects.promise c.args.on.now) n _ _ o c.loop-mark.uses.items c.take_for.new.uses.items c.take_for.result c.take_for.ensures.took (i.serves n h);
       promise = c.take_for.ensures.promise ∙ i.promise;
     }
+
+pub returns-in-Err-clause-lacks : goal.returns-in-Err-clause-lacks
+returns-in-Err-clause-lacks g c = λ is.
+    let i = c.loop-mark.invariant in
+    let e : c.in-Err.want ≡ wants.Object = cc in
+    let none = failed_short (g.P.Objects.view c.loop-mark.on) (g.P.Objects.view c.take_for.new.on) (record_for c.mark-item.result.aim) c.loop-mark.uses.items c.take_for.new.uses.items c.in-Err.want c.take_for.result c.in-Err.is c.take_for.ensures.took e in
+    lacks_next (g.P.Objects.view c.args.on.now) (g.P.Objects.view c.loop-mark.on) c.args.marks.now c.loop-mark.mark-index i.new none
+
+pub returns-clause-new : goal.returns-clause-new
+returns-clause-new g c = new_all (g.P.Objects.view c.args.on.now) (g.P.Objects.view c.loop-mark.on) c.args.marks.now c.loop-mark.mark-index 0 c.loop-mark.invariant.new

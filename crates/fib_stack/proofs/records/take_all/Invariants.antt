@@ -5,13 +5,14 @@ use Rattle.fib_ledger.specs.Ledgers.{record_used}
 use Rattle.fib_steady.specs.Names.{Names}
 use Rattle.fib_joined.specs.Frames.{IsQuiet}
 use Rattle.fib_joined.specs.Promise.{Serves}
-use Rattle.fib_stack.specs.Records.{TookAll, records_for}
+use Rattle.fib_stack.specs.Records.{TookAll, TookNew, records_for}
 use Rattle.fib_stack.proofs.records.take_all.Given as goal
 
 abbrev pub invariant-loop-mark : goal.invariant-loop-mark
 invariant-loop-mark g l = record {
   took : TookAll (g.P.Objects.view l.initial.on) (g.P.Objects.view l.on) l.uses.items;
   records : map record_used l.uses.items ≡ records_for (take l.mark-index l.marks);
+  new : TookNew (g.P.Objects.view l.initial.on) (g.P.Objects.view l.on) (records_for (take l.mark-index l.marks)) 0;
   few : length l.uses.items ≤ l.mark-index;
   capacity : vec_capacity l.uses ≡ vec_capacity l.initial.uses;
   quiet : (look : Prefix → Option ℕ) → IsQuiet look (g.P.Objects.view l.initial.on) (g.P.Objects.view l.on);

@@ -1,4 +1,4 @@
-use Rattle.std.proofs.Common.{◌≡◌, ℕ, ◌+◌, ◌*◌, ◌-◌, ◌/◌, ◌^◌, ◌≤◌, None, sym, ap, subst, ◌∙◌}
+use Rattle.std.proofs.Common.{◌≡◌, ℕ, ◌+◌, ◌*◌, ◌-◌, ◌/◌, ◌^◌, ◌≤◌, None, sym, ap, subst, ◌∙◌, arith}
 use Rattle.fib_serving.specs.Matches.{FitsVersions, added}
 use Rattle.fib_joined.specs.Promise.{Promise, IsBegun}
 use Rattle.fib_ply.specs.Rows.{held}
