@@ -162,3 +162,7 @@ waits_of S rank p v s e j least = let q = some_rank (rank_in s.queue e) least.qu
 pub on_ok : {A B : Type 0} {P Q : Type 0} (r : Result A B) → (P → Q) → OnOk r P → OnOk r Q
 on_ok (Ok x) f h = f h
 on_ok (Err e) f h = tt
+
+pub both_ok : {A B : Type 0} {P Q R : Type 0} (r : Result A B) → (P → Q → R) → OnOk r P → OnOk r Q → OnOk r R
+both_ok (Ok x) f h k = f h k
+both_ok (Err e) f h k = tt

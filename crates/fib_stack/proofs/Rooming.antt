@@ -1,6 +1,6 @@
 -- Room for objects between two changes of the tables.
 use Rattle.std.proofs.Common.{◌≡◌, ◌≢◌, ℕ, zero, suc, ◌+◌, ◌*◌, ◌/◌, ◌<◌, ◌≤◌, Bool, true, false, true≢false, List, [], ◌∷◌, ◌++◌, length, map, refl, sym, ap, ◌∙◌, subst, arith}
-use Rattle.std.specs.Prelude.{Contains, Some}
+use Rattle.std.specs.Prelude.{Contains, Option, Some}
 use Rattle.std.specs.List.{AllByRecursion, range_with_len}
 use Rattle.std.proofs.lemmas.List.{length-append, length-map}
 use Rattle.std.proofs.lemmas.List.FromFn.{get_or-range_with_len, length-range_with_len}
@@ -15,6 +15,7 @@ use Rattle.fib_resolve.specs.Pairs.{all_pairs, base_pairs, entries, one, pairs, 
 use Rattle.fib_resolve.specs.Resolution.{hop_end}
 use Rattle.fib_resolve.specs.Sizes.{plies_of, size}
 use Rattle.fib_resolve.specs.declared.pairs.Pair.{Pair}
+use Rattle.fib_resolve.specs.declared.types.End.{End}
 use Rattle.fib_resolve.specs.declared.types.FibSource.TheVariants as sources
 use Rattle.fib_resolve.specs.declared.types.PathKind.TheVariants as kinds
 use Rattle.fib_resolve.specs.declared.types.Tables.{Tables}
@@ -29,7 +30,7 @@ use Rattle.fib_joined.specs.View.{View}
 use Rattle.fib_stack.specs.Joined.{Joined, Parts, state_in}
 use Rattle.fib_stack.specs.Room.{HasRoomLeft, IsMade, IsSeated, Makes}
 use Rattle.fib_stack.specs.States.{State, has_hop}
-use Rattle.fib_stack.specs.Steps.{Removed, Restacked, Retried}
+use Rattle.fib_stack.specs.Steps.{Removed, Restacked}
 use Rattle.fib_stack.proofs.Counted.{differ_append, differ_map, thing_in, things, things_long}
 use Rattle.fib_stack.proofs.Keeping.{prefix_discrete}
 use Rattle.fib_stack.proofs.Settling.{is_entry}
@@ -106,15 +107,15 @@ module _ (S : Tables) (rank : Prefix → ℕ) (e : Prefix) (s t : State) (ranked
         (λ ne. r.others_holding h.0 (hop_end S x.interface x.next_hop) ne ∙ h.2),
   )
 
--- a retry
-module _ (S : Tables) (s t : State) (r : Retried s t) where
-  seated_retried : (d : Prefix) → IsSeated S s d → IsSeated S t d
-  seated_retried d h = (h.0, ap (λ at. is_some (at.balance d)) r.objects ∙ h.1)
+-- nothing of the table or of what entries use is other
+module _ (S : Tables) (s t : State) (balances : t.objects.balance ≡ s.objects.balance) (holds : t.holds ≡ s.holds) where
+  seated_alike : (d : Prefix) → IsSeated S s d → IsSeated S t d
+  seated_alike d h = (h.0, ap (λ (f : Prefix → Option ℕ). is_some (f d)) balances ∙ h.1)
 
-  pub made_retried : (x : Thing) → IsMade S s x → IsMade S t x
-  made_retried (ply_of q) h = (h.0, seated_retried h.0 h.1, h.2)
-  made_retried (balance_of d) h = seated_retried d h
-  made_retried (adjacency_of x) h = (h.0, h.1, ap (λ f. f h.0 (hop_end S x.interface x.next_hop)) r.holds ∙ h.2)
+  pub made_alike : (x : Thing) → IsMade S s x → IsMade S t x
+  made_alike (ply_of q) h = (h.0, seated_alike h.0 h.1, h.2)
+  made_alike (balance_of d) h = seated_alike d h
+  made_alike (adjacency_of x) h = (h.0, h.1, ap (λ (f : Prefix → End → Bool). f h.0 (hop_end S x.interface x.next_hop)) holds ∙ h.2)
 
 -- numbers of a range
 pub range_within : (low high a n : ℕ) → low ≤ a → a + n ≤ high → AllByRecursion (λ k. (low ≤ k) × (k < high)) (range_with_len a n)

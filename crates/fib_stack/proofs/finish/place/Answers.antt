@@ -17,5 +17,5 @@ returns-then-is_none-clause-others g c = λ d ne. ap (λ (f : Prefix → Option 
 pub returns-then-is_none-clause-came : goal.returns-then-is_none-clause-came
 returns-then-is_none-clause-came g c = (c.add.new.self.plies - c.args.table.now.plies, c.add.ensures.came, omega (arith, c.add.ensures.free, c.add.ensures.plies))
 
-pub returns-clause-came : goal.returns-clause-came
-returns-clause-came g c = (0, none_came (object_in c.args.table.now) c.args.entry, omega arith)
+pub returns-else-is_none-clause-came : goal.returns-else-is_none-clause-came
+returns-else-is_none-clause-came g c = (0, none_came (object_in c.args.table.now) c.args.entry, omega arith)

@@ -1,7 +1,10 @@
 use Rattle.std.proofs.Common.{◌∙◌, inl, inr, sym}
 use Rattle.fib_changes.proofs.Ranking.{ranked}
 use Rattle.fib_entries.specs.Known.{rank_of}
-use Rattle.fib_stack.proofs.Finishing.{on_ok, some_length_left}
+use Rattle.fib_stack.proofs.Finishing.{both_ok, on_ok, some_length_left}
+use Rattle.fib_stack.specs.Joined.{state_in}
+use Rattle.fib_stack.specs.Turns.{parts_of}
+use Rattle.fib_stack.proofs.Rooming.{made_removed, room_left}
 use Rattle.fib_stack.proofs.turn.take.Goals as goal
 
 pub restack-requires : goal.restack-requires
@@ -37,3 +40,22 @@ returns-clause-joined g c = λ S st j least. c.drop_out.ensures.joined S (rank_o
 
 pub returns-clause-short : goal.returns-clause-short
 returns-clause-short g c = λ S st is. absurd (c.drop_out.ensures.short is)
+
+pub returns-then-is_entry-clause-finds : goal.returns-then-is_entry-clause-finds
+returns-then-is_entry-clause-finds g c = λ S st j least room is. c.restack.ensures.finds S st (record { joined = j; least = least; effective = sym (c.is_entry.ensures S st) ∙ c.if-is_entry.true }) room is
+
+pub returns-then-is_entry-clause-left : goal.returns-then-is_entry-clause-left
+returns-then-is_entry-clause-left g c = λ S st j least room. c.restack.ensures.left S st (record { joined = j; least = least; effective = sym (c.is_entry.ensures S st) ∙ c.if-is_entry.true }) room
+
+pub returns-clause-finds : goal.returns-clause-finds
+returns-clause-finds g c = λ S st j least room is. c.drop_out.ensures.short is
+
+pub returns-clause-left : goal.returns-clause-left
+returns-clause-left g c = λ S st j least room.
+    let rank = rank_of c.args.entries.now.rows in
+    let s = state_in (g.P.Objects.view c.args.on.now) (parts_of c.args.table.now c.args.stack.now c.args.queue.now) in
+    let t = state_in (g.P.Objects.view c.drop_out.new.on) (parts_of c.drop_out.new.table c.drop_out.new.stack c.drop_out.new.queue) in
+    let gone = sym (c.is_entry.ensures S st) ∙ c.if-is_entry.false in
+    both_ok c.drop_out.result
+    (λ r free. room_left S s t (g.P.Objects.view c.args.on.now).free (g.P.Objects.view c.drop_out.new.on).free free (made_removed S rank c.args.entry s t (ranked S rank st.falls) gone r) room)
+    (c.drop_out.ensures.turn S rank j) c.drop_out.ensures.free
