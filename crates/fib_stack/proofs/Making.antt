@@ -1,6 +1,6 @@
 -- A turn of an entry takes objects for what it makes alone.
-use Rattle.std.proofs.Common.{◌≡◌, ◌≢◌, ℕ, ◌+◌, ◌*◌, ◌-◌, ◌/◌, ◌^◌, ◌<◌, ◌≤◌, inl, inr, Bool, true, List, [], ◌∷◌, ◌++◌, length, map, refl, sym, ap, ◌∙◌, subst, arith}
-use Rattle.std.specs.Prelude.{Contains, Option, Some, None, flat_map}
+use Rattle.std.proofs.Common.{◌≡◌, ◌≢◌, ℕ, ◌+◌, ◌*◌, ◌-◌, ◌/◌, ◌<◌, ◌≤◌, true, List, [], ◌∷◌, ◌++◌, length, map, refl, sym, ap, ◌∙◌, subst, arith}
+use Rattle.std.specs.Prelude.{Contains, Option, Some, None}
 use Rattle.std.specs.List.{AllByRecursion, range_with_len}
 use Rattle.std.proofs.lemmas.List.{length-append, length-map}
 use Rattle.std.proofs.lemmas.List.Elements.{All-contains, All-from_recursion}
@@ -12,11 +12,10 @@ use Rattle.fib_reach.specs.Walks.{AllDiffer}
 use Rattle.fib_resolve.specs.Aims.{marked_list}
 use Rattle.fib_resolve.specs.Pairs.{entries}
 use Rattle.fib_resolve.specs.Resolution.{hop_end, mac_of}
-use Rattle.fib_resolve.specs.Sizes.{plies_of}
 use Rattle.fib_resolve.specs.declared.pairs.Adjacency.{Adjacency}
 use Rattle.fib_resolve.specs.declared.types.End.TheVariants as answers
 use Rattle.fib_resolve.specs.declared.types.Tables.{Tables}
-use Rattle.fib_changes.specs.Ranks.{IsRanked, has_entry}
+use Rattle.fib_changes.specs.Ranks.{has_entry}
 use Rattle.fib_changes.proofs.Edits.{any_in}
 use Rattle.fib_changes.proofs.SamePairs.{map_from}
 use Rattle.fib_core.specs.StandsFor.{Thing, ply_of, balance_of, adjacency_of, IsCounted}
@@ -156,7 +155,7 @@ module _ (S : Tables) (rank : Prefix → ℕ) (p : Promise) (v : View) (e : Pref
         let on_way = map_from (λ i. masked d.bits (4 * i)) (range_with_len 0 ((d.len + 3) / 4)) (masked e.bits (4 * k)) made.2 in
         let i = on_way.0 in
         let low : (0 ≤ i) × (i < (d.len + 3) / 4) = All-contains (λ n. (0 ≤ n) × (n < (d.len + 3) / 4)) (range_with_len 0 ((d.len + 3) / 4)) i
-            (All-from_recursion (λ n. (0 ≤ n) × (n < (d.len + 3) / 4)) (range_with_len 0 ((d.len + 3) / 4)) (range_within 0 ((d.len + 3) / 4) 0 ((d.len + 3) / 4) (omega arith) (omega arith))) on_way.1 in
+        (All-from_recursion (λ n. (0 ≤ n) × (n < (d.len + 3) / 4)) (range_with_len 0 ((d.len + 3) / 4)) (range_within 0 ((d.len + 3) / 4) 0 ((d.len + 3) / 4) (omega arith) (omega arith))) on_way.1 in
         let lens : 4 * i ≡ 4 * k = ap (λ (q : Prefix). q.len) on_way.2 in
         let depth : i ≡ k = omega (arith, lens) in
         let bits : d.bits / size_of (4 * i) * size_of (4 * i) ≡ e.bits / size_of (4 * k) * size_of (4 * k) = ap (λ (q : Prefix). q.bits) on_way.2 in
@@ -212,11 +211,11 @@ module _ (S : Tables) (rank : Prefix → ℕ) (p : Promise) (v : View) (e : Pref
             new = each-append (λ y. IsMade S (state_in v s) y → ⊥) (records took.0) (balance_if b e ++ plies_from e from count) (records_new took.0 took.1) (each-append (λ y. IsMade S (state_in v s) y → ⊥) (balance_if b e) (plies_from e from count) (balance_new b refl) plies_new);
             there = each-append (IsMade S (state_in x t)) (records took.0) (balance_if b e ++ plies_from e from count) records_made (each-append (IsMade S (state_in x t)) (balance_if b e) (plies_from e from count) (balance_made b) (plies_made S (state_in x t) e from count seat from_is));
             paid = (
-              let l = length-append (records took.0) (balance_if b e ++ plies_from e from count) in
-              let k = length-append (balance_if b e) (plies_from e from count) in
-              let r = length-map took.0 adjacency_for in
-              let o = balance_long b e in
-              let n = plies_long e from count in
-              omega (arith, l, k, r, o, n, took.2, free)
-            );
+                let l = length-append (records took.0) (balance_if b e ++ plies_from e from count) in
+                let k = length-append (balance_if b e) (plies_from e from count) in
+                let r = length-map took.0 adjacency_for in
+                let o = balance_long b e in
+                let n = plies_long e from count in
+                omega (arith, l, k, r, o, n, took.2, free)
+                );
           }

@@ -72,7 +72,7 @@ impl Stack {
         ensures retired { (P.view on.new).retired ≡ (P.view on.old).retired }
         ensures quiet { (look : PrefixValue → Option ℕ) → IsQuiet look (P.view on.old) (P.view on.new) }
         ensures free { (P.view on.old).free ≤ (P.view on.new).free }
-        ensures left_room { (S : TablesValue) → HasRoomLeft S (P.view on.old).free (state_in (P.view on.old) (parts_of table.now self.old queue.now)) → HasRoomLeft S (P.view on.new).free (state_in (P.view on.new) (parts_of table.now self.new queue.now)) }
+        ensures room { (S : TablesValue) → HasRoomLeft S (P.view on.old).free (state_in (P.view on.old) (parts_of table.now self.old queue.now)) → HasRoomLeft S (P.view on.new).free (state_in (P.view on.new) (parts_of table.now self.new queue.now)) }
         ensures stored { (P.view on.old).stored ≤ (P.view on.new).stored }
         ensures promise { P.promise on.new ≡ P.promise on.old }
     {

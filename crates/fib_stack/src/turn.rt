@@ -137,7 +137,8 @@ impl Stack {
     /// isn't there; a prefix that left the entries leaves the table, and its balance is let go.
     ///
     /// After a fault the prefix is still queued and all is as before, but for the count of stores. `Object` comes only where fewer objects are
-    /// free than the prefix has paths and eight: its balance, and a ply for each group of four bits below the root.
+    /// free than the prefix has paths and eight: its balance, and a ply for each group of four bits below the root. Where room was left since the
+    /// tables changed it never comes, and the turn leaves room for the next ones.
     pub fn turn<P: Objects>(
         &mut self,
         on: &mut P,

@@ -13,7 +13,7 @@ use Rattle.fib_ledger.proofs.Books.{total_few}
 use Rattle.fib_joined.specs.Promise.{Promise, MayClear, Serves}
 use Rattle.fib_joined.specs.View.{View}
 use Rattle.fib_stack.specs.Joined.{Parts, balance_in, table_of, was_by}
-use Rattle.fib_stack.specs.Records.{GaveAll, LacksFor, TookNew, records_for}
+use Rattle.fib_stack.specs.Records.{GaveAll, TookNew, records_for}
 use Rattle.fib_stack.specs.States.{forwards_by}
 use Rattle.fib_stack.specs.declared.records.Want.TheVariants as wants
 use Rattle.fib_stack.specs.Turns.{GotObject, IsTurnOf, IsUnderway, balances_for, parts_of}

@@ -63,8 +63,8 @@ returns-clause-calm g c = λ S rank ranked j calm passed.
     ∙ calm_none S rank _ (g.P.Objects.view c.loop-place.on) s ranked (i.joined S rank j) (g.met.P.Objects.sound c.loop-place.on) c.len.ensures.apart c.len.ensures.slots calm (i.retired ∙ passed)
     (why_all (g.P.Objects.view c.loop-place.on) s c.loop-place.place (omega (arith, c.loop-place-test.false, c.len.ensures.count)) i.why)
 
-pub returns-clause-left_room : goal.returns-clause-left_room
-returns-clause-left_room g c = λ S room.
+pub returns-clause-room : goal.returns-clause-room
+returns-clause-room g c = λ S room.
     let i = c.loop-place.invariant in
     let s = state_in (g.P.Objects.view c.args.on.now) (parts_of c.args.table.now c.args.self.now c.args.queue.now) in
     let t = state_in (g.P.Objects.view c.loop-place.on) (parts_of c.args.table.now c.loop-place.self c.args.queue.now) in
