@@ -2,8 +2,7 @@
 use Rattle.std.proofs.Common.{◌≡◌, ◌≢◌, ℕ, zero, suc, ◌+◌, ◌-◌, ◌≤◌, Bool, true, false, true≢false, List, [], ◌∷◌, ◌++◌, length, map, Option, Some, None, refl, sym, ap, ◌∙◌, subst, arith}
 use Rattle.std.specs.Prelude.{Contains}
 use Rattle.std.specs.List.{AllByRecursion, IsDistinct}
-use Rattle.std.proofs.lemmas.List.{length-map, length-append}
-use Rattle.std.proofs.lemmas.List.Elements.{Contains-append_left, Contains-append_right}
+use Rattle.std.proofs.lemmas.List.{length-map}
 use Rattle.fib_list.proofs.Booleans.{count_by-cons}
 use Rattle.fib_list.proofs.Lists.{each-append, each-map, each-weaker}
 use Rattle.fib_addr.specs.Prefixes.{Prefix, same_prefix}
@@ -22,6 +21,7 @@ use Rattle.fib_config.proofs.Within.{same_adjacency-Decides}
 use Rattle.fib_core.specs.StandsFor.{Thing, ply_of, balance_of, adjacency_of, IsCounted}
 use Rattle.fib_pool.specs.declared.object.Object.{Object}
 use Rattle.fib_pool.specs.Objects.{at, free_in, is_free}
+use Rattle.fib_stack.proofs.Counted.{differ_append, differ_map, thing_in, things, things_long}
 
 -- lists whose elements differ
 pub differ_distinct : {A : Type 0} (eq : A → A → Bool) → ((x y : A) → x ≡ y → eq x y ≡ true) → (xs : List A) → IsDistinct eq xs → AllDiffer xs

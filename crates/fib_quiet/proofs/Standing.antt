@@ -1,33 +1,17 @@
 -- At rest the cells stand for the tables.
-use Rattle.std.proofs.Common.{◌≡◌, ℕ, ◌+◌, ◌*◌, ◌<◌, inl, inr, ⊎_elim, Bool, true, false, true≢false, ◌||◌, cond, List, [], ◌∷◌, map, refl, sym, ap, ap₂, ◌∙◌, subst, arith}
-use Rattle.std.specs.Prelude.{Option, Some, Contains, ◌==◌, flat_map, if◌then◌else◌}
+use Rattle.std.proofs.Common.{◌≡◌, ℕ, ◌+◌, ◌*◌, ◌<◌, inl, inr, ⊎_elim, Bool, true, false, true≢false, ◌||◌, cond, List, [], ◌∷◌, refl, sym, ap, ◌∙◌, subst, arith}
+use Rattle.std.specs.Prelude.{Option, Some, Contains}
 use native.Mathlib.Decide.{ℕ_discrete}
 use mathlib.Core.Logic.{dite}
 use Rattle.fib_list.proofs.Booleans.{or_right}
-use Rattle.fib_list.proofs.Lists.{either, Contains-flat_map}
 use Rattle.fib_addr.specs.Longest.{everything}
 use Rattle.fib_addr.specs.Prefixes.{IsPrefix, Prefix}
 use Rattle.fib_addr.proofs.PrefixLaws.{same_fields}
-use Rattle.fib_reach.proofs.Through.{decides_equiv}
-use Rattle.fib_resolve.specs.Aims.{kind_aim, marked, marked_list}
-use Rattle.fib_resolve.specs.Pairs.{chosen, entries}
-use Rattle.fib_resolve.specs.Resolution.{hop_end, mac_of}
-use Rattle.fib_resolve.specs.Sizes.{adjacencies, adjacencies_of, kind_adjacency, same_adjacency}
-use Rattle.fib_resolve.specs.declared.aims.Aim.TheVariants as aims
-use Rattle.fib_resolve.specs.declared.aims.Marked.{Marked}
+use Rattle.fib_resolve.specs.Aims.{marked_list}
+use Rattle.fib_resolve.specs.Pairs.{entries}
 use Rattle.fib_resolve.specs.declared.pairs.Adjacency.{Adjacency}
 use Rattle.fib_resolve.specs.declared.types.End.TheVariants as answers
-use Rattle.fib_resolve.specs.declared.types.Path.{Path}
-use Rattle.fib_resolve.specs.declared.types.PathKind.{PathKind}
-use Rattle.fib_resolve.specs.declared.types.PathKind.TheVariants as kinds
 use Rattle.fib_resolve.specs.declared.types.Tables.{Tables}
-use Rattle.fib_resolve.proofs.Covering.{unique_in}
-use Rattle.fib_changes.specs.Ranks.{has_entry}
-use Rattle.fib_changes.proofs.CauseLaws.{any_from}
-use Rattle.fib_changes.proofs.SamePairs.{map_from}
-use Rattle.fib_config.proofs.Within.{same_adjacency-Decides}
-use Rattle.std.proofs.lemmas.Map.Made.{is_member-Decides}
-use Rattle.fib_addr.proofs.PrefixLaws.{same_prefix-Decides}
 use Rattle.fib_core.specs.StandsFor.{Thing, ply_of, balance_of, adjacency_of, IsCounted, thing_word}
 use Rattle.fib_pool.specs.declared.object.AdjacencyRecord.{AdjacencyRecord}
 use Rattle.fib_plane.specs.Sound.{record_word}
@@ -39,7 +23,8 @@ use Rattle.fib_joined.specs.View.{IsBalance, IsLive, View}
 use Rattle.fib_ply.proofs.Laws.{held_prefix}
 use Rattle.fib_stack.specs.Joined.{Parts, balance_in, holds_by, in_change, table_of}
 use Rattle.fib_stack.specs.Records.{end_used, holds_in}
-use Rattle.fib_stack.specs.States.{ends_there, has_hop}
+use Rattle.fib_stack.specs.States.{has_hop}
+use Rattle.fib_stack.proofs.Counted.{counted, effective, listed}
 use Rattle.fib_stack.proofs.Listing.{record_is}
 use Rattle.fib_stands.proofs.Nibbles.{ply_root}
 use Rattle.fib_quiet.specs.Rest.{IsAtRest}
