@@ -1,6 +1,6 @@
 -- What a turn leaves is what stood before it.
 use Rattle.std.proofs.Common.{◌≡◌, ℕ, ◌%◌, ◌<◌, ◌≤◌, inl, ⊎_elim, Bool, true, false, true≢false, not, ◌&&◌, List, refl, sym, ap, ◌∙◌, subst, arith}
-use Rattle.std.specs.Prelude.{Contains, Err, Ok, OnOk, Option, Result, Some, None, ◌⊎◌, if◌then◌else◌}
+use Rattle.std.specs.Prelude.{Contains, Err, Ok, OnErr, OnOk, Option, Result, Some, None, ◌⊎◌, if◌then◌else◌}
 use Rattle.std.proofs.lemmas.Map.Made.{is_member-Decides}
 use native.Mathlib.Decide.{ℕ_discrete}
 use mathlib.Core.Logic.{dite}
@@ -166,3 +166,11 @@ on_ok (Err e) f h = tt
 pub both_ok : {A B : Type 0} {P Q R : Type 0} (r : Result A B) → (P → Q → R) → OnOk r P → OnOk r Q → OnOk r R
 both_ok (Ok x) f h k = f h k
 both_ok (Err e) f h k = tt
+
+pub both_err : {A B : Type 0} {P Q R : Type 0} (r : Result A B) → (P → Q → R) → OnErr r P → OnErr r Q → OnErr r R
+both_err (Ok x) f h k = tt
+both_err (Err e) f h k = f h k
+
+pub either_way : {A B : Type 0} {P Q R : Type 0} (r : Result A B) → (P → R) → (Q → R) → OnOk r P → OnErr r Q → R
+either_way (Ok x) f g h k = f h
+either_way (Err e) f g h k = g k

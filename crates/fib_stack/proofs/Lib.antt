@@ -25,6 +25,7 @@ pub mod Beginning
 pub mod Turning
 pub mod Retrying
 pub mod Newly
+pub mod Freeing
 pub mod Counted
 pub mod Rooming
 pub mod Making

@@ -23,6 +23,9 @@ pub failed_same : (u v : View) (o : Option AdjacencyRecord) (us vs : List Use) (
 failed_same u v None us vs e h = absurd h
 failed_same u v (Some m) us vs e h = (h.0, h.1)
 
+pub failed_kept : (u v : View) (o : Option AdjacencyRecord) (us vs : List Use) (e : Want) (r : Result Unit Want) → r ≡ Err e → TookFor u v o us vs r → (v ≡ u) × (vs ≡ us)
+failed_kept u v o us vs e r is took = failed_same u v o us vs e (subst (λ (q : Result Unit Want). TookFor u v o us vs q) is took)
+
 -- want of an object says that none is free
 pub failed_short : (u v : View) (o : Option AdjacencyRecord) (us vs : List Use) (e : Want) (r : Result Unit Want) → r ≡ Err e → TookFor u v o us vs r → e ≡ wants.Object → u.free ≡ 0
 failed_short u v o us vs e r is took = by_record o (subst (λ (q : Result Unit Want). TookFor u v o us vs q) is took)

@@ -11,7 +11,7 @@ use Rattle.fib_pool.specs.declared.object.AdjacencyRecord.{AdjacencyRecord}
 use Rattle.fib_ledger.specs.declared.ledger.Use.{Use}
 use Rattle.fib_ledger.specs.Ledgers.{record_used, times}
 use Rattle.fib_serving.specs.Kept.{same_end}
-use Rattle.fib_joined.specs.View.{View, IsBalance, TookRecord}
+use Rattle.fib_joined.specs.View.{View, HasIn, IsBalance, TookRecord}
 use Rattle.fib_stack.specs.declared.records.Want.{Want}
 use Rattle.fib_stack.specs.declared.records.Want.TheVariants as wants
 
@@ -71,6 +71,7 @@ pub record SamePlane (u v : View) : Type 0 where
   pub users : (m : AdjacencyRecord) → v.users m ≡ u.users m
   pub record_of : (m : AdjacencyRecord) → v.record_of m ≡ u.record_of m
   pub balances : SameBalances u v
+  pub free : u.free ≤ v.free
   pub stored : u.stored ≤ v.stored
   pub spare : u.spare ≤ v.spare
 
@@ -93,3 +94,13 @@ TookNew u v rs others = (ms : List AdjacencyRecord) × AreNew u rs ms × (u.free
 -- fewer objects are free than some new records of the list need, and as many others
 abbrev pub LacksFor : View → List AdjacencyRecord → ℕ → Type 0
 LacksFor u rs others = (ms : List AdjacencyRecord) × AreNew u rs ms × (u.free < length ms + others)
+
+-- no edge leads to the record's object
+abbrev pub IsAlone : View → AdjacencyRecord → Type 0
+IsAlone u m = (x : ℕ) → u.record_of m ≡ Some x → HasIn u x → ⊥
+
+-- an object was freed for each of these records that lost all its users
+abbrev pub Freed : View → View → List Use → List AdjacencyRecord → Type 0
+Freed u v us ms =
+    (fs : List AdjacencyRecord) × (u.free + length fs ≤ v.free)
+    × ((m : AdjacencyRecord) → Contains ms m → u.users m ≡ times m us → 0 < times m us → Contains fs m)

@@ -68,7 +68,7 @@ fn restack<P: Objects>(
     ensures short { (S : TablesValue) → StandsFor entries.now S → IsErrOf result Want.Object → (P.view on.old).free < 8 + length (marked_list S entry) }
     ensures quiet { OnErr result ((look : PrefixValue → Option ℕ) → IsQuiet look (P.view on.old) (P.view on.new)) }
     ensures finds { (S : TablesValue) → StandsFor entries.now S → IsTurnOf S (rank_of entries.now.rows) (P.promise on.old) (P.view on.old) (parts_of table.old stack.old queue.old) entry → HasRoomLeft S (P.view on.old).free (state_in (P.view on.old) (parts_of table.old stack.old queue.old)) → IsErrOf result Want.Object → ⊥ }
-    ensures left { (S : TablesValue) → StandsFor entries.now S → IsTurnOf S (rank_of entries.now.rows) (P.promise on.old) (P.view on.old) (parts_of table.old stack.old queue.old) entry → HasRoomLeft S (P.view on.old).free (state_in (P.view on.old) (parts_of table.old stack.old queue.old)) → OnOk result (HasRoomLeft S (P.view on.new).free (state_in (P.view on.new) (parts_of table.new stack.new queue.new))) }
+    ensures left { (S : TablesValue) → StandsFor entries.now S → IsTurnOf S (rank_of entries.now.rows) (P.promise on.old) (P.view on.old) (parts_of table.old stack.old queue.old) entry → HasRoomLeft S (P.view on.old).free (state_in (P.view on.old) (parts_of table.old stack.old queue.old)) → HasRoomLeft S (P.view on.new).free (state_in (P.view on.new) (parts_of table.new stack.new queue.new)) }
     ensures promise { P.promise on.new ≡ P.promise on.old }
 {
     let plan = begin(on, stack, entries, table, queue, entry)?;
@@ -122,7 +122,7 @@ fn take<P: Objects>(
     ensures short { (S : TablesValue) → StandsFor entries.now S → IsErrOf result Want.Object → (P.view on.old).free < 8 + length (marked_list S entry) }
     ensures quiet { OnErr result ((look : PrefixValue → Option ℕ) → IsQuiet look (P.view on.old) (P.view on.new)) }
     ensures finds { (S : TablesValue) → StandsFor entries.now S → Joined S (rank_of entries.now.rows) (P.promise on.old) (P.view on.old) (parts_of table.old stack.old queue.old) → IsLeast (rank_of entries.now.rows) (state_in (P.view on.old) (parts_of table.old stack.old queue.old)) entry → HasRoomLeft S (P.view on.old).free (state_in (P.view on.old) (parts_of table.old stack.old queue.old)) → IsErrOf result Want.Object → ⊥ }
-    ensures left { (S : TablesValue) → StandsFor entries.now S → Joined S (rank_of entries.now.rows) (P.promise on.old) (P.view on.old) (parts_of table.old stack.old queue.old) → IsLeast (rank_of entries.now.rows) (state_in (P.view on.old) (parts_of table.old stack.old queue.old)) entry → HasRoomLeft S (P.view on.old).free (state_in (P.view on.old) (parts_of table.old stack.old queue.old)) → OnOk result (HasRoomLeft S (P.view on.new).free (state_in (P.view on.new) (parts_of table.new stack.new queue.new))) }
+    ensures left { (S : TablesValue) → StandsFor entries.now S → Joined S (rank_of entries.now.rows) (P.promise on.old) (P.view on.old) (parts_of table.old stack.old queue.old) → IsLeast (rank_of entries.now.rows) (state_in (P.view on.old) (parts_of table.old stack.old queue.old)) entry → HasRoomLeft S (P.view on.old).free (state_in (P.view on.old) (parts_of table.old stack.old queue.old)) → HasRoomLeft S (P.view on.new).free (state_in (P.view on.new) (parts_of table.new stack.new queue.new)) }
     ensures promise { P.promise on.new ≡ P.promise on.old }
 {
     let _length = entry.len();
@@ -158,7 +158,7 @@ impl Stack {
         ensures short { IsErrOf result Want.Object → (e : PrefixValue) × IsLeast (rank_of entries.now.rows) (state_in (P.view on.old) (parts_of table.old self.old queue.old)) e × ((P.view on.old).free < 8 + length (marked_list tables.now e)) }
         ensures quiet { OnErr result ((look : PrefixValue → Option ℕ) → IsQuiet look (P.view on.old) (P.view on.new)) }
         ensures finds { HasRoomLeft tables.now (P.view on.old).free (state_in (P.view on.old) (parts_of table.old self.old queue.old)) → IsErrOf result Want.Object → ⊥ }
-        ensures left { HasRoomLeft tables.now (P.view on.old).free (state_in (P.view on.old) (parts_of table.old self.old queue.old)) → OnOk result (HasRoomLeft tables.now (P.view on.new).free (state_in (P.view on.new) (parts_of table.new self.new queue.new))) }
+        ensures left { HasRoomLeft tables.now (P.view on.old).free (state_in (P.view on.old) (parts_of table.old self.old queue.old)) → HasRoomLeft tables.now (P.view on.new).free (state_in (P.view on.new) (parts_of table.new self.new queue.new)) }
         ensures promise { P.promise on.new ≡ P.promise on.old }
     {
         let before = on.stored();

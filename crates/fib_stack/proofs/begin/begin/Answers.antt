@@ -1,5 +1,7 @@
 use Rattle.std.proofs.Common.{◌≡◌, ◌∙◌, ◌&&◌, ℕ, List, length, map, ap, inl, sym, subst, arith}
 use Rattle.std.specs.Prelude.{Option, filter}
+use Rattle.std.specs.List.{AllByRecursion}
+use Rattle.fib_list.proofs.Lists.{each-weaker}
 use Rattle.fib_addr.specs.Prefixes.{Prefix}
 use Rattle.fib_resolve.specs.Aims.{marked_list}
 use Rattle.fib_resolve.specs.Touched.{differ}
@@ -13,7 +15,7 @@ use Rattle.fib_ledger.proofs.Books.{total_few}
 use Rattle.fib_joined.specs.Promise.{Promise, MayClear, Serves}
 use Rattle.fib_joined.specs.View.{View}
 use Rattle.fib_stack.specs.Joined.{Parts, balance_in, table_of, was_by}
-use Rattle.fib_stack.specs.Records.{GaveAll, TookNew, records_for}
+use Rattle.fib_stack.specs.Records.{Freed, GaveAll, IsAlone, TookNew, records_for}
 use Rattle.fib_stack.specs.States.{forwards_by}
 use Rattle.fib_stack.specs.declared.records.Want.TheVariants as wants
 use Rattle.fib_stack.specs.Turns.{GotObject, IsTurnOf, IsUnderway, balances_for, parts_of}
@@ -24,6 +26,7 @@ use Rattle.fib_stack.proofs.Finishing.{waits_of}
 use Rattle.fib_stack.proofs.Joining.{table_names}
 use Rattle.fib_stack.proofs.Leaving.{quiet_then}
 use Rattle.fib_stack.proofs.Listing.{same_after}
+use Rattle.fib_stack.proofs.Freeing.{given_back}
 use Rattle.fib_stack.proofs.Newly.{lacks_roomy, lacks_then, new_then}
 use Rattle.fib_stack.proofs.Readying.{handed_on, none_same, none_short, room_quiet, room_same, room_serves, same_then}
 use Rattle.fib_stack.proofs.Taking.{uses_few}
@@ -71,7 +74,12 @@ returns-in_default-object_for-clause-err g c =
     let same : g.P.Objects.view c.object_for.new.on ≡ v2 = none_same v2 (g.P.Objects.view c.object_for.new.on) c.object_for.result c.object_for.ensures.none c.in_default-object_for.is in
     same_then _ v1 v5 (room_same _ v1 c.make_room.ensures.same)
     (same_after v1 v2 v5 c.take_all.new.uses.items (g.met.P.Objects.sound c.make_room.new.on) (g.met.P.Objects.sound c.give_all.new.on) c.in_ok-take_all.ensures.ok
-    (subst (λ (w : View). GaveAll w v5 c.take_all.new.uses.items) same (subst (λ (us : List Use). GaveAll (g.P.Objects.view c.object_for.new.on) v5 us) c.as_slice.ensures.value c.give_all.ensures.gave)))
+    (subst (λ (w : View). GaveAll w v5 c.take_all.new.uses.items) same (subst (λ (us : List Use). GaveAll (g.P.Objects.view c.object_for.new.on) v5 us) c.as_slice.ensures.value c.give_all.ensures.gave))
+    (let new = c.in_ok-take_all.ensures.new in
+    given_back v1 v2 v5 c.take_all.new.uses.items (records_for c.marked-marks.result.now) new.0 c.in_ok-take_all.ensures.ok c.in_ok-take_all.ensures.records new.1 (omega (arith, new.2))
+    (subst (λ (w : View). Freed w v5 c.take_all.new.uses.items new.0) same
+    (subst (λ (us : List Use). Freed (g.P.Objects.view c.object_for.new.on) v5 us new.0) c.as_slice.ensures.value
+    (c.give_all.ensures.freed new.0 (subst (λ (w : View). AllByRecursion (IsAlone w) new.0) (sym same) (each-weaker _ (IsAlone v2) (λ m q. c.in_ok-take_all.ensures.alone m q.0) new.0 new.1.new)))))))
 
 pub returns-in_default-object_for-clause-quiet : goal.returns-in_default-object_for-clause-quiet
 returns-in_default-object_for-clause-quiet g c = λ look.

@@ -1,16 +1,17 @@
-use Rattle.std.proofs.Common.{sym, subst, arith}
+use Rattle.std.proofs.Common.{refl, sym, subst, arith}
 use Rattle.fib_addr.specs.Prefixes.{Prefix}
 use Rattle.fib_entries.specs.Known.{rank_of}
 use Rattle.fib_joined.specs.Promise.{Promise}
 use Rattle.fib_ledger.proofs.Books.{times_within}
 use Rattle.fib_stack.specs.Joined.{Joined, Parts, balance_in, state_in}
 use Rattle.fib_stack.specs.declared.records.Want.TheVariants as wants
+use Rattle.fib_stack.specs.Room.{HasRoomLeft}
 use Rattle.fib_stack.specs.Turns.{IsRestacked, IsUnderway, parts_of}
 use Rattle.fib_ply.specs.Tables.{Came}
 use Rattle.fib_stack.proofs.Finishing.{waits_of}
 use Rattle.fib_stack.proofs.Joining.{begun_of}
 use Rattle.fib_stack.proofs.Making.{makes, never_lacks}
-use Rattle.fib_stack.proofs.Rooming.{left_after, made_restacked}
+use Rattle.fib_stack.proofs.Rooming.{left_after, made_alike, made_restacked, room_left}
 use Rattle.fib_stack.proofs.Moving.{moved_joined, same_moved}
 use Rattle.fib_stack.proofs.Readying.{handed_on}
 use Rattle.fib_stack.proofs.turn.restack.Goals as goal
@@ -84,3 +85,11 @@ returns-clause-left g c = λ S st t room.
     left_after S (state_in v0 s) (state_in v5 now) v0.free v5.free room
     (makes S rank p v0 c.args.entry s (begun_of p (waits_of S rank p v0 s c.args.entry t.joined t.least)) t.joined t.effective (λ d m. times_within c.args.stack.now.ledger.rows d m) count came v2 v5 now _ turn (c.in_ok-plan.ensures.taken S st) c.finish.ensures.came.2)
     (made_restacked S c.args.entry _ (state_in v0 s) (state_in v5 now) turn)
+
+pub returns-in_err-plan-clause-left : goal.returns-in_err-plan-clause-left
+returns-in_err-plan-clause-left g c = λ S st t room.
+    let u = g.P.Objects.view c.args.on.now in
+    let v = g.P.Objects.view c.begin.new.on in
+    let s = parts_of c.args.table.now c.args.stack.now c.args.queue.now in
+    subst (λ (q : Parts). HasRoomLeft S v.free (state_in v q)) (sym c.begin.ensures.parts)
+    (room_left S (state_in u s) (state_in v s) u.free v.free c.in_err-plan.ensures.err.free (made_alike S (state_in u s) (state_in v s) refl refl) room)
