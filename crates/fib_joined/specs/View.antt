@@ -196,6 +196,8 @@ pub record TookRecord (u v : View) (m : AdjacencyRecord) (x : ℕ) : Type 0 wher
   pub held : (y : ℕ) → v.is_held y ≡ u.is_held y
   pub free : u.free ≤ v.free + 1
   pub same : 0 < u.users m → v.free ≡ u.free
+  -- no edge leads to the object of a new one
+  pub alone : u.users m ≡ 0 → HasIn v x → ⊥
   pub stores : Stores u v 19
   pub spare : u.spare ≤ v.spare
 
@@ -212,6 +214,8 @@ pub record GaveRecord (u v : View) (m : AdjacencyRecord) : Type 0 where
   pub kept : (n : AdjacencyRecord) → 0 < v.users n → v.record_of n ≡ u.record_of n
   pub swept : IsSwept u v
   pub held : (y : ℕ) → v.is_held y ≡ u.is_held y
+  -- with the last user its object is free, where no edge leads to it
+  pub freed : (x : ℕ) → u.record_of m ≡ Some x → u.users m ≡ 1 → (HasIn u x → ⊥) → u.free + 1 ≤ v.free
   pub stores : Stores u v 0
 
 -- edges that every worker has passed leave, with what they alone kept in use

@@ -40,13 +40,13 @@ module _ {T : Type 0} (rank : T → ℕ) where
   joined (x ∷ xs) ys h k c = (each_join (λ y. rank x < rank y) xs ys h.0 c.0, joined xs ys h.1 k c.1)
 
   -- the first of a part from an index on, and the last up to one, bound it
-  from_on : (key : ℕ) (xs : List T) (j : ℕ) → IsAscending rank xs → ((d : T) → j < length xs → key ≤ rank (get_or xs j d)) → AllByRecursion (λ x. key ≤ rank x) (drop j xs)
+  pub from_on : (key : ℕ) (xs : List T) (j : ℕ) → IsAscending rank xs → ((d : T) → j < length xs → key ≤ rank (get_or xs j d)) → AllByRecursion (λ x. key ≤ rank x) (drop j xs)
   from_on key [] zero asc h = tt
   from_on key [] (suc j) asc h = tt
   from_on key (x ∷ xs) zero asc h = let k : key ≤ rank x = h x (omega arith) in (k, each_map (λ y. rank x < rank y) (λ y. key ≤ rank y) (λ y lt. omega arith) xs asc.0)
   from_on key (x ∷ xs) (suc j) asc h = from_on key xs j asc.1 (λ d lt. h d (omega arith))
 
-  up_to : (key : ℕ) (xs : List T) (j : ℕ) → IsAscending rank xs → j ≤ length xs → ((d : T) → 0 < j → rank (get_or xs (j - 1) d) < key) → AllByRecursion (λ x. rank x < key) (take j xs)
+  pub up_to : (key : ℕ) (xs : List T) (j : ℕ) → IsAscending rank xs → j ≤ length xs → ((d : T) → 0 < j → rank (get_or xs (j - 1) d) < key) → AllByRecursion (λ x. rank x < key) (take j xs)
   up_to key xs zero asc le h = tt
   up_to key [] (suc j) asc le h = tt
   up_to key (x ∷ xs) (suc zero) asc le h = (h x (omega arith), tt)

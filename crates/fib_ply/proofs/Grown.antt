@@ -5,9 +5,10 @@ use mathlib.Core.Logic.{dite}
 use Rattle.fib_joined.specs.Promise.{Promise}
 use Rattle.fib_joined.specs.View.{View}
 use Rattle.fib_ply.specs.Prefixes.{Look}
-use Rattle.fib_ply.specs.inner.Change.{IsPaid, Mixed, Has, plus, IsAt, IsCellOf, IsGrown, GrowsTo, Grows, IsUnderWay, IsUnderWayAt}
+use Rattle.fib_ply.specs.inner.Change.{IsPaid, Mixed, Has, plus, IsAt, IsCellOf, IsGrown, GrowsTo, Grows, IsUnderWay, IsUnderWayAt, WereBare}
 use Rattle.fib_ply.specs.inner.Served.{Watch, Paths}
-use Rattle.fib_ply.specs.inner.Trie.{IsTrie}
+use Rattle.fib_core.specs.declared.word.Word.{Word}
+use Rattle.fib_ply.specs.inner.Trie.{IsFilled, IsTrie}
 use Rattle.fib_steady.specs.Names.{IsBelow}
 use Rattle.fib_ply.proofs.Fitting.{place_above}
 use Rattle.fib_ply.proofs.Paths.{fits_trie}
@@ -79,3 +80,25 @@ ready_more p r u1 u2 a x d s y e t same q step = let k = step q.0 q.1 q.2 q.3 q.
 
 pub grows_all : (u0 u1 : View) (a goal x d s i : ℕ) → goal ≤ d → GrowsTo u0 u1 a goal x d s i → Grows u0 u1 a goal i
 grows_all u0 u1 a goal x d s i le h = λ wants there old new pos n at. (let k = h wants there old new pos n at in (k.0, k.1, k.2, grown_all there k.0 a goal d le k.4, k.5))
+
+-- the depths at which plies came had none
+pub bare_none : (u : View) (a d : ℕ) → WereBare u a d 0
+bare_none u a d = λ wants there old new pos n at e lt le h. absurd (omega (arith, lt, le))
+
+-- below a cell that leads to a balance there is no ply
+below_leaf : (wants : Watch) (there : ℕ → ℕ → Bool) (old new : Look) (pos : ℕ) (n : Paths) (u : View) (a x d s : ℕ) → IsAt wants there old new pos n u → IsCellOf n u a x d s → there (d + 1) (a / 2 ^ (32 - 4 * (d + 1))) ≡ true → ⊥
+below_leaf wants there old new pos n u a x d s at cell h =
+    let filled = subst (λ (w : Word). IsFilled (Mixed old new pos) (Has there) n x s w) cell.leaf.1 (at.fits.cells x s cell.path.0 cell.few.0) in
+    filled.0 (subst (λ (i : ℕ). there (i + 1) (16 * n.value x + s) ≡ true) (sym cell.path.1) (ap (there (d + 1)) (sym cell.below) ∙ h))
+
+pub bare_more : (u0 u1 : View) (a goal x d s i : ℕ) → GrowsTo u0 u1 a goal x d s i → WereBare u0 a d i → WereBare u0 a (d + 1) (i + 1)
+bare_more u0 u1 a goal x d s i grows bare = λ wants there old new pos n at e lt le h.
+    (let k = grows wants there old new pos n at in
+    dite (ℕ_discrete e (d + 1))
+    (λ is. below_leaf wants k.0 old new pos k.1 u1 a x d s k.2 k.3 (k.4.more (d + 1) (a / 2 ^ (32 - 4 * (d + 1))) (subst (λ (j : ℕ). there j (a / 2 ^ (32 - 4 * j)) ≡ true) is h)))
+    (λ ne. bare wants there old new pos n at e (omega (arith, lt)) (omega (arith, le, ne)) h))
+
+pub bare_all : (u : View) (a goal d i : ℕ) → goal ≤ d → (0 < i → d ≤ goal) → WereBare u a d i → WereBare u a goal i
+bare_all u a goal d i over within bare = λ wants there old new pos n at e lt le h.
+    (let same : d ≤ goal = within (omega (arith, lt, le)) in
+    bare wants there old new pos n at e (omega (arith, lt, over, same)) (omega (arith, le, over)) h)

@@ -200,3 +200,20 @@ best_whole look (suc n) b le = absurd (omega (arith, le))
 pub half_fits : (n b : ℕ) → 0 < n → b < 2 ^ n → b / 2 < 2 ^ (n - 1)
 half_fits zero b pos lt = absurd (omega (arith, pos))
 half_fits (suc n) b pos lt = let e : 2 ^ (1 + n) ≡ 2 * 2 ^ n = pow-add 2 1 n in let f : suc n ≡ 1 + n = omega arith in let h : b < 2 * 2 ^ n = subst (λ (i : ℕ). b < i) (ap (λ i. 2 ^ i) f ∙ e) lt in let g : suc n - 1 ≡ n = omega arith in subst (λ (i : ℕ). b / 2 < 2 ^ i) (sym g) (omega (arith, h))
+
+-- a prefix that is there needs each ply on its way
+pub needs_here : (f : Prefix → Option ℕ) (e : Prefix) (k o : ℕ) → IsPrefix e → f e ≡ Some o → 4 * k < e.len → Needs (look_of f) k (e.bits / 2 ^ (32 - 4 * k))
+needs_here f e k o is at lt =
+    let short : e.len ≤ 32 = is.short in
+    let j : ℕ = e.len - 4 * k - 1 in
+    let b : ℕ = e.bits / 2 ^ (32 - e.len) in
+    let l : 4 * k + j + 1 ≡ e.len = omega (arith, lt) in
+    let shifts : 32 - e.len + (j + 1) ≡ 32 - 4 * k = omega (arith, lt, short) in
+    let bits : b * 2 ^ (32 - e.len) ≡ e.bits = whole_is e.bits (2 ^ (32 - e.len)) is.cleared in (
+      j,
+      b,
+      o,
+      omega (arith, l, short),
+      shr-shr e.bits (32 - e.len) (j + 1) ∙ ap (λ i. e.bits / 2 ^ i) shifts,
+      ap (λ i. look_of f i b) l ∙ ap (λ i. f (record { bits = i; len = e.len })) bits ∙ at,
+    )

@@ -16,9 +16,9 @@ use Rattle.fib_serving.proofs.Matches.{fits_added, fits_removed}
 use Rattle.fib_ordered.specs.Sets.{Order}
 use Rattle.fib_joined.specs.Promise.{Promise, IsBegun}
 use Rattle.fib_joined.specs.View.{View}
-use Rattle.fib_ply.specs.Prefixes.{Look}
+use Rattle.fib_ply.specs.Prefixes.{Look, Needs}
 use Rattle.fib_ply.specs.Rows.{held, ArePrefixes}
-use Rattle.fib_ply.specs.Tables.{Stands}
+use Rattle.fib_ply.specs.Tables.{Came, Stands}
 use Rattle.fib_ply.specs.declared.rows.Row.{Row}
 use Rattle.fib_ply.specs.inner.Served.{Paths}
 use Rattle.fib_ply.specs.inner.Change.{IsMine, IsTable, IsPromised, CanAdd, CanRemove, IsAdded, IsRemoved, IsStoredFew}
@@ -64,6 +64,16 @@ module _ (p : Promise) (rows : Order Row) (plies : ℕ) (are : ArePrefixes rows.
 
   block : (let r : Prefix = record { bits = top * 2 ^ (32 - len); len = len } in r) ≡ e
   block = ap₂ (λ x y. let r : Prefix = record { bits = x * 2 ^ (32 - y); len = y } in r) (top_is ∙ ap (λ i. e.bits / 2 ^ (32 - i)) len_is) len_is ∙ ap (λ b. let r : Prefix = record { bits = b; len = e.len } in r) (whole_is e.bits (2 ^ (32 - e.len)) prefix.cleared)
+
+  -- the plies that came, by the prefix
+  pub came : (count : ℕ) → count ≤ (len - 1) / 4 → ((d : ℕ) → (len - 1) / 4 < d + count → d ≤ (len - 1) / 4 → Needs (look_of f) d (top * 2 ^ (32 - len) / 2 ^ (32 - 4 * d)) → ⊥) → Came f e count
+  came count within bare =
+      let steps : (len - 1) / 4 ≡ (e.len - 1) / 4 = ap (λ i. (i - 1) / 4) len_is in
+      let bits : top * 2 ^ (32 - len) ≡ e.bits = ap (λ (r : Prefix). r.bits) block in
+      record {
+        few = omega (arith, within, steps);
+        bare = λ d lt le needs. bare d (omega (arith, lt, steps)) (omega (arith, le, steps)) (subst (λ (i : ℕ). Needs (look_of f) d (i / 2 ^ (32 - 4 * d))) (sym bits) needs);
+      }
 
   more : (o : ℕ) → look_of (tables.added f e o) ≡ blocks.added (look_of f) len top o
   more o = ap (λ i. look_of (tables.added f i o)) (sym block) ∙ look_added f len top o

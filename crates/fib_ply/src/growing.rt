@@ -6,7 +6,7 @@ ghost use Rattle.fib_joined.specs.View.{IsBalance, Stores};
 ghost use Rattle.fib_ply.specs.Prefixes.{Look};
 ghost use Rattle.fib_ply.specs.inner.View.{Frame, HoldsNoMore};
 ghost use Rattle.fib_ply.specs.inner.Served.{Paths, Watch};
-ghost use Rattle.fib_ply.specs.inner.Change.{Aside, CanFill, Grows, IsAt, IsCellOf, IsPaid, IsUnderWay, IsUnderWayAt, plus};
+ghost use Rattle.fib_ply.specs.inner.Change.{Aside, CanFill, Grows, IsAt, IsCellOf, IsPaid, IsUnderWay, IsUnderWayAt, WereBare, plus};
 
 use crate::calls::{put, take};
 use crate::places::{Place, find};
@@ -64,6 +64,8 @@ pub fn grow<P: Objects>(on: &mut P, addr: u32, depth: u32) -> u32
     requires ready { IsUnderWay (P.promise on.old) (P.view on.old) }
     requires room { (depth ≤ 7) × (depth ≤ (P.view on.old).free) × (depth ≤ (P.view on.old).spare) }
     ensures few { result ≤ depth }
+    ensures free { (P.view on.old).free ≤ (P.view on.new).free + result }
+    ensures bare { WereBare (P.view on.old) addr depth result }
     ensures frame { Frame (P.view on.old) (P.view on.new) }
     ensures promise { P.promise on.new ≡ P.promise on.old }
     ensures beside { Beside (P.view on.old) (P.view on.new) }

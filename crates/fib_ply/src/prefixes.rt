@@ -9,7 +9,7 @@ ghost use Rattle.fib_steady.specs.Aims.{IsLasting};
 ghost use Rattle.fib_addr.specs.Longest.{everything};
 ghost use Rattle.fib_ply.specs.inner.Blank.{IsBlank};
 ghost use Rattle.fib_ply.specs.Rows.{ArePrefixes};
-ghost use Rattle.fib_ply.specs.Tables.{LeadsAll, Stands, object_in};
+ghost use Rattle.fib_ply.specs.Tables.{Came, LeadsAll, Stands, object_in};
 
 use crate::beginning::begin;
 use crate::rows::Rows;
@@ -109,7 +109,7 @@ impl PrefixTable {
         self.rows.find(prefix)
     }
 
-    /// Puts a prefix into the table, which leads to that balance. Answers how many stores there were.
+    /// Puts a prefix into the table, which leads to that balance. Answers how many stores there were. No object is taken but for plies that come.
     pub fn add<P: Objects>(&mut self, on: &mut P, prefix: Prefix, object: u32) -> u64
         requires stands { Stands (P.promise on.old) self.old (P.view on.old) }
         requires fits { IsBegun (P.promise on.old) → FitsVersions (P.promise on.old).versions (object_in self.old) }
@@ -122,6 +122,8 @@ impl PrefixTable {
         requires room { 0 < self.old.rows.spare }
         ensures object { object_in self.new ≡ added (object_in self.old) prefix object }
         ensures plies { (self.old.plies ≤ self.new.plies) × (self.new.plies ≤ self.old.plies + 7) }
+        ensures came { Came (object_in self.old) prefix (self.new.plies - self.old.plies) }
+        ensures free { (P.view on.old).free + self.old.plies ≤ (P.view on.new).free + self.new.plies }
         ensures room { self.old.rows.spare ≤ self.new.rows.spare + 1 }
         ensures stands { Stands (P.promise on.new) self.new (P.view on.new) }
         ensures leads { LeadsAll self.new (P.view on.new) }
@@ -150,6 +152,7 @@ impl PrefixTable {
         requires spare { 16 * self.old.plies ≤ (P.view on.old).spare }
         ensures object { object_in self.new ≡ removed (object_in self.old) prefix }
         ensures plies { (self.new.plies ≤ self.old.plies) × (self.old.plies ≤ self.new.plies + 7) }
+        ensures free { (P.view on.old).free ≤ (P.view on.new).free }
         ensures room { self.old.rows.spare ≤ self.new.rows.spare }
         ensures stands { Stands (P.promise on.new) self.new (P.view on.new) }
         ensures leads { LeadsAll self.new (P.view on.new) }

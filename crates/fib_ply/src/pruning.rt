@@ -19,6 +19,7 @@ pub fn unlink<P: Objects, S: Prefixes>(set: &S, on: &mut P, leaf: Leaf, addr: u3
     ensures promise { P.promise on.new ≡ P.promise on.old }
     ensures beside { Beside (P.view on.old) (P.view on.new) }
     ensures higher { result.depth < leaf.depth }
+    ensures free { (P.view on.old).free ≤ (P.view on.new).free }
 {
     let block = addr >> (32 - 4 * leaf.depth);
     let object = set.best(4 * leaf.depth, block).unwrap();
@@ -32,6 +33,7 @@ pub fn unlink<P: Objects, S: Prefixes>(set: &S, on: &mut P, leaf: Leaf, addr: u3
 pub fn prune<P: Objects, S: Prefixes>(set: &S, on: &mut P, addr: u32) -> u32
     requires { CanPrune (P.promise on.old) (S.look set.now) addr (P.view on.old) }
     ensures few { result ≤ 7 }
+    ensures free { (P.view on.old).free ≤ (P.view on.new).free }
     ensures promise { P.promise on.new ≡ P.promise on.old }
     ensures beside { Beside (P.view on.old) (P.view on.new) }
     ensures pruned { Prunes (S.look set.now) addr (P.view on.old) (P.view on.new) result }

@@ -20,6 +20,7 @@ pub fn push<P: Objects, S: Prefixes>(set: &S, on: &mut P, addr: u32) -> u64
     ensures promise { P.promise on.new ≡ P.promise on.old }
     ensures beside { Beside (P.view on.old) (P.view on.new) }
     ensures further { addr < result }
+    ensures free { (P.view on.old).free ≤ (P.view on.new).free }
 {
     let at = find(on, addr);
     let shift = 28 - 4 * at.depth;
@@ -36,6 +37,7 @@ pub fn refresh<P: Objects, S: Prefixes>(set: &S, on: &mut P, from: u64, to: u64)
     requires range { to ≤ 2 ^ 32 }
     ensures promise { P.promise on.new ≡ P.promise on.old }
     ensures beside { Beside (P.view on.old) (P.view on.new) }
+    ensures free { (P.view on.old).free ≤ (P.view on.new).free }
     ensures change { (wants : Watch) (there : ℕ → ℕ → Bool) (old : Look) (n : Paths) → IsAt wants there old (S.look set.now) from n (P.view on.old)
         → (pos : ℕ) × (to ≤ pos) × IsAt wants there old (S.look set.now) pos n (P.view on.new) × IsSpent n (P.view on.old) (P.view on.new) from pos }
 {

@@ -1,8 +1,9 @@
 // Prefixes come and go.
-ghost use Rattle.std.specs.Prelude.{◌≡◌, ℕ, Bool, ◌+◌, ◌-◌, ◌*◌, ◌^◌, ◌<◌, ◌≤◌, None, length};
+ghost use Rattle.std.specs.Prelude.{◌≡◌, ℕ, Bool, ◌+◌, ◌-◌, ◌*◌, ◌/◌, ◌^◌, ◌<◌, ◌≤◌, None, length};
 ghost use Rattle.fib_core.specs.declared.word.Word.TheVariants.{Drop};
 ghost use Rattle.fib_joined.specs.Frames.{Beside};
 ghost use Rattle.fib_joined.specs.View.{IsBalance};
+ghost use Rattle.fib_ply.specs.Prefixes.{Needs};
 ghost use Rattle.fib_ply.specs.inner.Served.{Paths, Watch};
 ghost use Rattle.fib_ply.specs.inner.Change.{CanAdd, CanRemove, IsAdded, IsRemoved, IsTable, added, removed};
 
@@ -21,6 +22,9 @@ pub fn add<P: Objects, S: Prefixes>(set: &mut S, on: &mut P, len: u32, top: u32,
     requires free { 7 ≤ (P.view on.old).free }
     requires room { 0 < S.room set.old }
     ensures few { result ≤ 7 }
+    ensures within { result ≤ (len - 1) / 4 }
+    ensures free { (P.view on.old).free ≤ (P.view on.new).free + result }
+    ensures bare { (d : ℕ) → (len - 1) / 4 < d + result → d ≤ (len - 1) / 4 → Needs (S.look set.old) d (top * 2 ^ (32 - len) / 2 ^ (32 - 4 * d)) → ⊥ }
     ensures look { S.look set.new ≡ added (S.look set.old) len top object }
     ensures room { S.room set.old ≤ S.room set.new + 1 }
     ensures promise { P.promise on.new ≡ P.promise on.old }
@@ -45,6 +49,7 @@ pub fn remove<P: Objects, S: Prefixes>(set: &mut S, on: &mut P, len: u32, top: u
     requires table { CanRemove (P.promise on.old) (S.look set.old) (P.view on.old) len top }
     requires prefix { (1 ≤ len) × (len ≤ 32) × (top < 2 ^ len) }
     ensures few { result ≤ 7 }
+    ensures free { (P.view on.old).free ≤ (P.view on.new).free }
     ensures look { S.look set.new ≡ removed (S.look set.old) len top }
     ensures room { S.room set.old ≤ S.room set.new }
     ensures promise { P.promise on.new ≡ P.promise on.old }

@@ -1,16 +1,14 @@
 -- Keys tell prefixes apart, and are ordered as the code compares them.
-use Rattle.std.proofs.Common.{arith, ◌≡◌, ℕ, zero, suc, ◌+◌, ◌*◌, ◌-◌, ◌<◌, ◌≤◌, get_or, length, take, drop, Bool, true, false, eq-eqb, ne_eqb, List, [], ◌∷◌, refl, sym, ap, ap₂, ◌∙◌}
+use Rattle.std.proofs.Common.{arith, ◌≡◌, ℕ, ◌+◌, ◌*◌, ◌-◌, ◌<◌, ◌≤◌, get_or, length, take, drop, Bool, true, false, eq-eqb, ne_eqb, List, refl, sym, ap, ap₂, ◌∙◌}
 use Rattle.std.specs.Prelude.{◌==◌}
-use Rattle.std.specs.List.{AllByRecursion}
 use Rattle.std.proofs.lemmas.List.{take-append-drop}
 use native.Mathlib.Decide.{ℕ_discrete}
-use native.Mathlib.Numerals.{unary_clauses}
 use mathlib.Core.Logic.{dite}
 use Rattle.fib_addr.specs.Prefixes.{Prefix, IsPrefix, same_prefix}
 use Rattle.fib_addr.proofs.PrefixLaws.{same_prefix-Decides}
 use Rattle.fib_ordered.specs.Sets.{IsAscending}
 use Rattle.fib_ordered.specs.inner.Blocks.{IsCut}
-use Rattle.fib_ordered.proofs.Cuts.{each_map, each_get}
+use Rattle.fib_ordered.proofs.Cuts.{from_on, up_to}
 use Rattle.fib_queue.specs.Queues.{prefix_key, turn_key, key_in}
 use Rattle.fib_queue.specs.declared.order.Queued.{Queued}
 
@@ -69,21 +67,5 @@ test_key e p lt lt' = dite (ℕ_discrete (prefix_key e) (prefix_key p))
     (λ ne. ne_eqb (prefix_key e) (prefix_key p) ne ∙ sym (not_true (same_prefix e p) (λ is. ne (ap prefix_key ((same_prefix-Decides e p).0 is)))))
 
 -- a list in order is cut where a search ends
-module _ (key : ℕ) where
-  from_on : (xs : List Queued) (j : ℕ) → IsAscending turn_key xs → ((d : Queued) → j < length xs → key ≤ turn_key (get_or xs j d)) → AllByRecursion (λ x. key ≤ turn_key x) (drop j xs)
-  from_on [] zero asc h = tt
-  from_on [] (suc j) asc h = tt
-  from_on (x ∷ xs) zero asc h = let k : key ≤ turn_key x = h x (omega arith) in (k, each_map (λ y. turn_key x < turn_key y) (λ y. key ≤ turn_key y) (λ y lt. omega (arith, k, lt)) xs asc.0)
-  from_on (x ∷ xs) (suc j) asc h = from_on xs j asc.1 (λ d lt. h d (omega arith))
-
-  up_to : (xs : List Queued) (j : ℕ) → IsAscending turn_key xs → j ≤ length xs → ((d : Queued) → 0 < j → turn_key (get_or xs (j - 1) d) < key) → AllByRecursion (λ x. turn_key x < key) (take j xs)
-  up_to xs zero asc le h = tt
-  up_to [] (suc j) asc le h = tt
-  up_to (x ∷ xs) (suc zero) asc le h = (h x (omega arith), tt)
-  up_to (x ∷ xs) (suc (suc j)) asc le h =
-      let last : turn_key (get_or xs j x) < key = simp unary_clauses at (h x (omega arith)) in
-      let lt : turn_key x < turn_key (get_or xs j x) = each_get (λ y. turn_key x < turn_key y) xs j x (omega arith) asc.0 in
-      (omega (arith, last, lt), up_to xs (suc j) asc.1 (omega arith) (λ d _. simp unary_clauses (simp unary_clauses at (h d (omega arith)))))
-
-  pub cut_at : (xs : List Queued) (j : ℕ) → IsAscending turn_key xs → j ≤ length xs → ((d : Queued) → 0 < j → turn_key (get_or xs (j - 1) d) < key) → ((d : Queued) → j < length xs → key ≤ turn_key (get_or xs j d)) → IsCut turn_key key xs (take j xs) (drop j xs)
-  cut_at xs j asc le low high = record { whole = sym (take-append-drop j xs); lower = up_to xs j asc le low; upper = from_on xs j asc high }
+pub cut_at : (key : ℕ) (xs : List Queued) (j : ℕ) → IsAscending turn_key xs → j ≤ length xs → ((d : Queued) → 0 < j → turn_key (get_or xs (j - 1) d) < key) → ((d : Queued) → j < length xs → key ≤ turn_key (get_or xs j d)) → IsCut turn_key key xs (take j xs) (drop j xs)
+cut_at key xs j asc le low high = record { whole = sym (take-append-drop j xs); lower = up_to turn_key key xs j asc le low; upper = from_on turn_key key xs j asc high }

@@ -2,8 +2,7 @@
 use Rattle.std.proofs.Common.{◌≡◌, ◌≢◌, ℕ, zero, suc, ◌+◌, ◌-◌, ◌≤◌, Bool, true, false, true≢false, List, [], ◌∷◌, ◌++◌, length, map, Option, Some, None, refl, sym, ap, ◌∙◌, subst, arith}
 use Rattle.std.specs.Prelude.{Contains}
 use Rattle.std.specs.List.{AllByRecursion, IsDistinct}
-use Rattle.std.proofs.lemmas.List.{length-map, length-append}
-use Rattle.std.proofs.lemmas.List.Elements.{Contains-append_left, Contains-append_right}
+use Rattle.std.proofs.lemmas.List.{length-map}
 use Rattle.fib_list.proofs.Booleans.{count_by-cons}
 use Rattle.fib_list.proofs.Lists.{each-append, each-map, each-weaker}
 use Rattle.fib_addr.specs.Prefixes.{Prefix, same_prefix}
@@ -22,43 +21,13 @@ use Rattle.fib_config.proofs.Within.{same_adjacency-Decides}
 use Rattle.fib_core.specs.StandsFor.{Thing, ply_of, balance_of, adjacency_of, IsCounted}
 use Rattle.fib_pool.specs.declared.object.Object.{Object}
 use Rattle.fib_pool.specs.Objects.{at, free_in, is_free}
+use Rattle.fib_stack.proofs.Counted.{differ_append, differ_map, thing_in, things, things_long}
 
 -- lists whose elements differ
 pub differ_distinct : {A : Type 0} (eq : A → A → Bool) → ((x y : A) → x ≡ y → eq x y ≡ true) → (xs : List A) → IsDistinct eq xs → AllDiffer xs
 unfolding IsDistinct
 differ_distinct eq same [] d = tt
 differ_distinct eq same (x ∷ xs) d = (each-weaker (λ y. eq x y ≡ false) (λ y. x ≢ y) (λ y no is. true≢false (sym (same x y is) ∙ no)) xs d.0, differ_distinct eq same xs d.1)
-
-differ_map : {A B : Type 0} (f : A → B) (P : A → Type 0) → ((x y : A) → P x → P y → f x ≡ f y → x ≡ y) → (xs : List A) → AllByRecursion P xs → AllDiffer xs → AllDiffer (map f xs)
-differ_map f P one [] all d = tt
-differ_map {A} {B} f P one (x ∷ xs) all d = (each-map (λ y. f x ≢ y) f xs (apart xs all.1 d.0), differ_map f P one xs all.1 d.1)
-  where
-    apart : (ys : List A) → AllByRecursion P ys → AllByRecursion (λ y. x ≢ y) ys → AllByRecursion (λ y. f x ≢ f y) ys
-    apart [] h e = tt
-    apart (y ∷ ys) h e = (λ is. e.0 (one x y all.0 h.0 is), apart ys h.1 e.1)
-
-differ_append : {A : Type 0} (xs ys : List A) → AllDiffer xs → AllDiffer ys → AllByRecursion (λ x. AllByRecursion (λ y. x ≢ y) ys) xs → AllDiffer (xs ++ ys)
-differ_append [] ys d e h = e
-differ_append (x ∷ xs) ys d e h = (each-append (λ y. x ≢ y) xs ys d.0 h.0, differ_append xs ys d.1 e h.1)
-
--- what the size counts
-abbrev pub things : Tables → List Thing
-things S = map ply_of (plies S) ++ (map balance_of (entries S) ++ map adjacency_of (adjacencies S))
-
-pub things_long : (S : Tables) → length (things S) ≡ size S
-unfolding size
-things_long S =
-    let a = length-append (map ply_of (plies S)) (map balance_of (entries S) ++ map adjacency_of (adjacencies S)) in
-    let b = length-append (map balance_of (entries S)) (map adjacency_of (adjacencies S)) in
-    let p = length-map (plies S) ply_of in
-    let e = length-map (entries S) balance_of in
-    let x = length-map (adjacencies S) adjacency_of in
-    omega (arith, a, b, p, e, x)
-
-pub thing_in : (S : Tables) (t : Thing) → IsCounted S t → Contains (things S) t
-thing_in S (ply_of q) c = Contains-append_left (map ply_of (plies S)) (map balance_of (entries S) ++ map adjacency_of (adjacencies S)) (ply_of q) (map_at ply_of (plies S) q c)
-thing_in S (balance_of e) c = Contains-append_right (map ply_of (plies S)) (map balance_of (entries S) ++ map adjacency_of (adjacencies S)) (balance_of e) (Contains-append_left (map balance_of (entries S)) (map adjacency_of (adjacencies S)) (balance_of e) (map_at balance_of (entries S) e c))
-thing_in S (adjacency_of x) c = Contains-append_right (map ply_of (plies S)) (map balance_of (entries S) ++ map adjacency_of (adjacencies S)) (adjacency_of x) (Contains-append_right (map balance_of (entries S)) (map adjacency_of (adjacencies S)) (adjacency_of x) (map_at adjacency_of (adjacencies S) x c))
 
 pub all_counted : (S : Tables) → AllByRecursion (IsCounted S) (things S)
 all_counted S = each-append (IsCounted S) (map ply_of (plies S)) (map balance_of (entries S) ++ map adjacency_of (adjacencies S))

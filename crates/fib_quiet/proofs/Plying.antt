@@ -36,7 +36,7 @@ use Rattle.fib_ply.specs.inner.Change.{Has, Mixed}
 use Rattle.fib_ply.specs.inner.Served.{Paths}
 use Rattle.fib_ply.specs.inner.Trie.{IsFilled}
 use Rattle.fib_ply.proofs.Laws.{plies_exact}
-use Rattle.fib_ply.proofs.Needing.{whole_is}
+use Rattle.fib_ply.proofs.Needing.{needs_here}
 use Rattle.fib_quiet.proofs.Numbers.{number, or_zero, ply_at, ply_at_is}
 use Rattle.fib_quiet.proofs.Reaching.{balance_at, best_reached, entry_of}
 
@@ -89,22 +89,7 @@ module _ (S : Tables) (p : Promise) (t : Table) (u : View) (st : Stands p t u) (
 
   -- an entry that is longer needs the ply
   needs_of : (e : Prefix) (k : ℕ) → Contains (entries S) e → 4 * k < e.len → Needs look k (e.bits / size_of (4 * k))
-  needs_of e k c lt =
-      let is : IsPrefix e = fine e c in
-      let short : e.len ≤ 32 = is.short in
-      let o = balance_at S (object_in t) fine rows placed e c in
-      let j : ℕ = e.len - 4 * k - 1 in
-      let b : ℕ = e.bits / 2 ^ (32 - e.len) in
-      let l : 4 * k + j + 1 ≡ e.len = omega (arith, lt) in
-      let shifts : 32 - e.len + (j + 1) ≡ 32 - 4 * k = omega (arith, lt, short) in
-      let bits : b * 2 ^ (32 - e.len) ≡ e.bits = whole_is e.bits (2 ^ (32 - e.len)) is.cleared in (
-        j,
-        b,
-        o.0,
-        omega (arith, l, short),
-        shr-shr e.bits (32 - e.len) (j + 1) ∙ ap (λ i. e.bits / 2 ^ i) shifts,
-        ap (λ i. look i b) l ∙ ap (λ i. held t.rows.members (record { bits = i; len = e.len })) bits ∙ o.1,
-      )
+  needs_of e k c lt = let o = balance_at S (object_in t) fine rows placed e c in needs_here (object_in t) e k o.0 (fine e c) o.1 lt
 
   root_ply : (q : Prefix) → q.len ≡ 0 → q.bits ≡ 0 → IsPly n q
   root_ply q l b =

@@ -1,33 +1,17 @@
 -- At rest the cells stand for the tables.
-use Rattle.std.proofs.Common.{◌≡◌, ℕ, ◌+◌, ◌*◌, ◌<◌, inl, inr, ⊎_elim, Bool, true, false, true≢false, ◌||◌, cond, List, [], ◌∷◌, map, refl, sym, ap, ap₂, ◌∙◌, subst, arith}
-use Rattle.std.specs.Prelude.{Option, Some, Contains, ◌==◌, flat_map, if◌then◌else◌}
+use Rattle.std.proofs.Common.{◌≡◌, ℕ, ◌+◌, ◌*◌, ◌<◌, inl, inr, ⊎_elim, Bool, true, false, true≢false, ◌||◌, cond, List, [], ◌∷◌, refl, sym, ap, ◌∙◌, subst, arith}
+use Rattle.std.specs.Prelude.{Option, Some, Contains}
 use native.Mathlib.Decide.{ℕ_discrete}
 use mathlib.Core.Logic.{dite}
 use Rattle.fib_list.proofs.Booleans.{or_right}
-use Rattle.fib_list.proofs.Lists.{either, Contains-flat_map}
 use Rattle.fib_addr.specs.Longest.{everything}
 use Rattle.fib_addr.specs.Prefixes.{IsPrefix, Prefix}
 use Rattle.fib_addr.proofs.PrefixLaws.{same_fields}
-use Rattle.fib_reach.proofs.Through.{decides_equiv}
-use Rattle.fib_resolve.specs.Aims.{kind_aim, marked, marked_list}
-use Rattle.fib_resolve.specs.Pairs.{chosen, entries}
-use Rattle.fib_resolve.specs.Resolution.{hop_end, mac_of}
-use Rattle.fib_resolve.specs.Sizes.{adjacencies, adjacencies_of, kind_adjacency, same_adjacency}
-use Rattle.fib_resolve.specs.declared.aims.Aim.TheVariants as aims
-use Rattle.fib_resolve.specs.declared.aims.Marked.{Marked}
+use Rattle.fib_resolve.specs.Aims.{marked_list}
+use Rattle.fib_resolve.specs.Pairs.{entries}
 use Rattle.fib_resolve.specs.declared.pairs.Adjacency.{Adjacency}
 use Rattle.fib_resolve.specs.declared.types.End.TheVariants as answers
-use Rattle.fib_resolve.specs.declared.types.Path.{Path}
-use Rattle.fib_resolve.specs.declared.types.PathKind.{PathKind}
-use Rattle.fib_resolve.specs.declared.types.PathKind.TheVariants as kinds
 use Rattle.fib_resolve.specs.declared.types.Tables.{Tables}
-use Rattle.fib_resolve.proofs.Covering.{unique_in}
-use Rattle.fib_changes.specs.Ranks.{has_entry}
-use Rattle.fib_changes.proofs.CauseLaws.{any_from}
-use Rattle.fib_changes.proofs.SamePairs.{map_from}
-use Rattle.fib_config.proofs.Within.{same_adjacency-Decides}
-use Rattle.std.proofs.lemmas.Map.Made.{is_member-Decides}
-use Rattle.fib_addr.proofs.PrefixLaws.{same_prefix-Decides}
 use Rattle.fib_core.specs.StandsFor.{Thing, ply_of, balance_of, adjacency_of, IsCounted, thing_word}
 use Rattle.fib_pool.specs.declared.object.AdjacencyRecord.{AdjacencyRecord}
 use Rattle.fib_plane.specs.Sound.{record_word}
@@ -39,7 +23,8 @@ use Rattle.fib_joined.specs.View.{IsBalance, IsLive, View}
 use Rattle.fib_ply.proofs.Laws.{held_prefix}
 use Rattle.fib_stack.specs.Joined.{Parts, balance_in, holds_by, in_change, table_of}
 use Rattle.fib_stack.specs.Records.{end_used, holds_in}
-use Rattle.fib_stack.specs.States.{ends_there, has_hop}
+use Rattle.fib_stack.specs.States.{has_hop}
+use Rattle.fib_stack.proofs.Counted.{counted, effective, listed}
 use Rattle.fib_stack.proofs.Listing.{record_is}
 use Rattle.fib_stands.proofs.Nibbles.{ply_root}
 use Rattle.fib_quiet.specs.Rest.{IsAtRest}
@@ -83,55 +68,6 @@ module _ (S : Tables) (rank : Prefix → ℕ) (p : Promise) (v : View) (s : Part
   abbrev Found : ℕ → Type 0
   Found x = (t : Thing) × IsCounted S t × (names t ≡ x)
 
-  -- a Hop end of a marked list is counted, with the MAC that the tables have
-  abbrev IsListed : Prefix → Path → ℕ → ℕ → Option ℕ → Type 0
-  IsListed e q i a x = Contains (kind_adjacency e q.kind) (record { interface = i; next_hop = a }) × (mac_of S i a ≡ x)
-
-  hop_same : (i a j b : ℕ) (x : Option ℕ) → ends_there (answers.Hop i a x) (aims.Ends (hop_end S j b)) ≡ true → (record { interface = j; next_hop = b; mac = mac_of S j b }) ≡ (let r : AdjacencyRecord = record { interface = i; next_hop = a; mac = x } in r)
-  hop_same i a j b x h = record_is (record { interface = j; next_hop = b; mac = mac_of S j b }) (record { interface = i; next_hop = a; mac = x }) h
-
-  one_listed : (e : Prefix) (i a j b : ℕ) (x : Option ℕ) (ys : List Adjacency) → ys ≡ record { interface = j; next_hop = b } ∷ [] → ends_there (answers.Hop i a x) (aims.Ends (hop_end S j b)) ≡ true
-      → Contains ys (record { interface = i; next_hop = a }) × (mac_of S i a ≡ x)
-  one_listed e i a j b x ys is h =
-      let same = hop_same i a j b x h in
-      let interface : j ≡ i = ap (λ (r : AdjacencyRecord). r.interface) same in
-      let hop : b ≡ a = ap (λ (r : AdjacencyRecord). r.next_hop) same in
-      let mac : mac_of S j b ≡ x = ap (λ (r : AdjacencyRecord). r.mac) same in (
-        subst (λ (zs : List Adjacency). Contains zs (record { interface = i; next_hop = a })) (sym is) (0, omega arith, ap₂ (λ (c d : ℕ). record { interface = c; next_hop = d }) interface hop),
-        ap₂ (mac_of S) (sym interface) (sym hop) ∙ mac,
-      )
-
-  by_length : (e : Prefix) (i a j : ℕ) (x : Option ℕ) (b : Bool) → ends_there (answers.Hop i a x) (aims.Ends (if b then hop_end S j e.bits else answers.Glean j)) ≡ true
-      → Contains (if b then (let r : Adjacency = record { interface = j; next_hop = e.bits } in r) ∷ [] else []) (record { interface = i; next_hop = a }) × (mac_of S i a ≡ x)
-  by_length e i a j x true h = one_listed e i a j e.bits x _ refl h
-  by_length e i a j x false h = absurd (true≢false (sym h))
-
-  by_kind : (e : Prefix) (i a : ℕ) (x : Option ℕ) (k : PathKind) → ends_there (answers.Hop i a x) (kind_aim S e k) ≡ true → Contains (kind_adjacency e k) (record { interface = i; next_hop = a }) × (mac_of S i a ≡ x)
-  by_kind e i a x (kinds.Hop b j) h = one_listed e i a j b x _ refl h
-  by_kind e i a x (kinds.Attached j) h = by_length e i a j x (e.len == 32) h
-  by_kind e i a x kinds.Drop h = absurd (true≢false (sym h))
-  by_kind e i a x kinds.Local h = absurd (true≢false (sym h))
-  by_kind e i a x (kinds.Recursive b) h = absurd (true≢false (sym h))
-  by_kind e i a x kinds.Cover h = absurd (true≢false (sym h))
-
-  listed : (e : Prefix) (i a : ℕ) (x : Option ℕ) → has_hop (marked_list S e) (answers.Hop i a x) ≡ true → (q : Path) × Contains (chosen S e) q × IsListed e q i a x
-  unfolding marked_list
-  listed e i a x has =
-      let m = any_from (λ m. ends_there (answers.Hop i a x) m.aim) (map (marked S e) (chosen S e)) has in
-      let q = map_from (marked S e) (chosen S e) m.0 m.1 in
-      (q.0, q.1, by_kind e i a x q.0.kind (ap (λ (k : Marked). ends_there (answers.Hop i a x) k.aim) q.2 ∙ m.2))
-
-  effective : (e : Prefix) (i a : ℕ) (x : Option ℕ) → has_hop (marked_list S e) (answers.Hop i a x) ≡ true → Contains (entries S) e
-  effective e i a x has = ⊎_elim
-      (λ (yes : has_entry S e ≡ true). (is_member-Decides same_prefix-Decides (entries S) e).0 yes)
-      (λ (no : has_entry S e ≡ false). absurd (true≢false (sym has ∙ ap (λ ms. has_hop ms (answers.Hop i a x)) (rest.ranked.absent e no))))
-      (either (has_entry S e))
-
-  counted : (e : Prefix) (q : Path) (x : Adjacency) → Contains (entries S) e → Contains (chosen S e) q → Contains (kind_adjacency e q.kind) x → Contains (adjacencies S) x
-  unfolding adjacencies
-  counted e q x c c' c'' = (unique_in same_adjacency (decides_equiv same_adjacency same_adjacency-Decides) (λ a b. (same_adjacency-Decides a b).0) (flat_map (adjacencies_of S) (entries S)) x).0
-      (Contains-flat_map (adjacencies_of S) (entries S) e x c (Contains-flat_map (λ k. kind_adjacency e k.kind) (chosen S e) q x c' c''))
-
   record_found : (m : AdjacencyRecord) (x : ℕ) → v.record_of m ≡ Some x → Found x
   record_found m x at = dite (ℕ_discrete (v.users m) 0)
       (λ z. absurd (none_some x (sym (rest.plane.forgotten m z) ∙ at)))
@@ -139,10 +75,10 @@ module _ (S : Tables) (rank : Prefix → ℕ) (p : Promise) (v : View) (s : Part
       let u = rest.used m (let c = rest.joined.laid.counted m in omega (arith, ne, c)) in
       let held : holds_by s u.0 (answers.Hop m.interface m.next_hop m.mac) ≡ true = times_held (used_by (s.known u.0)) m.interface m.next_hop m.mac u.1 in
       let has : has_hop (marked_list S u.0) (answers.Hop m.interface m.next_hop m.mac) ≡ true = sym ((stands S rank p v s rest (paths S rank p v s rest)).holding u.0 (answers.Hop m.interface m.next_hop m.mac)) ∙ held in
-      let l = listed u.0 m.interface m.next_hop m.mac has in
+      let l = listed S u.0 m.interface m.next_hop m.mac has in
       let a : Adjacency = record { interface = m.interface; next_hop = m.next_hop } in (
         adjacency_of a,
-        counted u.0 l.0 a (effective u.0 m.interface m.next_hop m.mac has) l.1 l.2.0,
+        counted S u.0 l.0 a (effective S rank rest.ranked u.0 m.interface m.next_hop m.mac has) l.1 l.2.0,
         ap (λ y. or_zero (v.record_of (record { interface = m.interface; next_hop = m.next_hop; mac = y }))) l.2.1 ∙ ap or_zero at,
       ))
 

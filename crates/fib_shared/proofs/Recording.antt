@@ -1,7 +1,7 @@
 -- Records that are taken and given back, by the view.
-use Rattle.std.proofs.Common.{arith, ◌≡◌, ◌≢◌, ℕ, suc, ◌+◌, ◌*◌, ◌-◌, ◌^◌, ◌<◌, ◌≤◌, inl, inr, Bool, true, false, cond, ◌&&◌, ◌||◌, ◌==◌, eqb, List, length, map, set, Option, Some, None, Result, Ok, Err, refl, sym, ◌∙◌, ap, subst, get_or-set_other, length-set}
+use Rattle.std.proofs.Common.{arith, ◌≡◌, ◌≢◌, ℕ, suc, ◌+◌, ◌*◌, ◌-◌, ◌^◌, ◌<◌, ◌≤◌, inl, inr, Bool, true, false, cond, ◌&&◌, ◌||◌, ◌==◌, eqb, eq-eqb, List, length, map, set, Option, Some, None, Result, Ok, Err, refl, sym, ◌∙◌, ap, subst, get_or-set_other, length-set}
 use Rattle.std.specs.Prelude.{Contains, IfNone, IfOk, IfSome, OnErr, option_map, slice_index, if◌then◌else◌, is_some}
-use Rattle.std.proofs.lemmas.Bool.{false≢true, true≢false, cases_eq}
+use Rattle.std.proofs.lemmas.Bool.{false≢true, true≢false, cases_eq, cases_lt}
 use Rattle.fib_list.proofs.Lists.{either}
 use Rattle.std.specs.declared.alloc.AllocError.{AllocError}
 use Rattle.fib_interned.specs.Interned.{AreInterned, Kept, kept_of, users_in, users_of, lowered}
@@ -20,7 +20,7 @@ use Rattle.fib_pool.specs.declared.object.AdjacencyRecord.{AdjacencyRecord}
 use Rattle.fib_pool.specs.Records.{IsNew}
 use Rattle.fib_pool.specs.Objects.{at, as_new, count_in, count_of, free_in, is_free}
 use Rattle.fib_pool.specs.Objects as pool
-use Rattle.fib_pool.proofs.Pools.{free_set, live_at}
+use Rattle.fib_pool.proofs.Pools.{free_set, live_at, live_in}
 use Rattle.fib_pool.proofs.Keeping.{kept_contains}
 use Rattle.fib_board.specs.Boards.{Board, as_control, board_stored, edge_of, union_of, word_in}
 use Rattle.fib_board.proofs.Serving.{edge_at_drop, edge_none}
@@ -32,13 +32,14 @@ use Rattle.fib_plane.specs.Sound.{IsInRange}
 use Rattle.fib_plane.proofs.Boarding.{at_other, count_same, edge_at_word, into_stored, kind_same, none_same, word_other}
 use Rattle.fib_plane.proofs.Filling.{filled_else}
 use Rattle.fib_plane.proofs.Recording.{given_from}
-use Rattle.fib_joined.specs.View.{View, GaveRecord, Goes, IsPlane, IsRecord, Stores, TookOne, TookRecord, leads}
+use Rattle.fib_joined.specs.View.{View, GaveRecord, Goes, HasIn, IsPlane, IsRecord, Stores, TookOne, TookRecord, leads}
 use Rattle.fib_shared.specs.Shares.{cell_in, copy_seen, is_adjacency_at, is_ply_at, is_ply_of, kept_as, promise_of, record_in, same_record, users_of_record, view_of, AreRecorded}
 use Rattle.fib_shared.proofs.Seeing.{cell_down, cell_same, held_down, held_same, kept_down, live_down, record_down, record_is_same, same_record_is}
 use Rattle.fib_shared.proofs.Sounding.{adjacency_not_held, record_apart, record_no_edge, sound_of}
-use Rattle.fib_shared.proofs.Sweeping.{adjacency_kept, edge_live, free_kept, ply_kept, ply_leaves, sound_swept, swept_held, swept_seen, swept_stores, swept_adjacencies}
+use Rattle.fib_shared.proofs.Sweeping.{adjacency_kept, edge_live, free_kept, into_up, none_some, ply_kept, ply_leaves, sound_swept, swept_held, swept_seen, swept_stores, swept_adjacencies}
+use Rattle.fib_shared.proofs.Paying.{free_grows}
 use Rattle.fib_shared.proofs.Taking.{not_held}
-use Rattle.fib_shared.proofs.Interning.{given_else, kept_before, kept_still, one_less, one_more, record_up, taken_else, taken_in}
+use Rattle.fib_shared.proofs.Interning.{given_else, kept_before, kept_still, one_less, one_more, record_up, taken_else, taken_in, used_before}
 
 -- a number is stored into a Drop cell: no edge comes, and none is retired
 
@@ -246,6 +247,18 @@ module _ (p q : Plane) (told : sound.IsPlane p) (after : sound.IsPlane q) (r : A
           let old : u.record_of r ≡ Some x = ap u.record_of (sym (kept_down p.records told.interned r k is).1) ∙ record_up p.records told.interned x k there in
           ap v.record_of same ∙ (taken_in p.records q.records told.interned after.interned r x t.takes ∙ (sym old ∙ ap u.record_of (sym same)))
 
+  -- to a new object no edge leads
+  new_alone : users_of_record p.records r ≡ 0 → HasIn v x → ⊥
+  new_alone none h = by_row (kept_of p.records x) refl
+    where
+      by_row : (e : Option (Kept AdjacencyRecord)) → kept_of p.records x ≡ e → ⊥
+      by_row None is = (let f = t.fresh is in apart f.0 f.1 x (live_down p told x (edge_live u h.0 h.1 h.2 x h.3 (kept_so.1 h.0 h.1 x h.2 h.3 h.4))) refl)
+      by_row (Some k) is =
+          let same : users_of_record p.records r ≡ users_of p.records x = used_before p.records q.records told.interned after.interned r x t.takes in
+          let n : users_of p.records x ≡ k.users = ap users_in is in
+          let some = told.interned.used k (kept_contains p.records x k is) in
+          omega (arith, none, same, n, some)
+
   pub took_seen : TookRecord u v r x
   took_seen = record {
     here = taken_in p.records q.records told.interned after.interned r x t.takes;
@@ -258,6 +271,7 @@ module _ (p q : Plane) (told : sound.IsPlane p) (after : sound.IsPlane q) (r : A
     held = kept_so.3;
     free = kept_so.4;
     same = same_free;
+    alone = new_alone;
     stores = kept_so.5;
     spare = t.spare;
   }
@@ -404,6 +418,49 @@ module _ (p q : Plane) (told : sound.IsPlane p) (after : sound.IsPlane q) (m : A
     | inr ne ↦ (let c = r.3 y ne in held_same p.board p.board p.objects mid.objects y (λ h. omega arith) (λ h. omega arith) (λ h. adjacency_kept p.objects mid.objects r.0 r.1 r.2 y))
   ]
 
+  -- an object without a hold and without an edge into it is free
+  freed_object : users_of p.records o ≡ 1 → (HasIn w o → ⊥) → free_in p.objects + 1 ≤ free_in q.objects
+  freed_object last none =
+      let was = live_at p.objects o live_o in
+      let inside : o < length p.objects = live_in p.objects o live_o in
+      let no_edge : into (union_of p.board) o ≡ 0 = elim (cases_lt 0 (into (union_of p.board) o)) [
+        | inl some ↦ absurd (none (into_up p told o some))
+        | inr le ↦ omega (arith, le)
+      ] in
+      let given : given_objects p o ≡ released p o = ap (λ (t : Bool). if t then released p o else p.objects) (eq-eqb (users_of p.records o) 1 last) in
+      let most = (told.counted o).most in
+      let count : count_of (given_objects p o) o ≡ 0 = ap (λ (xs : List (Option Object)). count_of xs o) given ∙ (count_same p.objects o (count_of p.objects o - 1) was.0 was.1 ∙ (let z : count_of p.objects o - 1 ≡ 0 = omega (arith, most, no_edge) in z)) in
+      let fewer = g.swept.fewer o in
+      let gone : at q.objects o ≡ None = gone_at (at q.objects o) refl (omega (arith, fewer, count)) in
+      let cleared : free_in (set p.objects o None) ≤ free_in q.objects = free_grows (set p.objects o None) q.objects (let a = length-set p.objects o None in let b = size in let c = r.0 in omega (arith, a, b, c))
+      (λ i n. elim (cases_eq i o) [
+        | inl same ↦ ap (at q.objects) same ∙ gone
+        | inr ne ↦ still_none i (sym (get_or-set_other p.objects o i None None ne) ∙ n)
+      ]) in
+      let one_more = free_set p.objects o None inside in
+      let taken : ◌≡◌ {A = ℕ} (cond (is_free (at p.objects o)) 1 0) 0 = ap (λ (y : Option Object). cond (is_free y) 1 0) was.1 in
+      omega (arith, cleared, one_more, taken)
+    where
+      gone_at : (y : Option Object) → at q.objects o ≡ y → count_of q.objects o ≤ 0 → at q.objects o ≡ None
+      gone_at None is le = is
+      gone_at (Some y) is le = absurd (let some = after.taken o y is in let n : count_of q.objects o ≡ y.count = ap count_in is in omega (arith, some, n, le))
+
+      still_none : (i : ℕ) → at p.objects i ≡ None → at q.objects i ≡ None
+      still_none i n = by_case (at q.objects i) refl
+        where
+          by_case : (y : Option Object) → at q.objects i ≡ y → at q.objects i ≡ None
+          by_case None is = is
+          by_case (Some y) is = absurd (let a = g.swept.taken i y is in let b = r.2 i a.0 a.1 in none_some b.0 (sym n ∙ b.1))
+
+  freed : (x : ℕ) → w.record_of m ≡ Some x → w.users m ≡ 1 → (HasIn w x → ⊥) → w.free + 1 ≤ z.free
+  freed x is last none =
+      let same : o ≡ x = some_one o x (sym e ∙ is) in
+      let users : users_of p.records o ≡ 1 = ap users_in mine.1 ∙ (sym (ap users_in mine.3) ∙ last) in
+      freed_object users (λ h. none (subst (HasIn w) same h))
+    where
+      some_one : (a b : ℕ) → Some a ≡ Some b → a ≡ b
+      some_one a b s = cc
+
   pub gave_seen : GaveRecord w z m
   gave_seen =
       let s = swept_seen mid q g.swept after size long drops g.spare in
@@ -422,6 +479,7 @@ module _ (p q : Plane) (told : sound.IsPlane p) (after : sound.IsPlane q) (m : A
           spare = s.spare;
         };
         held = held_eq;
+        freed = freed;
         stores = (let a = t.more in let b = t.few in record { more = a; few = omega arith });
       }
 

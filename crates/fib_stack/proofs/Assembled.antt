@@ -101,10 +101,10 @@ holds_hop_only (u ∷ us) (answers.Glean i) none h = holds_hop_only us (answers.
 holds_hop_only (u ∷ us) (answers.Hop i a x) none h = none
 
 -- what is taken for a list of paths is what the list has
-abbrev end_of : AdjacencyRecord → End
+abbrev pub end_of : AdjacencyRecord → End
 end_of r = answers.Hop r.interface r.next_hop r.mac
 
-abbrev any_end : List AdjacencyRecord → End → Bool
+abbrev pub any_end : List AdjacencyRecord → End → Bool
 any_end rs end = list_any (λ r. same_end (end_of r) end) rs
 
 held_records : (us : List Use) (end : End) → holds_in us end ≡ any_end (map record_used us) end
@@ -124,7 +124,7 @@ one_aim : (m : Aim) (end : End) (rest : Bool) (rs : List AdjacencyRecord) → re
 one_aim (aims.Ends f) end rest rs e = one_end f end rest rs e
 one_aim (aims.On t) end rest rs e = e
 
-hops_listed : (ms : List Marked) (end : End) → has_hop ms end ≡ any_end (records_for ms) end
+pub hops_listed : (ms : List Marked) (end : End) → has_hop ms end ≡ any_end (records_for ms) end
 hops_listed [] end = refl
 hops_listed (m ∷ ms) end = one_aim m.aim end (has_hop ms end) (records_for ms) (hops_listed ms end)
 

@@ -1,6 +1,6 @@
 -- What a turn leaves is what stood before it.
 use Rattle.std.proofs.Common.{◌≡◌, ℕ, ◌%◌, ◌<◌, ◌≤◌, inl, ⊎_elim, Bool, true, false, true≢false, not, ◌&&◌, List, refl, sym, ap, ◌∙◌, subst, arith}
-use Rattle.std.specs.Prelude.{Contains, Err, Ok, OnOk, Option, Result, Some, None, ◌⊎◌, if◌then◌else◌}
+use Rattle.std.specs.Prelude.{Contains, Err, Ok, OnErr, OnOk, Option, Result, Some, None, ◌⊎◌, if◌then◌else◌}
 use Rattle.std.proofs.lemmas.Map.Made.{is_member-Decides}
 use native.Mathlib.Decide.{ℕ_discrete}
 use mathlib.Core.Logic.{dite}
@@ -15,7 +15,7 @@ use Rattle.fib_steady.specs.Aims.{IsLasting}
 use Rattle.fib_joined.specs.Promise.{Promise, MayClear, MayLetGo}
 use Rattle.fib_joined.specs.View.{View, IsBalance, IsLetGo, IsPlane}
 use Rattle.fib_ply.specs.Rows.{held}
-use Rattle.fib_ply.specs.Tables.{Table, Stands, object_in}
+use Rattle.fib_ply.specs.Tables.{Came, Table, Stands, object_in}
 use Rattle.fib_queue.specs.Queues.{rank_in}
 use Rattle.fib_serving.specs.Matches.{FitsVersions, added, removed}
 use Rattle.fib_serving.specs.Stack.{is_some}
@@ -77,6 +77,9 @@ whole_is e h z =
     let c : e.bits % 4294967296 ≡ 0 = subst (λ (n : ℕ). e.bits % size_of n ≡ 0) z h.cleared in
     let b : e.bits ≡ 0 = bits_none e.bits h.fits c in
     λ k. record { bits = b k; len = z k }
+
+pub none_came : (look : Prefix → Option ℕ) (e : Prefix) → Came look e 0
+none_came look e = record { few = omega arith; bare = λ d lt le needs. absurd (omega (arith, lt, le)) }
 
 -- 0.0.0.0/0 is in every table, and among all entries
 pub some_length : (p : Promise) (t : Table) (v : View) (e : Prefix) → Stands p t v → IsPrefix e → object_in t e ≡ None → 1 ≤ e.len
@@ -159,3 +162,15 @@ waits_of S rank p v s e j least = let q = some_rank (rank_in s.queue e) least.qu
 pub on_ok : {A B : Type 0} {P Q : Type 0} (r : Result A B) → (P → Q) → OnOk r P → OnOk r Q
 on_ok (Ok x) f h = f h
 on_ok (Err e) f h = tt
+
+pub both_ok : {A B : Type 0} {P Q R : Type 0} (r : Result A B) → (P → Q → R) → OnOk r P → OnOk r Q → OnOk r R
+both_ok (Ok x) f h k = f h k
+both_ok (Err e) f h k = tt
+
+pub both_err : {A B : Type 0} {P Q R : Type 0} (r : Result A B) → (P → Q → R) → OnErr r P → OnErr r Q → OnErr r R
+both_err (Ok x) f h k = tt
+both_err (Err e) f h k = f h k
+
+pub either_way : {A B : Type 0} {P Q R : Type 0} (r : Result A B) → (P → R) → (Q → R) → OnOk r P → OnErr r Q → R
+either_way (Ok x) f g h k = f h
+either_way (Err e) f g h k = g k

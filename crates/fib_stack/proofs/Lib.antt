@@ -24,3 +24,8 @@ pub mod Moving
 pub mod Beginning
 pub mod Turning
 pub mod Retrying
+pub mod Newly
+pub mod Freeing
+pub mod Counted
+pub mod Rooming
+pub mod Making

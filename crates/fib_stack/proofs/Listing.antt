@@ -166,8 +166,9 @@ pub took_none : (u : View) → TookAll u u []
 took_none u = record { users = λ m. omega arith; kept = λ m h. refl; objects = tt; balances = balances_none u; free = omega arith; stored = omega arith; spare = omega arith }
 
 -- taken and given back
-pub same_after : (u v w : View) (xs : List Use) → IsPlane u → IsPlane w → TookAll u v xs → GaveAll v w xs → SamePlane u w
-same_after u v w xs before after took gave = record {
+pub same_after : (u v w : View) (xs : List Use) → IsPlane u → IsPlane w → TookAll u v xs → GaveAll v w xs → u.free ≤ w.free → SamePlane u w
+same_after u v w xs before after took gave free = record {
+  free = free;
   users = users;
   record_of = λ m. by_users m (u.users m) refl;
   balances = balances_then u v w took.balances gave.balances;

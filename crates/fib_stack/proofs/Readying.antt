@@ -33,6 +33,7 @@ room_same u v h = record {
   users = λ m. ap (λ (w : View). w.users m) h.same;
   record_of = λ m. ap (λ (w : View). w.record_of m) h.same;
   balances = room_balances u v h;
+  free = let e = ap (λ (w : View). w.free) h.same in omega (arith, e);
   stored = let e = ap (λ (w : View). w.stored) h.same in omega (arith, e);
   spare = h.more;
 }
@@ -46,6 +47,7 @@ same_then u v w f g = record {
     fresh = λ x b. f.balances.fresh x (g.balances.fresh x b);
     cells = λ x k b. g.balances.cells x k (f.balances.stay x b) ∙ f.balances.cells x k b;
   };
+  free = omega (arith, f.free, g.free);
   stored = omega (arith, f.stored, g.stored);
   spare = omega (arith, f.spare, g.spare);
 }

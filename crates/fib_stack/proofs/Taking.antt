@@ -23,6 +23,9 @@ pub failed_same : (u v : View) (o : Option AdjacencyRecord) (us vs : List Use) (
 failed_same u v None us vs e h = absurd h
 failed_same u v (Some m) us vs e h = (h.0, h.1)
 
+pub failed_kept : (u v : View) (o : Option AdjacencyRecord) (us vs : List Use) (e : Want) (r : Result Unit Want) → r ≡ Err e → TookFor u v o us vs r → (v ≡ u) × (vs ≡ us)
+failed_kept u v o us vs e r is took = failed_same u v o us vs e (subst (λ (q : Result Unit Want). TookFor u v o us vs q) is took)
+
 -- want of an object says that none is free
 pub failed_short : (u v : View) (o : Option AdjacencyRecord) (us vs : List Use) (e : Want) (r : Result Unit Want) → r ≡ Err e → TookFor u v o us vs r → e ≡ wants.Object → u.free ≡ 0
 failed_short u v o us vs e r is took = by_record o (subst (λ (q : Result Unit Want). TookFor u v o us vs q) is took)
@@ -63,7 +66,7 @@ assoc : (a b c : List AdjacencyRecord) → a ++ (b ++ c) ≡ (a ++ b) ++ c
 assoc [] b c = refl
 assoc (x ∷ a) b c = ap (λ l. x ∷ l) (assoc a b c)
 
-records_take : (ms : List Marked) (i : ℕ) (d : Marked) → i < length ms → records_for (take (suc i) ms) ≡ records_for (take i ms) ++ option_to_list (record_for (get_or ms i d).aim)
+pub records_take : (ms : List Marked) (i : ℕ) (d : Marked) → i < length ms → records_for (take (suc i) ms) ≡ records_for (take i ms) ++ option_to_list (record_for (get_or ms i d).aim)
 records_take [] i d lt = absurd (omega arith)
 records_take (m ∷ ms) zero d lt = sym (append_none (option_to_list (record_for m.aim)))
 records_take (m ∷ ms) (suc i) d lt =

@@ -9,4 +9,5 @@ pub mod Waking
 pub mod Joined
 pub mod Turns
 pub mod Done
+pub mod Room
 pub mod inner

@@ -1,6 +1,7 @@
 -- Adjacency records that are taken, or given back, one user each.
-use Rattle.std.specs.Prelude.{◌≡◌, ℕ, ◌+◌, ◌<◌, ◌≤◌, Bool, List, [], ◌∷◌, ◌++◌, length, flat_map, option_to_list, Option, Some, None, Result, Ok, Err}
+use Rattle.std.specs.Prelude.{◌≡◌, ℕ, ◌+◌, ◌<◌, ◌≤◌, Bool, List, [], ◌∷◌, ◌++◌, length, flat_map, option_to_list, Contains, Option, Some, None, Result, Ok, Err}
 use Rattle.std.specs.List.{AllByRecursion, list_any}
+use Rattle.fib_reach.specs.Walks.{AllDiffer}
 use Rattle.fib_resolve.specs.declared.aims.Aim.{Aim}
 use Rattle.fib_resolve.specs.declared.aims.Aim.TheVariants as aims
 use Rattle.fib_resolve.specs.declared.aims.Marked.{Marked}
@@ -10,7 +11,7 @@ use Rattle.fib_pool.specs.declared.object.AdjacencyRecord.{AdjacencyRecord}
 use Rattle.fib_ledger.specs.declared.ledger.Use.{Use}
 use Rattle.fib_ledger.specs.Ledgers.{record_used, times}
 use Rattle.fib_serving.specs.Kept.{same_end}
-use Rattle.fib_joined.specs.View.{View, IsBalance, TookRecord}
+use Rattle.fib_joined.specs.View.{View, HasIn, IsBalance, TookRecord}
 use Rattle.fib_stack.specs.declared.records.Want.{Want}
 use Rattle.fib_stack.specs.declared.records.Want.TheVariants as wants
 
@@ -70,6 +71,7 @@ pub record SamePlane (u v : View) : Type 0 where
   pub users : (m : AdjacencyRecord) → v.users m ≡ u.users m
   pub record_of : (m : AdjacencyRecord) → v.record_of m ≡ u.record_of m
   pub balances : SameBalances u v
+  pub free : u.free ≤ v.free
   pub stored : u.stored ≤ v.stored
   pub spare : u.spare ≤ v.spare
 
@@ -79,3 +81,26 @@ TookFor u v None old new (Ok x) = (v ≡ u) × (new ≡ old)
 TookFor u v None old new (Err e) = ⊥
 TookFor u v (Some m) old new (Ok x) = (o : ℕ) × TookRecord u v m o × (new ≡ old ++ (record { interface = m.interface; next_hop = m.next_hop; mac = m.mac; object = o }) ∷ [])
 TookFor u v (Some m) old new (Err e) = (v ≡ u) × (new ≡ old) × (e ≡ wants.Object → u.free ≡ 0)
+
+-- these records have no users, and stand in the list; each is named once
+pub record AreNew (u : View) (rs ms : List AdjacencyRecord) : Type 0 where
+  pub apart : AllDiffer ms
+  pub new : AllByRecursion (λ m. (u.users m ≡ 0) × Contains rs m) ms
+
+-- objects were taken for new records of the list alone, and as many others
+abbrev pub TookNew : View → View → List AdjacencyRecord → ℕ → Type 0
+TookNew u v rs others = (ms : List AdjacencyRecord) × AreNew u rs ms × (u.free ≤ v.free + length ms + others)
+
+-- fewer objects are free than some new records of the list need, and as many others
+abbrev pub LacksFor : View → List AdjacencyRecord → ℕ → Type 0
+LacksFor u rs others = (ms : List AdjacencyRecord) × AreNew u rs ms × (u.free < length ms + others)
+
+-- no edge leads to the record's object
+abbrev pub IsAlone : View → AdjacencyRecord → Type 0
+IsAlone u m = (x : ℕ) → u.record_of m ≡ Some x → HasIn u x → ⊥
+
+-- an object was freed for each of these records that lost all its users
+abbrev pub Freed : View → View → List Use → List AdjacencyRecord → Type 0
+Freed u v us ms =
+    (fs : List AdjacencyRecord) × (u.free + length fs ≤ v.free)
+    × ((m : AdjacencyRecord) → Contains ms m → u.users m ≡ times m us → 0 < times m us → Contains fs m)

@@ -137,6 +137,11 @@ pub record GotObject (u v : View) (balances : Prefix → Option ℕ) (e : Prefix
   pub stored : u.stored ≤ v.stored
   pub spare : u.spare ≤ v.spare
 
+-- how many objects are taken for a balance: one, unless it is there
+abbrev pub balances_for : Option ℕ → ℕ
+balances_for None = 1
+balances_for (Some o) = 0
+
 -- the turn is that of an entry of the least rank
 pub record IsTurnOf (S : Tables) (rank : Prefix → ℕ) (p : Promise) (v : View) (s : Parts) (e : Prefix) : Type 0 where
   pub joined : Joined S rank p v s

@@ -8,8 +8,9 @@ ghost use Rattle.fib_entries.specs.Known.{StandsFor, rank_of};
 ghost use Rattle.fib_steady.specs.Names.{Names};
 ghost use Rattle.fib_joined.specs.Frames.{IsQuiet};
 ghost use Rattle.fib_joined.specs.Promise.{Serves};
-ghost use Rattle.fib_stack.specs.Records.{SamePlane};
-ghost use Rattle.fib_stack.specs.Turns.{HasRoomFor, IsTurnOf, IsUnderway, parts_of};
+ghost use Rattle.fib_ply.specs.Tables.{object_in};
+ghost use Rattle.fib_stack.specs.Records.{LacksFor, SamePlane, TookNew, records_for};
+ghost use Rattle.fib_stack.specs.Turns.{HasRoomFor, IsTurnOf, IsUnderway, balances_for, parts_of};
 
 use crate::ready::{make_room, object_for, read};
 use crate::records::{Want, give_all, take_all};
@@ -37,6 +38,8 @@ pub fn begin<P: Objects>(
     ensures parts { parts_of table.new stack.new queue.new ≡ parts_of table.old stack.old queue.old }
     ensures err { OnErr result (SamePlane (P.view on.old) (P.view on.new)) }
     ensures short { (S : TablesValue) → StandsFor entries.now S → IsErrOf result Want.Object → (P.view on.old).free < 8 + length (marked_list S entry) }
+    ensures taken { (S : TablesValue) → StandsFor entries.now S → OnOk result (TookNew (P.view on.old) (P.view on.new) (records_for (marked_list S entry)) (balances_for (object_in table.old entry))) }
+    ensures lacks { (S : TablesValue) → StandsFor entries.now S → IsErrOf result Want.Object → LacksFor (P.view on.old) (records_for (marked_list S entry)) 8 }
     ensures quiet { (look : PrefixValue → Option ℕ) → IsQuiet look (P.view on.old) (P.view on.new) }
     ensures serves { (n : Names) → Serves (P.promise on.old) n (P.view on.old) → Serves (P.promise on.old) n (P.view on.new) }
     ensures promise { P.promise on.new ≡ P.promise on.old }

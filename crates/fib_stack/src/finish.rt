@@ -6,7 +6,7 @@ ghost use Rattle.fib_ledger.specs.Deferred.{late_at, late_count};
 ghost use Rattle.fib_joined.specs.Frames.{Beside};
 ghost use Rattle.fib_joined.specs.Promise.{Allows, IsBegun};
 ghost use Rattle.fib_joined.specs.View.{IsBalance, View};
-ghost use Rattle.fib_ply.specs.Tables.{Stands, object_in};
+ghost use Rattle.fib_ply.specs.Tables.{Came, Stands, object_in};
 ghost use Rattle.fib_serving.specs.Matches.{FitsVersions, IsSometime};
 ghost use Rattle.fib_stack.specs.Joined.{Joined, state_in};
 ghost use Rattle.fib_stack.specs.Turns.{HasRoomFor, IsRestacked, IsUnderway, parts_of};
@@ -40,6 +40,7 @@ fn place<P: Objects>(on: &mut P, table: &mut PrefixTable, entry: Prefix, object:
     ensures stands { Stands (P.promise on.new) table.new (P.view on.new) }
     ensures fits { FitsVersions (P.promise on.new).versions (object_in table.new) }
     ensures beside { Beside (P.view on.old) (P.view on.new) }
+    ensures came { (count : ℕ) × Came (object_in table.old) entry count × ((P.view on.old).free ≤ (P.view on.new).free + count) }
     ensures stored { (P.view on.old).stored ≤ (P.view on.new).stored }
     ensures promise { P.promise on.new ≡ P.promise on.old }
 {
@@ -61,6 +62,7 @@ pub fn finish<P: Objects>(
     requires room { HasRoomFor (P.view on.old) stack.old table.old queue.old (length plan.uses.items) (length plan.woken.items) }
     ensures turn { (S : TablesValue) (rank : PrefixValue → ℕ) (v0 : View) → IsUnderway S rank (P.promise on.old) v0 (P.view on.old) (parts_of table.old stack.old queue.old) plan → IsRestacked S plan.entry (state_in v0 (parts_of table.old stack.old queue.old)) (state_in (P.view on.new) (parts_of table.new stack.new queue.new)) }
     ensures joined { (S : TablesValue) (rank : PrefixValue → ℕ) (v0 : View) → IsUnderway S rank (P.promise on.old) v0 (P.view on.old) (parts_of table.old stack.old queue.old) plan → Joined S rank (P.promise on.old) (P.view on.new) (parts_of table.new stack.new queue.new) }
+    ensures came { (count : ℕ) × Came (object_in table.old) plan.entry count × ((P.view on.old).free ≤ (P.view on.new).free + count) }
     ensures count { result ≡ late_count (late_at stack.new.late.members plan.entry) 16 }
     ensures stored { (P.view on.old).stored ≤ (P.view on.new).stored }
     ensures promise { P.promise on.new ≡ P.promise on.old }

@@ -31,6 +31,7 @@ fn take_out<P: Objects>(on: &mut P, table: &mut PrefixTable, entry: Prefix)
     requires apart { (d : PrefixValue) (o : ℕ) → object_in table.old entry ≡ Some o → object_in table.old d ≡ Some o → d ≡ entry }
     requires spare { 16 * table.old.plies ≤ (P.view on.old).spare }
     ensures went { WentFrom (P.view on.old) (P.view on.new) (object_in table.old entry) }
+    ensures free { (P.view on.old).free ≤ (P.view on.new).free }
     ensures here { object_in table.new entry ≡ None }
     ensures others { (d : PrefixValue) → (d ≡ entry → ⊥) → object_in table.new d ≡ object_in table.old d }
     ensures stands { Stands (P.promise on.new) table.new (P.view on.new) }
@@ -57,6 +58,7 @@ pub fn leave<P: Objects>(
     ensures turn { (S : TablesValue) (rank : PrefixValue → ℕ) → Joined S rank (P.promise on.old) (P.view on.old) (parts_of table.old stack.old queue.old) → Removed entry (state_in (P.view on.old) (parts_of table.old stack.old queue.old)) (state_in (P.view on.new) (parts_of table.new stack.new queue.new)) }
     ensures joined { (S : TablesValue) (rank : PrefixValue → ℕ) → IsRanked S rank → Joined S rank (P.promise on.old) (P.view on.old) (parts_of table.old stack.old queue.old) → IsLeast rank (state_in (P.view on.old) (parts_of table.old stack.old queue.old)) entry → has_entry S entry ≡ false → Joined S rank (P.promise on.old) (P.view on.new) (parts_of table.new stack.new queue.new) }
     ensures clear { (k : ℕ) → late_at stack.new.late.members entry k ≡ None }
+    ensures free { (P.view on.old).free ≤ (P.view on.new).free }
     ensures stored { (P.view on.old).stored ≤ (P.view on.new).stored }
     ensures promise { P.promise on.new ≡ P.promise on.old }
 {

@@ -15,7 +15,7 @@ ghost use Rattle.fib_ply.specs.Tables.{object_in};
 ghost use Rattle.fib_stack.specs.Joined.{Joined, state_in};
 ghost use Rattle.fib_stack.specs.Records.{SamePlane};
 ghost use Rattle.fib_stack.specs.Steps.{IsLeast};
-ghost use Rattle.fib_stack.specs.Turns.{GotObject, HasRoomFor, IsRead, IsUnderway, parts_of};
+ghost use Rattle.fib_stack.specs.Turns.{GotObject, HasRoomFor, IsRead, IsUnderway, balances_for, parts_of};
 ghost use Rattle.fib_stack.specs.Waking.{are_among, have_ranks};
 
 use crate::records::{Want, give_all, take_all};
@@ -125,6 +125,7 @@ pub fn object_for<P: Objects>(on: &mut P, table: &PrefixTable, entry: Prefix) ->
     ensures some { IfSome result (GotObject (P.view on.old) (P.view on.new) (object_in table.now) entry) }
     ensures none { IfNone result (P.view on.new ≡ P.view on.old) }
     ensures short { IfNone result ((P.view on.old).free < 8) }
+    ensures taken { (P.view on.old).free ≤ (P.view on.new).free + balances_for (object_in table.now entry) }
     ensures quiet { (look : PrefixValue → Option ℕ) → IsQuiet look (P.view on.old) (P.view on.new) }
     ensures serves { (n : Names) → Serves (P.promise on.old) n (P.view on.old) → Serves (P.promise on.old) n (P.view on.new) }
     ensures promise { P.promise on.new ≡ P.promise on.old }

@@ -1,5 +1,6 @@
 // Adjacency records, taken all or none, and given back.
-ghost use Rattle.std.specs.Prelude.{◌≡◌, ◌+◌, ◌-◌, ◌^◌, ◌<◌, ◌≤◌, ℕ, [], IsErrOf, OnErr, OnOk, Option, Some, length, map, vec_capacity};
+ghost use Rattle.std.specs.Prelude.{◌≡◌, ◌+◌, ◌-◌, ◌^◌, ◌<◌, ◌≤◌, ℕ, [], List, IsErrOf, OnErr, OnOk, Option, Some, length, map, vec_capacity};
+ghost use Rattle.std.specs.List.{AllByRecursion};
 ghost use Rattle.fib_addr.specs.Prefixes.{Prefix};
 ghost use Rattle.fib_pool.specs.declared.object.AdjacencyRecord.{AdjacencyRecord as Record};
 ghost use Rattle.fib_pool.specs.Records.{adjacency};
@@ -7,7 +8,7 @@ ghost use Rattle.fib_ledger.specs.Ledgers.{record_used, times, used_by};
 ghost use Rattle.fib_steady.specs.Names.{Names};
 ghost use Rattle.fib_joined.specs.Frames.{IsQuiet};
 ghost use Rattle.fib_joined.specs.Promise.{MayClear, Serves};
-ghost use Rattle.fib_stack.specs.Records.{AreObjects, GaveAll, SamePlane, TookAll, TookFor, record_for, records_for};
+ghost use Rattle.fib_stack.specs.Records.{AreObjects, Freed, GaveAll, IsAlone, LacksFor, SamePlane, TookAll, TookFor, TookNew, record_for, records_for};
 
 use fib_addr::{Addr, Mac};
 use fib_joined::Objects;
@@ -29,6 +30,7 @@ pub fn give_all<P: Objects>(on: &mut P, uses: &[Use])
     requires objects { AreObjects (P.view on.old) uses.now }
     requires promise { MayClear (P.promise on.old) (P.view on.old) }
     ensures gave { GaveAll (P.view on.old) (P.view on.new) uses.now }
+    ensures freed { (ms : List Record) → AllByRecursion (IsAlone (P.view on.old)) ms → Freed (P.view on.old) (P.view on.new) uses.now ms }
     ensures quiet { (look : Prefix → Option ℕ) → IsQuiet look (P.view on.old) (P.view on.new) }
     ensures serves { (n : Names) → Serves (P.promise on.old) n (P.view on.old) → Serves (P.promise on.old) n (P.view on.new) }
     ensures promise { P.promise on.new ≡ P.promise on.old }
@@ -119,7 +121,8 @@ fn take_for<P: Objects>(on: &mut P, aim: Aim, uses: &mut Vec<Use>) -> Result<(),
 }
 
 /// Takes a user of each record at which a path ends, or of none: after a fault all is as it was, but for the count of stores. There must be
-/// room for them in the list, which must be empty. `Object` comes only where fewer objects are free than there are paths.
+/// room for them in the list, which must be empty. An object goes only to a record without users: `Object` comes only where fewer objects are free
+/// than such records need.
 pub fn take_all<P: Objects>(on: &mut P, marks: &[Marked], uses: &mut Vec<Use>) -> Result<(), Want>
     requires none { uses.old.items ≡ [] }
     requires room { length marks.now ≤ vec_capacity uses.old }
@@ -129,6 +132,9 @@ pub fn take_all<P: Objects>(on: &mut P, marks: &[Marked], uses: &mut Vec<Use>) -
     ensures records { OnOk result (map record_used uses.new.items ≡ records_for marks.now) }
     ensures err { OnErr result (SamePlane (P.view on.old) (P.view on.new)) }
     ensures short { IsErrOf result Want.Object → (P.view on.old).free < length marks.now }
+    ensures new { OnOk result (TookNew (P.view on.old) (P.view on.new) (records_for marks.now) 0) }
+    ensures alone { OnOk result ((m : Record) → (P.view on.old).users m ≡ 0 → IsAlone (P.view on.new) m) }
+    ensures lacks { IsErrOf result Want.Object → LacksFor (P.view on.old) (records_for marks.now) 1 }
     ensures quiet { (look : Prefix → Option ℕ) → IsQuiet look (P.view on.old) (P.view on.new) }
     ensures serves { (n : Names) → Serves (P.promise on.old) n (P.view on.old) → Serves (P.promise on.old) n (P.view on.new) }
     ensures promise { P.promise on.new ≡ P.promise on.old }

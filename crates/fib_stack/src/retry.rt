@@ -9,6 +9,7 @@ ghost use Rattle.fib_ledger.specs.Deferred.{late_at};
 ghost use Rattle.fib_joined.specs.Frames.{IsQuiet};
 ghost use Rattle.fib_stack.specs.Done.{StaysLate};
 ghost use Rattle.fib_stack.specs.Joined.{Joined, queued_in, state_in};
+ghost use Rattle.fib_stack.specs.Room.{HasRoomLeft};
 ghost use Rattle.fib_stack.specs.Steps.{Retried};
 ghost use Rattle.fib_stack.specs.Turns.{parts_of};
 ghost use Rattle.fib_stack.specs.inner.Growing.{Grew};
@@ -71,6 +72,7 @@ impl Stack {
         ensures retired { (P.view on.new).retired ≡ (P.view on.old).retired }
         ensures quiet { (look : PrefixValue → Option ℕ) → IsQuiet look (P.view on.old) (P.view on.new) }
         ensures free { (P.view on.old).free ≤ (P.view on.new).free }
+        ensures room { (S : TablesValue) → HasRoomLeft S (P.view on.old).free (state_in (P.view on.old) (parts_of table.now self.old queue.now)) → HasRoomLeft S (P.view on.new).free (state_in (P.view on.new) (parts_of table.now self.new queue.now)) }
         ensures stored { (P.view on.old).stored ≤ (P.view on.new).stored }
         ensures promise { P.promise on.new ≡ P.promise on.old }
     {

@@ -45,4 +45,6 @@ fn each_law() {
     stores::where_all_is_calm_nothing_closes_a_cycle();
     between::a_scan_keeps_what_stands();
     between::so_does_room();
+    between::where_the_size_fits_there_is_room();
+    between::what_takes_no_object_leaves_room();
 }

@@ -10,6 +10,7 @@ ghost use Rattle.fib_joined.specs.Frames.{IsQuiet};
 ghost use Rattle.fib_stack.specs.Done.{IsCounted, IsStored, IsTaken, TurnDone};
 ghost use Rattle.fib_stack.specs.Joined.{Joined, state_in};
 ghost use Rattle.fib_stack.specs.Records.{SamePlane};
+ghost use Rattle.fib_stack.specs.Room.{HasRoomLeft};
 ghost use Rattle.fib_stack.specs.Steps.{IsLeast, Removed};
 ghost use Rattle.fib_stack.specs.Turns.{IsRestacked, IsTurnOf, parts_of};
 
@@ -66,6 +67,8 @@ fn restack<P: Objects>(
     ensures parts { OnErr result (parts_of table.new stack.new queue.new ≡ parts_of table.old stack.old queue.old) }
     ensures short { (S : TablesValue) → StandsFor entries.now S → IsErrOf result Want.Object → (P.view on.old).free < 8 + length (marked_list S entry) }
     ensures quiet { OnErr result ((look : PrefixValue → Option ℕ) → IsQuiet look (P.view on.old) (P.view on.new)) }
+    ensures finds { (S : TablesValue) → StandsFor entries.now S → IsTurnOf S (rank_of entries.now.rows) (P.promise on.old) (P.view on.old) (parts_of table.old stack.old queue.old) entry → HasRoomLeft S (P.view on.old).free (state_in (P.view on.old) (parts_of table.old stack.old queue.old)) → IsErrOf result Want.Object → ⊥ }
+    ensures left { (S : TablesValue) → StandsFor entries.now S → IsTurnOf S (rank_of entries.now.rows) (P.promise on.old) (P.view on.old) (parts_of table.old stack.old queue.old) entry → HasRoomLeft S (P.view on.old).free (state_in (P.view on.old) (parts_of table.old stack.old queue.old)) → HasRoomLeft S (P.view on.new).free (state_in (P.view on.new) (parts_of table.new stack.new queue.new)) }
     ensures promise { P.promise on.new ≡ P.promise on.old }
 {
     let plan = begin(on, stack, entries, table, queue, entry)?;
@@ -86,6 +89,7 @@ fn drop_out<P: Objects>(
     ensures joined { (S : TablesValue) (rank : PrefixValue → ℕ) → IsRanked S rank → Joined S rank (P.promise on.old) (P.view on.old) (parts_of table.old stack.old queue.old) → IsLeast rank (state_in (P.view on.old) (parts_of table.old stack.old queue.old)) entry → has_entry S entry ≡ false → Joined S rank (P.promise on.old) (P.view on.new) (parts_of table.new stack.new queue.new) }
     ensures count { IfOk result (λ n. n ≡ late_count (late_at stack.new.late.members entry) 16) }
     ensures stored { OnOk result ((P.view on.old).stored ≤ (P.view on.new).stored) }
+    ensures free { OnOk result ((P.view on.old).free ≤ (P.view on.new).free) }
     ensures err { OnErr result (SamePlane (P.view on.old) (P.view on.new)) }
     ensures parts { OnErr result (parts_of table.new stack.new queue.new ≡ parts_of table.old stack.old queue.old) }
     ensures short { IsErrOf result Want.Object → ⊥ }
@@ -117,6 +121,8 @@ fn take<P: Objects>(
     ensures parts { OnErr result (parts_of table.new stack.new queue.new ≡ parts_of table.old stack.old queue.old) }
     ensures short { (S : TablesValue) → StandsFor entries.now S → IsErrOf result Want.Object → (P.view on.old).free < 8 + length (marked_list S entry) }
     ensures quiet { OnErr result ((look : PrefixValue → Option ℕ) → IsQuiet look (P.view on.old) (P.view on.new)) }
+    ensures finds { (S : TablesValue) → StandsFor entries.now S → Joined S (rank_of entries.now.rows) (P.promise on.old) (P.view on.old) (parts_of table.old stack.old queue.old) → IsLeast (rank_of entries.now.rows) (state_in (P.view on.old) (parts_of table.old stack.old queue.old)) entry → HasRoomLeft S (P.view on.old).free (state_in (P.view on.old) (parts_of table.old stack.old queue.old)) → IsErrOf result Want.Object → ⊥ }
+    ensures left { (S : TablesValue) → StandsFor entries.now S → Joined S (rank_of entries.now.rows) (P.promise on.old) (P.view on.old) (parts_of table.old stack.old queue.old) → IsLeast (rank_of entries.now.rows) (state_in (P.view on.old) (parts_of table.old stack.old queue.old)) entry → HasRoomLeft S (P.view on.old).free (state_in (P.view on.old) (parts_of table.old stack.old queue.old)) → HasRoomLeft S (P.view on.new).free (state_in (P.view on.new) (parts_of table.new stack.new queue.new)) }
     ensures promise { P.promise on.new ≡ P.promise on.old }
 {
     let _length = entry.len();
@@ -131,7 +137,8 @@ impl Stack {
     /// isn't there; a prefix that left the entries leaves the table, and its balance is let go.
     ///
     /// After a fault the prefix is still queued and all is as before, but for the count of stores. `Object` comes only where fewer objects are
-    /// free than the prefix has paths and eight: its balance, and a ply for each group of four bits below the root.
+    /// free than the prefix has paths and eight: its balance, and a ply for each group of four bits below the root. Where room was left since the
+    /// tables changed it never comes, and the turn leaves room for the next ones.
     pub fn turn<P: Objects>(
         &mut self,
         on: &mut P,
@@ -150,6 +157,8 @@ impl Stack {
         ensures parts { OnErr result (parts_of table.new self.new queue.new ≡ parts_of table.old self.old queue.old) }
         ensures short { IsErrOf result Want.Object → (e : PrefixValue) × IsLeast (rank_of entries.now.rows) (state_in (P.view on.old) (parts_of table.old self.old queue.old)) e × ((P.view on.old).free < 8 + length (marked_list tables.now e)) }
         ensures quiet { OnErr result ((look : PrefixValue → Option ℕ) → IsQuiet look (P.view on.old) (P.view on.new)) }
+        ensures finds { HasRoomLeft tables.now (P.view on.old).free (state_in (P.view on.old) (parts_of table.old self.old queue.old)) → IsErrOf result Want.Object → ⊥ }
+        ensures left { HasRoomLeft tables.now (P.view on.old).free (state_in (P.view on.old) (parts_of table.old self.old queue.old)) → HasRoomLeft tables.now (P.view on.new).free (state_in (P.view on.new) (parts_of table.new self.new queue.new)) }
         ensures promise { P.promise on.new ≡ P.promise on.old }
     {
         let before = on.stored();

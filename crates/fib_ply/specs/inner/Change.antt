@@ -172,6 +172,12 @@ GrowsTo u v a goal ply depth slot count =
     → (after : ℕ → ℕ → Bool) × (m : Paths) × IsAt wants after old new pos m v × IsCellOf m v a ply depth slot
     × IsGrown there after a goal depth × IsPaid n m u v count
 
+-- as many plies came as this: one for each depth on the path of the address, down to that one, where none was
+abbrev pub WereBare : View → ℕ → ℕ → ℕ → Type 0
+WereBare u a depth count =
+    (wants : Watch) (there : ℕ → ℕ → Bool) (old new : Look) (pos : ℕ) (n : Paths) → IsAt wants there old new pos n u
+    → (d : ℕ) → depth < d + count → d ≤ depth → there d (a / 2 ^ (32 - 4 * d)) ≡ true → ⊥
+
 -- a change is under way
 abbrev pub IsUnderWay : Promise → View → Type 0
 IsUnderWay p u = (wants : Watch) × (there : ℕ → ℕ → Bool) × (old : Look) × (new : Look) × (pos : ℕ) × (n : Paths) × IsAt wants there old new pos n u × (wants.promise ≡ p)

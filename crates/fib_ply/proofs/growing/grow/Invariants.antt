@@ -1,7 +1,7 @@
-use Rattle.std.proofs.Common.{◌≡◌, ◌+◌, ◌-◌, ◌≤◌}
+use Rattle.std.proofs.Common.{◌≡◌, ◌+◌, ◌-◌, ◌<◌, ◌≤◌}
 use Rattle.fib_joined.specs.Frames.{Beside}
 use Rattle.fib_ply.specs.inner.View.{Frame}
-use Rattle.fib_ply.specs.inner.Change.{IsUnderWayAt, GrowsTo}
+use Rattle.fib_ply.specs.inner.Change.{IsUnderWayAt, GrowsTo, WereBare}
 use Rattle.fib_ply.proofs.growing.grow.Given as goal
 
 abbrev pub invariant-loop-at : goal.invariant-loop-at
@@ -9,6 +9,9 @@ invariant-loop-at g l = record {
   ready : IsUnderWayAt (g.P.Objects.promise l.on) (g.P.Objects.view l.on) l.addr l.at.ply l.at.depth l.at.slot;
   grows : GrowsTo (g.P.Objects.view l.initial.on) (g.P.Objects.view l.on) l.addr l.depth l.at.ply l.at.depth l.at.slot l.plies;
   room : (l.depth ≤ 7) × (l.depth ≤ l.at.depth + (g.P.Objects.view l.on).free) × (l.depth ≤ l.at.depth + (g.P.Objects.view l.on).spare) × (l.plies ≤ l.at.depth) × (l.plies ≤ l.depth);
+  free : (g.P.Objects.view l.initial.on).free ≤ (g.P.Objects.view l.on).free + l.plies;
+  bare : WereBare (g.P.Objects.view l.initial.on) l.addr l.at.depth l.plies;
+  within : 0 < l.plies → l.at.depth ≤ l.depth;
   beside : Beside (g.P.Objects.view l.initial.on) (g.P.Objects.view l.on);
   frame : Frame (g.P.Objects.view l.initial.on) (g.P.Objects.view l.on);
   promise : g.P.Objects.promise l.on ≡ g.P.Objects.promise l.initial.on;

@@ -7,7 +7,7 @@ use Rattle.fib_ply.proofs.pruning.prune.Goals as goal
 pub loop-leaf-init : goal.loop-leaf-init
 loop-leaf-init g c =
     let ready = found_leaf _ _ c.args.addr _ _ _ _ _ c.requires c.find_leaf-leaf.ensures in
-    record { ready = ready; pruned = prunes_none _ c.args.addr _ _ _ _ _ c.find_leaf-leaf.ensures; few = let h = ready.4.cell.few.1 in omega (arith, h); promise = refl; beside = beside_none _ }
+    record { ready = ready; pruned = prunes_none _ c.args.addr _ _ _ _ _ c.find_leaf-leaf.ensures; few = let h = ready.4.cell.few.1 in omega (arith, h); free = omega arith; promise = refl; beside = beside_none _ }
 
 pub loop-leaf-preserved : goal.loop-leaf-preserved
 loop-leaf-preserved g c =
@@ -16,15 +16,16 @@ loop-leaf-preserved g c =
       ready = can_more _ _ _ c.args.addr _ _ _ _ c.unlink-leaf.ensures.promise i.ready c.unlink-leaf.ensures.next;
       pruned = prunes_more _ c.args.addr _ _ _ _ _ _ i.pruned c.unlink-leaf.ensures.next;
       few = omega (arith, i.few, c.unlink-leaf.ensures.higher);
+      free = omega (arith, i.free, c.unlink-leaf.ensures.free);
       promise = c.unlink-leaf.ensures.promise ∙ i.promise;
       beside = beside_then _ _ _ i.beside c.unlink-leaf.ensures.beside;
     }
 
 pub returns-else-not-needs : goal.returns-else-not-needs
-returns-else-not-needs g c = let i = c.loop-leaf.invariant in record { few = omega (arith, i.few); promise = i.promise; beside = i.beside; pruned = prunes_done _ c.args.addr _ _ _ _ _ _ _ (inr (c.needs.ensures.0 c.if-not-needs.false)) i.pruned }
+returns-else-not-needs g c = let i = c.loop-leaf.invariant in record { few = omega (arith, i.few); free = i.free; promise = i.promise; beside = i.beside; pruned = prunes_done _ c.args.addr _ _ _ _ _ _ _ (inr (c.needs.ensures.0 c.if-not-needs.false)) i.pruned }
 
 pub returns-after-loop-leaf : goal.returns-after-loop-leaf
-returns-after-loop-leaf g c = let i = c.loop-leaf.invariant in record { few = omega (arith, i.few); promise = i.promise; beside = i.beside; pruned = prunes_done _ c.args.addr _ _ _ _ _ _ _ (inl (omega (arith, c.loop-leaf-test.false))) i.pruned }
+returns-after-loop-leaf g c = let i = c.loop-leaf.invariant in record { few = omega (arith, i.few); free = i.free; promise = i.promise; beside = i.beside; pruned = prunes_done _ c.args.addr _ _ _ _ _ _ _ (inl (omega (arith, c.loop-leaf-test.false))) i.pruned }
 
 pub needs-requires-clause-value : goal.needs-requires-clause-value
 needs-requires-clause-value g c =

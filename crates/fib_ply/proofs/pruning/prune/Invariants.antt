@@ -8,6 +8,7 @@ invariant-loop-leaf g l = record {
   ready : CanPruneAt (g.P.Objects.promise l.on) (g.S.Prefixes.look l.set) l.addr (g.P.Objects.view l.on) l.leaf.above l.leaf.ply l.leaf.depth l.leaf.slot;
   pruned : PrunesTo (g.S.Prefixes.look l.set) l.addr (g.P.Objects.view l.initial.on) (g.P.Objects.view l.on) l.leaf.above l.leaf.ply l.leaf.depth l.leaf.slot l.plies;
   few : l.plies + l.leaf.depth ≤ 7;
+  free : (g.P.Objects.view l.initial.on).free ≤ (g.P.Objects.view l.on).free;
   promise : g.P.Objects.promise l.on ≡ g.P.Objects.promise l.initial.on;
   beside : Beside (g.P.Objects.view l.initial.on) (g.P.Objects.view l.on);
 }

@@ -1,10 +1,10 @@
-use Rattle.std.proofs.Common.{refl, sym, ◌∙◌}
+use Rattle.std.proofs.Common.{arith, refl, sym, ◌∙◌}
 use Rattle.fib_joined.proofs.Frames.{beside_none, beside_then}
 use Rattle.fib_ply.proofs.Pushes.{spent_none, spent_then, spent_enough}
 use Rattle.fib_ply.proofs.pushing.refresh.Goals as goal
 
 pub loop-pos-init : goal.loop-pos-init
-loop-pos-init g c = record { change = λ wants there old n at. (at, spent_none n (g.P.Objects.view c.args.on.now) c.args.from); promise = refl; beside = beside_none _ }
+loop-pos-init g c = record { change = λ wants there old n at. (at, spent_none n (g.P.Objects.view c.args.on.now) c.args.from); free = omega arith; promise = refl; beside = beside_none _ }
 
 pub push-pos-requires : goal.push-pos-requires
 push-pos-requires g c =
@@ -15,6 +15,7 @@ push-pos-requires g c =
 pub loop-pos-preserved : goal.loop-pos-preserved
 loop-pos-preserved g c = record {
   change = λ wants there old n at. (let h = c.loop-pos.invariant.change wants there old n at in let k = c.push-pos.ensures.change wants there old n h.0 in (k.0, spent_then n _ _ _ _ _ _ h.1 k.1));
+  free = omega (arith, c.loop-pos.invariant.free, c.push-pos.ensures.free);
   promise = c.push-pos.ensures.promise ∙ c.loop-pos.invariant.promise;
   beside = beside_then _ _ _ c.loop-pos.invariant.beside c.push-pos.ensures.beside;
 }
@@ -22,6 +23,7 @@ loop-pos-preserved g c = record {
 pub returns : goal.returns
 returns g c = record {
   promise = c.loop-pos.invariant.promise;
+  free = c.loop-pos.invariant.free;
   beside = c.loop-pos.invariant.beside;
   change = λ wants there old n at. (let h = c.loop-pos.invariant.change wants there old n at in (c.loop-pos.pos, c.loop-pos-test.false, h.0, h.1));
 }

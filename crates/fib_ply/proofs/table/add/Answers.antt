@@ -1,9 +1,9 @@
-use Rattle.std.proofs.Common.{◌+◌, ◌*◌, ◌^◌, ◌-◌, ◌%◌, ◌≤◌, ap, sym, subst, ◌∙◌, arith}
+use Rattle.std.proofs.Common.{◌≡◌, ℕ, ◌+◌, ◌*◌, ◌/◌, ◌^◌, ◌-◌, ◌%◌, ◌≤◌, true, ap, sym, subst, ◌∙◌, arith}
 use Rattle.fib_joined.specs.Promise.{Promise}
 use Rattle.fib_joined.proofs.Frames.{beside_then}
-use Rattle.fib_ply.specs.Prefixes.{Look}
+use Rattle.fib_ply.specs.Prefixes.{Look, Needs}
 use Rattle.fib_ply.specs.inner.Change.{IsPromised}
-use Rattle.fib_ply.proofs.Adds.{add_starts, add_ends, from_fits, to_fits, last_below}
+use Rattle.fib_ply.proofs.Adds.{add_starts, add_ends, first_fits, from_fits, to_fits, last_below}
 use Rattle.fib_ply.proofs.table.add.Goals as goal
 
 pub grow-plies-requires-clause-ready : goal.grow-plies-requires-clause-ready
@@ -49,3 +49,18 @@ returns-clause-promise g c =
 pub returns-clause-beside : goal.returns-clause-beside
 returns-clause-beside g c =
     beside_then _ _ _ c.grow-plies.ensures.beside c.refresh.ensures.beside
+
+pub returns-clause-free : goal.returns-clause-free
+returns-clause-free g c = omega (arith, c.grow-plies.ensures.free, c.refresh.ensures.free)
+
+pub returns-clause-bare : goal.returns-clause-bare
+returns-clause-bare g c = λ d lt le needs.
+    let p = c.requires.prefix in
+    let q = c.requires.table in
+    let e : ℕ = d - 1 in
+    let few : c.grow-plies.result ≤ (c.args.len - 1) / 4 = c.grow-plies.ensures.few in
+    let d_is : d ≡ e + 1 = omega (arith, lt, few) in
+    c.grow-plies.ensures.bare q.0 q.1 (g.S.Prefixes.look c.args.set.now) (g.S.Prefixes.look c.args.set.now) 0 q.2 q.3.at d lt le
+    (subst (λ (i : ℕ). q.1 d (i / 2 ^ (32 - 4 * d)) ≡ true) (sym (first_fits c.args.top c.args.len p.1 p.2))
+    (subst (λ (i : ℕ). q.1 i (c.args.top * 2 ^ (32 - c.args.len) / 2 ^ (32 - 4 * i)) ≡ true) (sym d_is)
+    (q.3.at.wider e (c.args.top * 2 ^ (32 - c.args.len) / 2 ^ (32 - 4 * (e + 1))) (subst (λ (i : ℕ). Needs (g.S.Prefixes.look c.args.set.now) i (c.args.top * 2 ^ (32 - c.args.len) / 2 ^ (32 - 4 * i))) d_is needs))))

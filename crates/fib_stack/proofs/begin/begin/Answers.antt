@@ -1,5 +1,7 @@
 use Rattle.std.proofs.Common.{◌≡◌, ◌∙◌, ◌&&◌, ℕ, List, length, map, ap, inl, sym, subst, arith}
 use Rattle.std.specs.Prelude.{Option, filter}
+use Rattle.std.specs.List.{AllByRecursion}
+use Rattle.fib_list.proofs.Lists.{each-weaker}
 use Rattle.fib_addr.specs.Prefixes.{Prefix}
 use Rattle.fib_resolve.specs.Aims.{marked_list}
 use Rattle.fib_resolve.specs.Touched.{differ}
@@ -13,10 +15,10 @@ use Rattle.fib_ledger.proofs.Books.{total_few}
 use Rattle.fib_joined.specs.Promise.{Promise, MayClear, Serves}
 use Rattle.fib_joined.specs.View.{View}
 use Rattle.fib_stack.specs.Joined.{Parts, balance_in, table_of, was_by}
-use Rattle.fib_stack.specs.Records.{GaveAll, records_for}
+use Rattle.fib_stack.specs.Records.{Freed, GaveAll, IsAlone, TookNew, records_for}
 use Rattle.fib_stack.specs.States.{forwards_by}
 use Rattle.fib_stack.specs.declared.records.Want.TheVariants as wants
-use Rattle.fib_stack.specs.Turns.{GotObject, IsTurnOf, IsUnderway, parts_of}
+use Rattle.fib_stack.specs.Turns.{GotObject, IsTurnOf, IsUnderway, balances_for, parts_of}
 use Rattle.fib_stack.specs.Waking.{are_among}
 use Rattle.fib_stack.specs.declared.stack.Plan.{Plan}
 use Rattle.fib_stack.proofs.Beginning.{underway}
@@ -24,6 +26,8 @@ use Rattle.fib_stack.proofs.Finishing.{waits_of}
 use Rattle.fib_stack.proofs.Joining.{table_names}
 use Rattle.fib_stack.proofs.Leaving.{quiet_then}
 use Rattle.fib_stack.proofs.Listing.{same_after}
+use Rattle.fib_stack.proofs.Freeing.{given_back}
+use Rattle.fib_stack.proofs.Newly.{lacks_roomy, lacks_then, new_then}
 use Rattle.fib_stack.proofs.Readying.{handed_on, none_same, none_short, room_quiet, room_same, room_serves, same_then}
 use Rattle.fib_stack.proofs.Taking.{uses_few}
 use Rattle.fib_stack.proofs.begin.begin.Goals as goal
@@ -70,7 +74,12 @@ returns-in_default-object_for-clause-err g c =
     let same : g.P.Objects.view c.object_for.new.on ≡ v2 = none_same v2 (g.P.Objects.view c.object_for.new.on) c.object_for.result c.object_for.ensures.none c.in_default-object_for.is in
     same_then _ v1 v5 (room_same _ v1 c.make_room.ensures.same)
     (same_after v1 v2 v5 c.take_all.new.uses.items (g.met.P.Objects.sound c.make_room.new.on) (g.met.P.Objects.sound c.give_all.new.on) c.in_ok-take_all.ensures.ok
-    (subst (λ (w : View). GaveAll w v5 c.take_all.new.uses.items) same (subst (λ (us : List Use). GaveAll (g.P.Objects.view c.object_for.new.on) v5 us) c.as_slice.ensures.value c.give_all.ensures.gave)))
+    (subst (λ (w : View). GaveAll w v5 c.take_all.new.uses.items) same (subst (λ (us : List Use). GaveAll (g.P.Objects.view c.object_for.new.on) v5 us) c.as_slice.ensures.value c.give_all.ensures.gave))
+    (let new = c.in_ok-take_all.ensures.new in
+    given_back v1 v2 v5 c.take_all.new.uses.items (records_for c.marked-marks.result.now) new.0 c.in_ok-take_all.ensures.ok c.in_ok-take_all.ensures.records new.1 (omega (arith, new.2))
+    (subst (λ (w : View). Freed w v5 c.take_all.new.uses.items new.0) same
+    (subst (λ (us : List Use). Freed (g.P.Objects.view c.object_for.new.on) v5 us new.0) c.as_slice.ensures.value
+    (c.give_all.ensures.freed new.0 (subst (λ (w : View). AllByRecursion (IsAlone w) new.0) (sym same) (each-weaker _ (IsAlone v2) (λ m q. c.in_ok-take_all.ensures.alone m q.0) new.0 new.1.new)))))))
 
 pub returns-in_default-object_for-clause-quiet : goal.returns-in_default-object_for-clause-quiet
 returns-in_default-object_for-clause-quiet g c = λ look.
@@ -160,3 +169,22 @@ returns-clause-serves g c = λ n h.
     let s1 = room_serves (g.P.Objects.promise c.args.on.now) n _ (g.P.Objects.view c.make_room.new.on) c.make_room.ensures.same h in
     let s2 = subst (λ (q : Promise). Serves q n (g.P.Objects.view c.make_room.new.on) → Serves q n (g.P.Objects.view c.take_all.new.on)) p0 (c.take_all.ensures.serves n) s1 in
     subst (λ (q : Promise). Serves q n (g.P.Objects.view c.take_all.new.on) → Serves q n (g.P.Objects.view c.object_for.new.on)) (c.take_all.ensures.promise ∙ p0) (c.object_for.ensures.serves n) s2
+
+pub returns-in_err-take_all-clause-lacks : goal.returns-in_err-take_all-clause-lacks
+returns-in_err-take_all-clause-lacks g c = λ S st is.
+    lacks_roomy (g.P.Objects.view c.args.on.now) (g.P.Objects.view c.make_room.new.on) (records_for c.marked-marks.result.now) (records_for (marked_list S c.args.entry)) 1 8 c.make_room.ensures.same
+    (ap records_for (c.marked-marks.ensures S st)) (omega arith)
+    (c.take_all.ensures.lacks (handed_on _ _ c.take_all.result c.from_residual.result _ wants.Object c.in_err-take_all.was c.from_residual.ensures.1 is))
+
+pub returns-in_default-object_for-clause-lacks : goal.returns-in_default-object_for-clause-lacks
+returns-in_default-object_for-clause-lacks g c = λ S st is.
+    lacks_then (g.P.Objects.view c.args.on.now) (g.P.Objects.view c.make_room.new.on) (g.P.Objects.view c.take_all.new.on) (records_for c.marked-marks.result.now) (records_for (marked_list S c.args.entry)) 8 c.make_room.ensures.same
+    (ap records_for (c.marked-marks.ensures S st)) c.in_ok-take_all.ensures.new
+    (none_short (g.P.Objects.view c.take_all.new.on).free c.object_for.result c.object_for.ensures.short c.in_default-object_for.is)
+
+pub returns-clause-taken : goal.returns-clause-taken
+returns-clause-taken g c = λ S st.
+    subst (λ (q : Parts). TookNew (g.P.Objects.view c.args.on.now) (g.P.Objects.view c.object_for.new.on) (records_for (marked_list S c.args.entry)) (balances_for (balance_in q c.args.entry))) c.make_room.ensures.parts
+    (new_then (g.P.Objects.view c.args.on.now) (g.P.Objects.view c.make_room.new.on) (g.P.Objects.view c.take_all.new.on) (g.P.Objects.view c.object_for.new.on) (records_for c.marked-marks.result.now) (records_for (marked_list S c.args.entry))
+    (balances_for (balance_in (parts_of c.make_room.new.table c.make_room.new.stack c.make_room.new.queue) c.args.entry)) c.make_room.ensures.same
+    (ap records_for (c.marked-marks.ensures S st)) c.in_ok-take_all.ensures.new c.object_for.ensures.taken)

@@ -198,3 +198,9 @@ returns-clause-stored g c =
     let h = c.requires.underway.3 in
     let f = filled_by (g.P.Objects.view c.args.on.now) (g.P.Objects.view c.fill-answers.new.on) c.args.plan.object 0 c.words_of-words.result c.fill-answers.result h.readied.here c.fill-answers.ensures.puts in
     omega (arith, f.stored, c.give_old.ensures.gave.stored, c.place.ensures.stored)
+
+pub returns-clause-came : goal.returns-clause-came
+returns-clause-came g c =
+    let h = c.requires.underway.3 in
+    let f = filled_by (g.P.Objects.view c.args.on.now) (g.P.Objects.view c.fill-answers.new.on) c.args.plan.object 0 c.words_of-words.result c.fill-answers.result h.readied.here c.fill-answers.ensures.puts in
+    (c.place.ensures.came.0, c.place.ensures.came.1, omega (arith, c.place.ensures.came.2, f.free, c.give_old.ensures.gave.free))

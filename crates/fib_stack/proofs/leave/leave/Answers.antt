@@ -96,3 +96,6 @@ returns-clause-joined g c = λ S rank ranked j least left.
     (table_quiet p0 c.take_out.new.table v1 v2 n.0 (begun_of p0 lt) (to_change p0 c.take_out.new.table v1 (begun_of p0 lt) stands) (c.give_old.ensures.quiet _) (g.met.P.Objects.sound c.give_old.new.on) n.1 serves)
     (subst (λ (p : Promise). FitsVersions p.versions (balance_in (parts_of c.take_out.new.table (record { ledger = c.forget-old.new.self; late = c.clear.new.self }) c.remove.new.self))) c.take_out.ensures.promise c.take_out.ensures.fits)
     (λ d r at. rank_left (rank_in c.remove.new.self.members d) (rank_in c.args.queue.now.members d) c.args.entry d r (c.remove.ensures.ranks d) at)
+
+pub returns-clause-free : goal.returns-clause-free
+returns-clause-free g c = omega (arith, c.take_out.ensures.free, c.give_old.ensures.gave.free)

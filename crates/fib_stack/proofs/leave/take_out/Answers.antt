@@ -1,4 +1,4 @@
-use Rattle.std.proofs.Common.{◌≡◌, ◌∙◌, ◌<◌, ℕ, ap, sym, subst}
+use Rattle.std.proofs.Common.{◌≡◌, ◌∙◌, ◌<◌, ℕ, ap, sym, subst, arith}
 use Rattle.std.specs.Prelude.{Option, Some}
 use Rattle.fib_addr.specs.Prefixes.{Prefix}
 use Rattle.fib_joined.specs.Promise.{Promise}
@@ -29,3 +29,6 @@ returns-in-Some-clause-stands g c =
     subst (λ (p : Promise). Stands p c.remove.new.self (g.P.Objects.view c.let_go.new.self)) (sym c.let_go.ensures.promise)
     (left_stands (g.P.Objects.promise c.remove.new.on) c.remove.new.self (g.P.Objects.view c.remove.new.on) c.in-Some.object lt c.remove.ensures.stands none (g.P.Objects.view c.let_go.new.self) (g.met.P.Objects.sound c.let_go.new.self)
     (c.remove.ensures.beside.balances c.in-Some.object (c.requires.held c.in-Some.object at)) c.let_go.ensures.gone)
+
+pub returns-in-Some-clause-free : goal.returns-in-Some-clause-free
+returns-in-Some-clause-free g c = omega (arith, c.remove.ensures.free, c.let_go.ensures.gone.swept.free)

@@ -3,11 +3,12 @@ use Rattle.fib_joined.specs.View.{GaveRecord}
 use Rattle.fib_ledger.specs.Ledgers.{record_used}
 use Rattle.fib_stack.proofs.Leaving.{quiet_none, quiet_then, gave_quiet}
 use Rattle.fib_stack.proofs.Clearing.{gave_serves}
-use Rattle.fib_stack.proofs.Listing.{object_left, gave_next, gave_none}
+use Rattle.fib_stack.proofs.Listing.{object_left, gave_next, gave_none, user_left}
+use Rattle.fib_stack.proofs.Freeing.{freed_next, freed_none}
 use Rattle.fib_stack.proofs.records.give_all.Goals as goal
 
 pub loop-held-init : goal.loop-held-init
-loop-held-init g c = record { gave = gave_none _ c.args.uses.now; quiet = λ look. quiet_none look _; serves = λ n h. h; promise = refl }
+loop-held-init g c = record { gave = gave_none _ c.args.uses.now; sole = λ x h. h; freed = λ ms alone. freed_none (g.P.Objects.view c.args.on.now) c.args.uses.now ms; quiet = λ look. quiet_none look _; serves = λ n h. h; promise = refl }
 
 pub give_adj-requires-clause-record : goal.give_adj-requires-clause-record
 give_adj-requires-clause-record g c = (record_used c.held-item.result, object_left _ _ c.args.uses.now c.loop-held.held-index c.held-item.result c.loop-held-test.true (sym c.held-item.is) c.requires.users c.requires.objects c.loop-held.invariant.gave)
@@ -18,6 +19,11 @@ loop-held-preserved g c =
     c.give_adj.ensures.gave (record_used c.held-item.result) (object_left _ _ c.args.uses.now c.loop-held.held-index c.held-item.result c.loop-held-test.true (sym c.held-item.is) c.requires.users c.requires.objects c.loop-held.invariant.gave) in
     record {
       gave = gave_next _ _ _ c.args.uses.now c.loop-held.held-index c.held-item.result c.loop-held-test.true (sym c.held-item.is) c.loop-held.invariant.gave gave;
+      sole = λ x h. c.loop-held.invariant.sole x (h.0, h.1, h.2, h.3, gave.swept.edges h.0 h.1 x h.2 h.3 h.4);
+      freed = λ ms alone. freed_next (g.P.Objects.view c.args.on.now) (g.P.Objects.view c.loop-held.on) (g.P.Objects.view c.give_adj.new.self) c.args.uses.now c.loop-held.held-index c.held-item.result c.loop-held-test.true (sym c.held-item.is) c.requires.users
+          (user_left (g.P.Objects.view c.args.on.now) (g.P.Objects.view c.loop-held.on) c.args.uses.now c.loop-held.held-index c.held-item.result c.loop-held-test.true (sym c.held-item.is) c.requires.users c.loop-held.invariant.gave)
+          (object_left _ _ c.args.uses.now c.loop-held.held-index c.held-item.result c.loop-held-test.true (sym c.held-item.is) c.requires.users c.requires.objects c.loop-held.invariant.gave)
+          c.loop-held.invariant.gave gave c.loop-held.invariant.sole ms alone (c.loop-held.invariant.freed ms alone);
       quiet = λ look. quiet_then look _ _ _ (c.loop-held.invariant.quiet look) (gave_quiet _ _ (record_used c.held-item.result) (g.met.P.Objects.sound c.give_adj.new.self) gave look);
       serves = λ n h. gave_serves (g.P.Objects.promise c.args.on.now) n _ _ (record_used c.held-item.result) gave (c.loop-held.invariant.serves n h);
       promise = c.give_adj.ensures.promise ∙ c.loop-held.invariant.promise;

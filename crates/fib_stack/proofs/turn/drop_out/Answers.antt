@@ -1,5 +1,6 @@
-use Rattle.std.proofs.Common.{sym, subst, arith}
+use Rattle.std.proofs.Common.{ap, sym, subst, arith}
 use Rattle.fib_joined.specs.Promise.{Promise}
+use Rattle.fib_joined.specs.View.{View}
 use Rattle.fib_ledger.proofs.Books.{times_within}
 use Rattle.fib_stack.specs.Joined.{Joined}
 use Rattle.fib_stack.specs.Turns.{parts_of}
@@ -63,3 +64,6 @@ returns-in_default-clause-joined g c = λ S rank ranked j least left.
     let u = g.P.Objects.view c.args.on.now in
     let v = g.P.Objects.view c.room_for.new.on in
     moved_joined S rank (g.P.Objects.promise c.args.on.now) u v s j (room_moved _ u v c.room_for.ensures.same) (g.met.P.Objects.sound c.room_for.new.on) (λ d r. times_within c.args.stack.now.ledger.rows d r)
+
+pub returns-clause-free : goal.returns-clause-free
+returns-clause-free g c = let r = ap (λ (w : View). w.free) c.room_for.ensures.same.same in omega (arith, r, c.leave.ensures.free)

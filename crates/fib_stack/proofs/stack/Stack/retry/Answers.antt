@@ -1,10 +1,12 @@
 use Rattle.std.proofs.Common.{◌∙◌, ◌<◌, length, ap, sym, subst, arith}
 use Rattle.std.proofs.lemmas.List.Edits.{length-remove}
 use Rattle.fib_joined.specs.Promise.{Promise}
-use Rattle.fib_stack.specs.Joined.{Joined}
+use Rattle.fib_serving.specs.Stack.{Objects}
+use Rattle.fib_stack.specs.Joined.{Joined, state_in}
 use Rattle.fib_stack.specs.Turns.{parts_of}
 use Rattle.fib_stack.proofs.Leaving.{quiet_then}
 use Rattle.fib_stack.proofs.Retrying.{calm_none, retried_then, why_all, why_left, why_taken}
+use Rattle.fib_stack.proofs.Rooming.{made_alike, room_left}
 use Rattle.fib_stack.proofs.stack.Stack.retry.Goals as goal
 
 pub try_at-requires-clause-joined : goal.try_at-requires-clause-joined
@@ -60,3 +62,11 @@ returns-clause-calm g c = λ S rank ranked j calm passed.
     c.len-2.ensures.count
     ∙ calm_none S rank _ (g.P.Objects.view c.loop-place.on) s ranked (i.joined S rank j) (g.met.P.Objects.sound c.loop-place.on) c.len.ensures.apart c.len.ensures.slots calm (i.retired ∙ passed)
     (why_all (g.P.Objects.view c.loop-place.on) s c.loop-place.place (omega (arith, c.loop-place-test.false, c.len.ensures.count)) i.why)
+
+pub returns-clause-room : goal.returns-clause-room
+returns-clause-room g c = λ S room.
+    let i = c.loop-place.invariant in
+    let s = state_in (g.P.Objects.view c.args.on.now) (parts_of c.args.table.now c.args.self.now c.args.queue.now) in
+    let t = state_in (g.P.Objects.view c.loop-place.on) (parts_of c.args.table.now c.loop-place.self c.args.queue.now) in
+    let r = i.retried c.requires.0 c.requires.1 c.requires.2 in
+    room_left S s t (g.P.Objects.view c.args.on.now).free (g.P.Objects.view c.loop-place.on).free i.free (made_alike S s t (ap (λ (at : Objects). at.balance) r.objects) r.holds) room

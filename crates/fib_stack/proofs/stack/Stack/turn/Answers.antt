@@ -37,3 +37,14 @@ returns-in_err-dropped-clause-joined g c =
 pub returns-in_err-dropped-clause-short : goal.returns-in_err-dropped-clause-short
 returns-in_err-dropped-clause-short g c = λ is.
     (c.in-Some.next.prefix, least_of c.args.tables.now (rank_of c.args.entries.now.rows) _ _ _ c.in-Some.next c.requires.joined c.in-Some.ensures.least, c.take.ensures.short c.args.tables.now c.requires.stands (handed_on _ _ c.take.result c.from_residual.result _ wants.Object c.in_err-dropped.was c.from_residual.ensures.1 is))
+
+pub returns-in_err-dropped-clause-finds : goal.returns-in_err-dropped-clause-finds
+returns-in_err-dropped-clause-finds g c = λ room is.
+    c.take.ensures.finds c.args.tables.now c.requires.stands c.requires.joined (least_of c.args.tables.now (rank_of c.args.entries.now.rows) _ _ _ c.in-Some.next c.requires.joined c.in-Some.ensures.least) room
+    (handed_on _ _ c.take.result c.from_residual.result _ wants.Object c.in_err-dropped.was c.from_residual.ensures.1 is)
+
+pub returns-clause-left : goal.returns-clause-left
+returns-clause-left g c = λ room. c.take.ensures.left c.args.tables.now c.requires.stands c.requires.joined (least_of c.args.tables.now (rank_of c.args.entries.now.rows) _ _ _ c.in-Some.next c.requires.joined c.in-Some.ensures.least) room
+
+pub returns-in_err-dropped-clause-left : goal.returns-in_err-dropped-clause-left
+returns-in_err-dropped-clause-left g c = λ room. c.take.ensures.left c.args.tables.now c.requires.stands c.requires.joined (least_of c.args.tables.now (rank_of c.args.entries.now.rows) _ _ _ c.in-Some.next c.requires.joined c.in-Some.ensures.least) room
