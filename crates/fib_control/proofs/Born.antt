@@ -122,6 +122,7 @@ born b new s v q t u left least most setup stands same settled i plane scan calm
       joined = born_joined (promise_of q.board) v t u stands (ap (λ (p : Promise). p.settled) same ∙ settled) i (view_of q) left plane scan;
       newest = (fresh_log b q new same).1;
       calm = λ z. calm;
+      roomy = λ begun. absurd (let z = (fresh_log b q new same).0 in omega (arith, z, begun));
       ordered = begun_in_order (rank_of v.rows) (state_now c);
       once = tt;
       fits = (let f = fresh_small in omega (arith, f, least));

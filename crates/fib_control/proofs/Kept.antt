@@ -13,7 +13,7 @@ use Rattle.fib_entries.specs.Known.{Known, StandsFor, rank_of}
 use Rattle.fib_pool.specs.Objects.{free_in}
 use Rattle.fib_pool.proofs.Pools.{free_few}
 use Rattle.fib_ply.specs.Rows.{ArePrefixes}
-use Rattle.fib_board.specs.Boards.{board_begun, board_settled}
+use Rattle.fib_board.specs.Boards.{Pass, board_begun, board_settled}
 use Rattle.fib_board.specs.May.{MayBegin, MaySettle}
 use Rattle.fib_plane.specs.Planes.{Plane}
 use Rattle.fib_plane.specs.Sound.{IsPlane as IsTold}
@@ -24,9 +24,11 @@ use Rattle.fib_serving.specs.Stack.{is_some}
 use Rattle.fib_shared.specs.Shares.{promise_of, view_of}
 use Rattle.fib_stack.specs.Joined.{Joined, queued_in}
 use Rattle.fib_stack.proofs.Ordering.{begun_in_order}
+use Rattle.fib_stack.proofs.Rooming.{room_at_change}
 use Rattle.fib_quiet.specs.Rest.{IsAtRest, IsSeen}
 use Rattle.fib_quiet.proofs.Versions.{joined_begun, joined_first, joined_settled}
 use Rattle.fib_quiet.proofs.Planed.{stands_at_rest, used_at_rest}
+use Rattle.fib_quiet.proofs.Workers.{same_versions}
 use Rattle.fib_control.specs.Controls.{Control, IsQuiet, is_queued, parts_in, promise_in, rank_by, state_now, tables_in, view_in}
 use Rattle.fib_control.specs.inner.Standing.{IsStanding}
 use Rattle.fib_control.proofs.Resting.{AreUsed, first_rests, quiet_rests}
@@ -70,7 +72,7 @@ module _ (c : Control) (i : IsStanding c) (t : Tells c) where
   module _ (T : Tables) (v : Known) (queue : List Queued) (stands : StandsFor v T)
       (queued : (e : Prefix) → is_some (rank_in queue e) ≡ is_queued c e || is_touched (tables_in c) T e)
       (ranks : (e : Prefix) (k : ℕ) → rank_in queue e ≡ Some k → k ≡ rank_of v.rows e)
-      (fits : size T ≤ c.setup.room) where
+      (fits : size T ≤ c.setup.room) (free : size T ≤ (view_in c).free) where
     joined_later : (n : ℕ) → c.plane.board.log.version.applied ≡ n → Joined T (rank_of v.rows) (promise_of (board_begun c.plane.board T)) (view_in c) (record (parts_in c) { queue = queue })
     joined_later zero early = joined_first (tables_in c) (rank_by c) c.plane (parts_in c) t.told t.seen (at_first early) i.newest T (rank_of v.rows) queue early stands.sound queued ranks
     joined_later (suc n) late = joined_begun (tables_in c) T (rank_by c) (rank_of v.rows) c.plane (parts_in c) queue t.told i.joined (omega (arith, late)) stands.sound queued ranks
@@ -81,6 +83,7 @@ module _ (c : Control) (i : IsStanding c) (t : Tells c) where
       joined = joined_later c.plane.board.log.version.applied refl;
       newest = subst (λ (k : ℕ). slice_get (c.plane.board.log.history ++ T ∷ []) k ≡ Some T) t.told.board.history.long (get_last c.plane.board.log.history T);
       calm = λ same. absurd (let o = t.told.board.history.order in omega (arith, o, same));
+      roomy = λ begun. room_at_change T (rank_of v.rows) (promise_of (board_begun c.plane.board T)) (view_in c) (record (parts_in c) { queue = queue }) (joined_later c.plane.board.log.version.applied refl) begun free;
       ordered = begun_in_order (rank_of v.rows) (state_now (changed_to c T v queue));
       once = tt;
       fits = fits;
@@ -112,6 +115,7 @@ module _ (c : Control) (i : IsStanding c) (t : Tells c) where
     joined = joined_settled (tables_in c) (rank_by c) c.plane (parts_in c) t.told t.seen (quiet_rests c i t.plane t.rows t.used q) i.newest;
     newest = i.newest;
     calm = λ same. q.retired;
+    roomy = i.roomy;
     ordered = i.ordered;
     once = i.once;
     fits = i.fits;
@@ -126,3 +130,19 @@ changed_like c T v queue s p ds setup plane none h =
     subst (λ (x : Setup). IsStanding (record c { setup = x; entries = v; plane = p; queue = queue; done = ds })) (sym setup)
     (subst (λ (x : Plane). IsStanding (record c { setup = record c.setup { tables = T }; entries = v; plane = x; queue = queue; done = ds })) (sym plane)
     (subst (λ (x : List Prefix). IsStanding (record c { setup = record c.setup { tables = T }; entries = v; plane = record c.plane { board = board_begun c.plane.board T }; queue = queue; done = x })) (sym none) h))
+
+-- passes begin, hop and end: of the board only who is out, pass words and passes are other
+pub passed_standing : (c : Control) (out : List Bool) (rests : List ℕ) (passes : List (Option Pass)) → IsStanding c
+    → IsStanding (record c { plane = record c.plane { board = record c.plane.board { out = out; rests = rests; passes = passes } } })
+passed_standing c out rests passes i = record {
+  stands = i.stands;
+  joined = same_versions (tables_in c) (rank_by c) (promise_in c) (promise_of (record c.plane.board { out = out; rests = rests; passes = passes })) (view_in c) (parts_in c) i.joined refl refl refl;
+  newest = i.newest;
+  calm = i.calm;
+  roomy = i.roomy;
+  ordered = i.ordered;
+  once = i.once;
+  fits = i.fits;
+  room = i.room;
+  half = i.half;
+}

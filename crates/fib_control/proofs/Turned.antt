@@ -28,6 +28,7 @@ use Rattle.fib_serving.specs.Stack.{is_some}
 use Rattle.fib_stack.specs.Done.{IsTaken, TurnDone}
 use Rattle.fib_stack.specs.Joined.{Joined, queued_in, table_of}
 use Rattle.fib_stack.specs.Orders.{InOrder, did_also}
+use Rattle.fib_stack.specs.Room.{HasRoomLeft}
 use Rattle.fib_stack.specs.States.{State}
 use Rattle.fib_stack.specs.Steps.{IsLeast, Removed}
 use Rattle.fib_stack.specs.Turns.{IsRestacked}
@@ -123,13 +124,15 @@ module _ (c d : Control) (i : IsStanding c) (same : IsBeneath c d) where
   -- what a call keeps that makes no change of the tables
   pub beneath : Joined (tables_in c) (rank_by c) (promise_in d) (view_in d) (parts_in d)
       → (c.plane.board.log.version.settled ≡ c.plane.board.log.version.applied → d.plane.board.union.retired ≡ [])
+      → (0 < c.plane.board.log.version.applied → HasRoomLeft (tables_in c) (view_in d).free (state_now d))
       → InOrder (rank_by c) (state_now d) (had_turn d) → AllDiffer d.done → IsStanding d
-  beneath joined calm ordered once = record {
+  beneath joined calm roomy ordered once = record {
     stands = subst (λ (S : Tables). StandsFor d.entries S) (sym same_tables) (subst (λ (v : Known). StandsFor v (tables_in c)) (sym same.entries) i.stands);
     joined = subst (λ (S : Tables). Joined S (rank_by d) (promise_in d) (view_in d) (parts_in d)) (sym same_tables)
         (subst (λ (v : Known). Joined (tables_in c) (rank_of v.rows) (promise_in d) (view_in d) (parts_in d)) (sym same.entries) joined);
     newest = subst (λ (l : Log). slice_get l.history l.version.applied ≡ Some (tables_in d)) (sym same_log) (i.newest ∙ ap (λ (S : Tables). Some S) (sym same_tables));
     calm = λ (z : d.plane.board.log.version.settled ≡ d.plane.board.log.version.applied). calm (subst (λ (l : Log). l.version.settled ≡ l.version.applied) same_log z);
+    roomy = λ begun. subst (λ (S : Tables). HasRoomLeft S (view_in d).free (state_now d)) (sym same_tables) (roomy (subst (λ (l : Log). 0 < l.version.applied) same_log begun));
     ordered = subst (λ (v : Known). InOrder (rank_of v.rows) (state_now d) (had_turn d)) (sym same.entries) ordered;
     once = once;
     fits = subst (λ (s : Setup). size s.tables ≤ s.room) (sym same.setup) i.fits;

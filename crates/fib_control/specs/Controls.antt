@@ -13,7 +13,7 @@ use Rattle.fib_config.specs.Config.{Setup}
 use Rattle.fib_entries.specs.Known.{Known, rank_of}
 use Rattle.fib_entries.specs.declared.changes.Moved.{Moved}
 use Rattle.fib_pool.specs.Objects.{free_in}
-use Rattle.fib_board.specs.Boards.{board_begun, board_settled}
+use Rattle.fib_board.specs.Boards.{Board, board_begun, board_settled}
 use Rattle.fib_plane.specs.Planes.{Plane}
 use Rattle.fib_queue.specs.declared.order.Queued.{Queued}
 use Rattle.fib_ledger.specs.declared.late.Late.{Late}
@@ -150,3 +150,7 @@ pub record IsBusy (b : Busy) (c : Control) : Type 0 where
 pub record IsSettled (c d : Control) : Type 0 where
   pub plane : d.plane ≡ record c.plane { board = board_settled c.plane.board }
   pub others : record d { plane = c.plane } ≡ c
+
+-- the same over another board
+abbrev pub with_board : Control → Board → Control
+with_board c b = record c { plane = record c.plane { board = b } }

@@ -1,6 +1,8 @@
 // The control plane as one value.
-ghost use Rattle.std.specs.Prelude.{◌≡◌, ◌+◌, ◌-◌, ◌/◌, ◌^◌, ◌<◌, ◌≤◌, [], ℕ, IfErr, IfOk, IsTrue, None, OnErr, OnOk, Some, length, false, true, vec_capacity, ◌↔◌};
+ghost use Rattle.std.specs.Prelude.{◌≡◌, ◌+◌, ◌-◌, ◌/◌, ◌^◌, ◌<◌, ◌≤◌, [], ℕ, IfErr, IfOk, IsErrOf, IsTrue, None, OnErr, OnOk, Some, length, false, true, vec_capacity, ◌↔◌};
 ghost use Rattle.fib_addr.specs.Prefixes.{Prefix as PrefixValue};
+ghost use Rattle.fib_reach.specs.Walks.{AllDiffer};
+ghost use Rattle.fib_changes.specs.Ranks.{IsRanked};
 ghost use Rattle.fib_resolve.specs.Edits.{edited};
 ghost use Rattle.fib_resolve.specs.Reachable.{IsWritten};
 ghost use Rattle.fib_resolve.specs.Refusals.{refused};
@@ -15,6 +17,7 @@ ghost use Rattle.fib_stack.specs.Done.{IsCounted, IsStored, StaysLate, TurnDone}
 ghost use Rattle.fib_entries.specs.Known.{StandsFor, rank_of};
 ghost use Rattle.fib_shared.specs.Shares.{promise_of, view_of};
 ghost use Rattle.fib_stack.specs.Joined.{Joined, state_in};
+ghost use Rattle.fib_stack.specs.Room.{HasRoomLeft};
 ghost use Rattle.fib_stack.specs.Turns.{parts_of};
 ghost use Rattle.fib_stack.specs.Records.{SamePlane};
 ghost use Rattle.fib_stack.specs.Steps.{Retried};
@@ -47,7 +50,7 @@ pub struct Control<B: Board> {
     config: Config,
     room: u32,
     entries: Entries,
-    shared: Shared<B>,
+    pub(crate) shared: Shared<B>,
     table: PrefixTable,
     stack: Stack,
     queue: Queue,
@@ -207,13 +210,14 @@ impl<B: Board> Control<B> {
     /// Gives the queued prefix of the least rank its turn. An entry's object gets its wanted buckets, and then it is added to the prefix table if it
     /// isn't there; a prefix that left the entries leaves the table. Idle exactly where nothing is queued.
     ///
-    /// After a fault the prefix is still queued and all is as before, but for room and the count of stores.
+    /// After want of memory the prefix is still queued and all is as before, but for room and the count of stores. An object is always found.
     pub fn turn(&mut self) -> Result<Turn, Want>
         ensures turn { IfOk result (λ t. TurnDone (tables_in self.old) (rank_by self.old) t (state_now self.old) (state_now self.new)) }
         ensures dropped { IfOk result (λ t. IsCounted t self.new.late) }
         ensures stores { IfOk result (λ t. IsStored t self.old.plane.board.stored self.new.plane.board.stored) }
         ensures done { IfOk result (λ t. IsDoneAfter t self.old.done self.new.done) }
         ensures same { IsBeneath self.old self.new }
+        ensures finds { IsErrOf result Want.Object → ⊥ }
         ensures err { OnErr result (SamePlane (view_in self.old) (view_in self.new)) }
         ensures parts { OnErr result ((parts_in self.new ≡ parts_in self.old) × (self.new.done ≡ self.old.done)) }
     {
@@ -267,6 +271,50 @@ impl<B: Board> Control<B> {
         self.stack.retry(&mut self.shared, &self.table, &self.queue)
     }
 
+    /// The prefixes that had a turn since the last change differ, and ranks are as turns need them. Does nothing.
+    pub fn tells(&self)
+        ensures once { AllDiffer self.now.done }
+        ensures ranked { IsRanked (tables_in self.now) (rank_by self.now) }
+    {
+        // What stands of every control tells it, once a field is used.
+        let _room = self.room;
+    }
+
+    /// Turns until nothing is queued. After want of memory the turns that were done stand.
+    pub fn walk(&mut self) -> Result<(), Want>
+        ensures none { OnOk result (self.new.queue ≡ []) }
+        ensures same { IsBeneath self.old self.new }
+        ensures finds { IsErrOf result Want.Object → ⊥ }
+    {
+        'turns: loop {
+            if self.queued() == 0 {
+                return Ok(());
+            }
+            self.tells();
+            self.turn()?;
+            self.tells();
+        }
+    }
+
+    /// Settles the last version where no worker is out, and answers its number: turns until nothing is queued, a scan and a retry leave nothing that
+    /// waits. After want of memory the turns that were done stand.
+    pub fn settle_alone(&mut self) -> Result<u32, Want>
+        requires { (promise_in self.old).alone ≡ true }
+        ensures quiet { OnOk result (IsQuiet self.new) }
+        ensures version { IfOk result (λ n. (n ≡ self.old.plane.board.log.version.applied) × (self.new.plane.board.log.version.settled ≡ n)) }
+        ensures tables { self.new.setup ≡ self.old.setup }
+        ensures entries { self.new.entries ≡ self.old.entries }
+        ensures finds { IsErrOf result Want.Object → ⊥ }
+    {
+        self.walk()?;
+        self.scan();
+        self.retry();
+        match self.mark_settled() {
+            Ok(version) => Ok(version),
+            Err(_) => unreachable!(),
+        }
+    }
+
     /// Settles the last version, whose number it answers, where nothing is queued, deferred or retired. Else it says how much is.
     pub fn mark_settled(&mut self) -> Result<u32, Busy>
         ensures quiet { OnOk result (IsQuiet self.old) }
@@ -316,6 +364,8 @@ fn restack<B: Board>(
     ensures stores { IfOk result (λ t. IsStored t shared.old.plane.board.stored shared.new.plane.board.stored) }
     ensures err { OnErr result (SamePlane (view_of shared.old.plane) (view_of shared.new.plane)) }
     ensures parts { OnErr result (parts_of table.new stack.new queue.new ≡ parts_of table.old stack.old queue.old) }
+    ensures finds { HasRoomLeft config.now.tables (view_of shared.old.plane).free (state_in (view_of shared.old.plane) (parts_of table.old stack.old queue.old)) → IsErrOf result Want.Object → ⊥ }
+    ensures left { HasRoomLeft config.now.tables (view_of shared.old.plane).free (state_in (view_of shared.old.plane) (parts_of table.old stack.old queue.old)) → HasRoomLeft config.now.tables (view_of shared.new.plane).free (state_in (view_of shared.new.plane) (parts_of table.new stack.new queue.new)) }
     ensures promise { promise_of shared.new.plane.board ≡ promise_of shared.old.plane.board }
 {
     let tables = config.tables();

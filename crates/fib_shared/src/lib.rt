@@ -5,6 +5,7 @@
 
 pub mod calls;
 pub mod laws;
+mod passes;
 mod shared;
 
 pub use shared::Shared;

@@ -5,6 +5,7 @@ use Rattle.fib_resolve.specs.Sizes.{size}
 use Rattle.fib_entries.specs.Known.{StandsFor}
 use Rattle.fib_stack.specs.Joined.{Joined}
 use Rattle.fib_stack.specs.Orders.{InOrder}
+use Rattle.fib_stack.specs.Room.{HasRoomLeft}
 use Rattle.fib_control.specs.Controls.{Control, had_turn, parts_in, promise_in, rank_by, state_now, tables_in, view_in}
 
 pub record IsStanding (c : Control) : Type 0 where
@@ -14,6 +15,8 @@ pub record IsStanding (c : Control) : Type 0 where
   pub newest : slice_get c.plane.board.log.history c.plane.board.log.version.applied ≡ Some (tables_in c)
   -- where no change is being made nothing is retired
   pub calm : c.plane.board.log.version.settled ≡ c.plane.board.log.version.applied → c.plane.board.union.retired ≡ []
+  -- no turn lacks an object: none is queued before the first change
+  pub roomy : 0 < c.plane.board.log.version.applied → HasRoomLeft (tables_in c) (view_in c).free (state_now c)
   -- turns since the last change
   pub ordered : InOrder (rank_by c) (state_now c) (had_turn c)
   pub once : AllDiffer c.done

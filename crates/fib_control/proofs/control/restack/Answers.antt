@@ -1,5 +1,7 @@
 use Rattle.std.proofs.Common.{subst}
-use Rattle.std.specs.Prelude.{IfOk}
+use Rattle.std.specs.Prelude.{IfOk, IsErrOf}
+use Rattle.fib_stack.specs.Room.{HasRoomLeft}
+use Rattle.fib_stack.specs.declared.records.Want.TheVariants as wants
 use Rattle.fib_resolve.specs.declared.types.Tables.{Tables}
 use Rattle.fib_entries.specs.Known.{rank_of}
 use Rattle.fib_shared.specs.Shares.{view_of}
@@ -13,3 +15,13 @@ returns-clause-turn g c = subst
     (λ (S : Tables). IfOk c.turn.result (λ t. TurnDone S (rank_of c.args.entries.now.rows) t (state_in (view_of c.args.shared.now.plane) (parts_of c.args.table.now c.args.stack.now c.args.queue.now))
     (state_in (view_of c.turn.new.on.plane) (parts_of c.turn.new.table c.turn.new.self c.turn.new.queue))))
     c.tables-tables.ensures.value c.turn.ensures.turn
+
+pub returns-clause-finds : goal.returns-clause-finds
+returns-clause-finds g c = subst
+    (λ (S : Tables). HasRoomLeft S (view_of c.args.shared.now.plane).free (state_in (view_of c.args.shared.now.plane) (parts_of c.args.table.now c.args.stack.now c.args.queue.now)) → IsErrOf c.turn.result wants.Object → ⊥)
+    c.tables-tables.ensures.value c.turn.ensures.finds
+
+pub returns-clause-left : goal.returns-clause-left
+returns-clause-left g c = subst
+    (λ (S : Tables). HasRoomLeft S (view_of c.args.shared.now.plane).free (state_in (view_of c.args.shared.now.plane) (parts_of c.args.table.now c.args.stack.now c.args.queue.now)) → HasRoomLeft S (view_of c.turn.new.on.plane).free (state_in (view_of c.turn.new.on.plane) (parts_of c.turn.new.table c.turn.new.self c.turn.new.queue)))
+    c.tables-tables.ensures.value c.turn.ensures.left

@@ -29,7 +29,7 @@ invariant_of-self g c =
           (c.begin_version.ensures ∙ ap (λ (S : Tables). (let p : Plane = record c.self.inside.shared.plane { board = board_begun c.self.inside.shared.plane.board S } in p)) c.tables.ensures.value)
           c.clear.ensures.items
           (changed_standing old c.self.invariant.0 told T c.change.new.entries c.change.new.queue.members e.stands e.queued
-          (e.ranks (λ d r at. c.self.invariant.0.joined.ranked d r at)) (let f = e.fits.0 in omega (arith, f, few))),
+          (e.ranks (λ d r at. c.self.invariant.0.joined.ranked d r at)) (let f = e.fits.0 in omega (arith, f, few)) (let f = e.fits.1 in let free = c.free.ensures in omega (arith, f, free))),
       few ∙ sym room,
     )
 

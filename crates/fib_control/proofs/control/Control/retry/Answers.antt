@@ -17,6 +17,7 @@ invariant_of-self g c =
       beneath old new c.self.invariant.0 (record { setup = refl; entries = refl; promise = c.retry.ensures.promise })
           (c.retry.ensures.joined (tables_in old) (rank_by old) c.self.invariant.0.joined)
           (λ same. empty_from copy_seen c.retry.new.on.plane.board.union.retired (c.retry.ensures.retired ∙ ap (λ (xs : List Copy). map copy_seen xs) (c.self.invariant.0.calm same)))
+          (λ begun. c.retry.ensures.room (tables_in old) (c.self.invariant.0.roomy begun))
           (order_same (rank_by old) (state_now old) (state_now new) (had_turn old) (had_turn new) (λ d. refl) (λ d. refl) c.self.invariant.0.ordered)
           c.self.invariant.0.once,
       c.self.invariant.1,

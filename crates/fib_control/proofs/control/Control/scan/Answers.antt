@@ -4,7 +4,8 @@ use Rattle.fib_ledger.proofs.Books.{times_within}
 use Rattle.fib_shared.specs.Shares.{copy_seen, promise_of, view_of}
 use Rattle.fib_stack.specs.Joined.{Joined}
 use Rattle.fib_stack.proofs.Moving.{moved_joined, scan_moved}
-use Rattle.fib_control.specs.Controls.{Control, had_turn, parts_in, rank_by, state_now, tables_in}
+use Rattle.fib_stack.proofs.Rooming.{made_alike, room_left}
+use Rattle.fib_control.specs.Controls.{Control, had_turn, parts_in, rank_by, state_now, tables_in, view_in}
 use Rattle.fib_control.proofs.Turned.{beneath, may_clear_now, order_same, retired_waits}
 use Rattle.fib_control.proofs.control.Control.scan.Goals as goal
 
@@ -22,6 +23,7 @@ invariant_of-self g c =
           (scan_moved (promise_of c.self.inside.shared.plane.board) (view_of c.self.inside.shared.plane) (view_of c.scan.new.self.plane) c.scan.result c.scan.new.self.sound c.scan.ensures.scanned)
           c.scan.new.self.sound (λ d r. times_within c.self.inside.stack.ledger.rows d r)))
           (λ same. absurd (omega (arith, waits, same)))
+          (λ begun. room_left (tables_in old) (state_now old) (state_now new) (view_in old).free (view_in new).free c.scan.ensures.scanned.swept.free (made_alike (tables_in old) (state_now old) (state_now new) refl refl) (c.self.invariant.0.roomy begun))
           (order_same (rank_by old) (state_now old) (state_now new) (had_turn old) (had_turn new) (λ d. refl) (λ d. refl) c.self.invariant.0.ordered)
           c.self.invariant.0.once,
       c.self.invariant.1,

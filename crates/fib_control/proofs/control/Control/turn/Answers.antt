@@ -23,6 +23,7 @@ invariant_of-self-in-Ok g c =
       beneath old new i (record { setup = refl; entries = refl; promise = e.promise })
           e.joined
           (λ same. absurd (omega (arith, waits, same)))
+          (λ begun. e.left (i.roomy begun))
           (turned_order (tables_in old) (rank_by old) c.in-Ok.turn (state_now old) (state_now new) c.self.inside.done.items c.note.new.done.items (is_ranked old i) e.turn i.ordered after)
           (turned_once c.in-Ok.turn c.self.inside.done.items c.note.new.done.items after i.once),
       c.self.invariant.1,
@@ -38,6 +39,7 @@ invariant_of-self-in-Err g c =
       beneath old new i (record { setup = refl; entries = refl; promise = e.promise })
           e.joined
           (λ same. absurd (omega (arith, waits, same)))
+          (λ begun. e.left (i.roomy begun))
           (order_same (rank_by old) (state_now old) (state_now new) (had_turn old) (had_turn new) (λ d. ap (λ (s : Parts). is_some (rank_in s.queue d)) e.parts) (λ d. ap (λ (xs : List Prefix). is_among xs d) c.reserve.ensures.items) i.ordered)
           (subst AllDiffer (sym c.reserve.ensures.items) i.once),
       c.self.invariant.1,
@@ -47,3 +49,9 @@ pub returns-in-Ok-clause-turn : goal.returns-in-Ok-clause-turn
 returns-in-Ok-clause-turn g c =
     let new : Control = record { setup = c.self.inside.config; entries = c.self.inside.entries; plane = c.restack.new.shared.plane; rows = c.restack.new.table.rows.members; plies = c.restack.new.table.plies; known = c.restack.new.stack.ledger.rows; late = c.restack.new.stack.late.members; queue = c.restack.new.queue.members; done = c.note.new.done.items } in
     subst (λ (x : Control). TurnDone (tables_in x) (rank_by x) c.in-Ok.turn (state_now x) (state_now new)) c.self.view_is c.in-Ok.ensures.turn
+
+pub returns-in-Err-clause-finds : goal.returns-in-Err-clause-finds
+returns-in-Err-clause-finds g c =
+    let old : Control = record { setup = c.self.inside.config; entries = c.self.inside.entries; plane = c.self.inside.shared.plane; rows = c.self.inside.table.rows.members; plies = c.self.inside.table.plies; known = c.self.inside.stack.ledger.rows; late = c.self.inside.stack.late.members; queue = c.self.inside.queue.members; done = c.self.inside.done.items } in
+    let waits = busy_waits old c.self.invariant.0 c.len.result c.len.ensures c.if-len-eq0.false in
+    c.in-Err.ensures.finds (c.self.invariant.0.roomy (omega (arith, waits)))
