@@ -6,4 +6,3 @@ pub mod Turned
 pub mod Telling
 pub mod Started
 pub mod Born
-pub mod Walked

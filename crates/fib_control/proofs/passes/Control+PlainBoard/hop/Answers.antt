@@ -1,0 +1,14 @@
+use Rattle.std.proofs.Common.{sym, subst}
+use Rattle.fib_board.specs.Boards.{Board}
+use Rattle.fib_plainboard.specs.Passes.{hopped_on}
+use Rattle.fib_plane.specs.Planes.{Plane}
+use Rattle.fib_control.specs.Controls.{Control}
+use Rattle.fib_control.specs.inner.Standing.{IsStanding}
+use Rattle.fib_control.proofs.Kept.{passed_standing}
+use Rattle.fib_control.proofs.passes.Control+PlainBoard.hop.Goals as goal
+
+pub invariant_of-self : goal.invariant_of-self
+invariant_of-self c =
+    let old : Control = record { setup = c.self.inside.config; entries = c.self.inside.entries; plane = c.self.inside.shared.plane; rows = c.self.inside.table.rows.members; plies = c.self.inside.table.plies; known = c.self.inside.stack.ledger.rows; late = c.self.inside.stack.late.members; queue = c.self.inside.queue.members; done = c.self.inside.done.items } in
+    let b : Board = hopped_on c.self.inside.shared.plane.board c.args.worker in
+    (subst (λ (p : Plane). IsStanding (record old { plane = p })) (sym c.hop.ensures.pass) (passed_standing old b.out b.rests b.passes c.self.invariant.0), c.self.invariant.1)
