@@ -6,3 +6,4 @@ pub mod Turned
 pub mod Telling
 pub mod Started
 pub mod Born
+pub mod Rests

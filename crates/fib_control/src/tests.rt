@@ -1,18 +1,21 @@
 // A control plane over a plain board, by its calls.
 ghost use Rattle.std.specs.Prelude.{IfOk};
 ghost use Rattle.fib_resolve.specs.Reachable.{IsWritten};
+ghost use Rattle.fib_control.specs.inner.Rested.{IsRested};
 
 use super::*;
 use fib_addr::{Addr, Prefix};
 use fib_core::Version;
 use fib_plainboard::PlainBoard;
-use fib_resolve::{Edit, List, Name, Need, PathSpec, Refusal, SpecKind};
+use fib_resolve::{Edit, End, List, Name, Need, PathSpec, Refusal, SpecKind};
 use fib_stack::{Turn, Want};
 use std::alloc::Global;
 use std::test::Fail;
 
-// Over 200 objects and one worker.
-fn fresh(alloc: Global) -> Result<Control<PlainBoard>, Fail> {
+// Over 200 objects and one worker, who is at rest.
+fn fresh(alloc: Global) -> Result<Control<PlainBoard>, Fail>
+    ensures { IfOk result (λ c. IsRested c.plane.board) }
+{
     let board = PlainBoard::new(alloc, 200, 1)?;
     match Control::new(alloc, board) {
         Ok(control) => Ok(control),
@@ -138,5 +141,27 @@ fn three_lines_and_a_route(rt: HostRuntime) -> Result<(), Fail> {
     assert_eq!(rt; control.mark_settled(), Ok(4));
     assert!(rt; control.is_quiet());
     assert_eq!(rt; control.tables().routes.len(), 1);
+    Ok(())
+}
+
+// Where a packet to 50.1.1.1 ends, by two hops.
+fn passed(control: &mut Control<PlainBoard>) -> Result<End, Fail>
+    requires { IsRested control.old.plane.board }
+{
+    control.begin(0, Addr(0x3201_0101), 5);
+    if control.hop(0).is_some() {
+        return Err("the first hop ends".into());
+    }
+    match control.hop(0) {
+        Some(_) => Ok(control.end(0).end),
+        None => Err("the second hop doesn't end".into()),
+    }
+}
+
+#[test]
+fn a_pass_beneath_a_fresh_control(rt: HostRuntime) -> Result<(), Fail> {
+    let mut control = fresh(rt.alloc())?;
+    assert!(rt; !control.running(0));
+    assert_eq!(rt; passed(&mut control)?, End::Drop);
     Ok(())
 }
