@@ -7,3 +7,4 @@ pub mod Telling
 pub mod Started
 pub mod Born
 pub mod Rests
+pub mod Walked

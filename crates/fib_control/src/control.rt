@@ -1,6 +1,8 @@
 // The control plane as one value.
 ghost use Rattle.std.specs.Prelude.{◌≡◌, ◌+◌, ◌-◌, ◌/◌, ◌^◌, ◌<◌, ◌≤◌, [], ℕ, IfErr, IfOk, IsErrOf, IsTrue, None, OnErr, OnOk, Some, length, false, true, vec_capacity, ◌↔◌};
 ghost use Rattle.fib_addr.specs.Prefixes.{Prefix as PrefixValue};
+ghost use Rattle.fib_reach.specs.Walks.{AllDiffer};
+ghost use Rattle.fib_changes.specs.Ranks.{IsRanked};
 ghost use Rattle.fib_resolve.specs.Edits.{edited};
 ghost use Rattle.fib_resolve.specs.Reachable.{IsWritten};
 ghost use Rattle.fib_resolve.specs.Refusals.{refused};
@@ -267,6 +269,50 @@ impl<B: Board> Control<B> {
         ensures parts { (self.new.rows ≡ self.old.rows) × (self.new.plies ≡ self.old.plies) × (self.new.queue ≡ self.old.queue) × (self.new.done ≡ self.old.done) }
     {
         self.stack.retry(&mut self.shared, &self.table, &self.queue)
+    }
+
+    /// The prefixes that had a turn since the last change differ, and ranks are as turns need them. Does nothing.
+    pub fn tells(&self)
+        ensures once { AllDiffer self.now.done }
+        ensures ranked { IsRanked (tables_in self.now) (rank_by self.now) }
+    {
+        // What stands of every control tells it, once a field is used.
+        let _room = self.room;
+    }
+
+    /// Turns until nothing is queued. After want of memory the turns that were done stand.
+    pub fn walk(&mut self) -> Result<(), Want>
+        ensures none { OnOk result (self.new.queue ≡ []) }
+        ensures same { IsBeneath self.old self.new }
+        ensures finds { IsErrOf result Want.Object → ⊥ }
+    {
+        'turns: loop {
+            if self.queued() == 0 {
+                return Ok(());
+            }
+            self.tells();
+            self.turn()?;
+            self.tells();
+        }
+    }
+
+    /// Settles the last version where no worker is out, and answers its number: turns until nothing is queued, a scan and a retry leave nothing that
+    /// waits. After want of memory the turns that were done stand.
+    pub fn settle_alone(&mut self) -> Result<u32, Want>
+        requires { (promise_in self.old).alone ≡ true }
+        ensures quiet { OnOk result (IsQuiet self.new) }
+        ensures version { IfOk result (λ n. (n ≡ self.old.plane.board.log.version.applied) × (self.new.plane.board.log.version.settled ≡ n)) }
+        ensures tables { self.new.setup ≡ self.old.setup }
+        ensures entries { self.new.entries ≡ self.old.entries }
+        ensures finds { IsErrOf result Want.Object → ⊥ }
+    {
+        self.walk()?;
+        self.scan();
+        self.retry();
+        match self.mark_settled() {
+            Ok(version) => Ok(version),
+            Err(_) => unreachable!(),
+        }
     }
 
     /// Settles the last version, whose number it answers, where nothing is queued, deferred or retired. Else it says how much is.
