@@ -1,5 +1,6 @@
 # Read by the scripts here and by tests/driven.sh. `beside CRATE..` makes a temporary folder, which goes at the end, with copies of these crates and
 # of those that they stand on, and a crate `measure` over them, whose src/ is still to be written. The folder is $work, the repository $top.
+# Libraries that stand built are copied too: rt takes them where they are of the same text.
 beside() {
     top=$(cd "$(dirname "$0")/.." && pwd)
     work=$(mktemp -d)
@@ -15,6 +16,10 @@ beside() {
                     cp -r "$top/crates/$crate/$part" "$work/crates/$crate/"
                 fi
             done
+            if [ -d "$top/crates/$crate/out/rlib" ]; then
+                mkdir "$work/crates/$crate/out"
+                cp -r "$top/crates/$crate/out/rlib" "$work/crates/$crate/out/"
+            fi
             grep "^$crate:" "$top/crates.txt" >> "$work/crates.txt"
         fi
     done
