@@ -1,9 +1,9 @@
 -- A fresh plain board's worker rests, as long as only the board's words changed.
-use Rattle.std.proofs.Common.{◌≡◌, ◌<◌, ◌∙◌, ap, arith, refl, sym, subst, true}
+use Rattle.std.proofs.Common.{◌≡◌, ◌<◌, ◌∙◌, ap, arith, refl, sym, subst}
 use Rattle.fib_board.specs.Boards.{Board, IsFresh}
 use Rattle.fib_joined.specs.Promise.{Promise}
 use Rattle.fib_plainboard.specs.Passes.{fresh_plain}
-use Rattle.fib_shared.specs.Shares.{but_words, is_alone, promise_of}
+use Rattle.fib_shared.specs.Shares.{but_words, promise_of}
 use Rattle.fib_control.specs.inner.Rested.{IsRested}
 
 fresh_rested : IsRested (but_words (fresh_plain 200 1))
@@ -18,6 +18,3 @@ rested a b same is = with_words a (subst IsRested (sym (ap (λ (p : Promise). p.
 
 pub is_fresh : (b : Board) → b ≡ fresh_plain 200 1 → IsFresh b
 is_fresh b is = subst IsFresh (sym is) (record { some = omega arith; few = omega arith; fresh = refl })
-
-pub nobody_out : (a b : Board) → promise_of a ≡ promise_of b → b ≡ fresh_plain 200 1 → (promise_of a).alone ≡ true
-nobody_out a b same is = ap (λ (p : Promise). p.alone) same ∙ ap is_alone is

@@ -1,7 +1,6 @@
 // A control plane over a plain board, by its calls.
-ghost use Rattle.std.specs.Prelude.{IfOk, true, ◌≡◌};
+ghost use Rattle.std.specs.Prelude.{IfOk};
 ghost use Rattle.fib_resolve.specs.Reachable.{IsWritten};
-ghost use Rattle.fib_control.specs.Controls.{promise_in};
 ghost use Rattle.fib_control.specs.inner.Rested.{IsRested};
 
 use super::*;
@@ -15,8 +14,7 @@ use std::test::Fail;
 
 // Over 200 objects and one worker, who is at rest.
 fn fresh(alloc: Global) -> Result<Control<PlainBoard>, Fail>
-    ensures rested { IfOk result (λ c. IsRested c.plane.board) }
-    ensures alone { IfOk result (λ c. (promise_in c).alone ≡ true) }
+    ensures { IfOk result (λ c. IsRested c.plane.board) }
 {
     let board = PlainBoard::new(alloc, 200, 1)?;
     match Control::new(alloc, board) {
@@ -86,9 +84,21 @@ fn applied(alloc: Global, control: &mut Control<PlainBoard>, number: u32) -> Res
     }
 }
 
+// Turns until none is queued, at most so many. Answers how many there were.
+fn turns(control: &mut Control<PlainBoard>, most: u32) -> Result<u32, Fail> {
+    for turn in 0..most {
+        match control.turn() {
+            Ok(Turn::Idle) => return Ok(turn),
+            Ok(Turn::Restacked { .. }) => {}
+            Err(_) => return Err("a turn wants memory".into()),
+        }
+    }
+    Err("no end".into())
+}
+
 #[test]
 fn a_fresh_control_is_quiet(rt: HostRuntime) -> Result<(), Fail> {
-    let control = fresh(rt.alloc())?;
+    let mut control = fresh(rt.alloc())?;
     assert_eq!(rt; control.used(), 20);
     assert!(rt; control.is_quiet());
     assert_eq!(rt;
@@ -98,18 +108,12 @@ fn a_fresh_control_is_quiet(rt: HostRuntime) -> Result<(), Fail> {
             applied: 0
         }
     );
-    assert_eq!(rt; control.entries().len(), 5);
-    assert!(rt; control.object_of(Prefix::masked(Addr(0), 0)).is_some());
-    Ok(())
-}
-
-#[test]
-fn nothing_waits_in_it(rt: HostRuntime) -> Result<(), Fail> {
-    let mut control = fresh(rt.alloc())?;
-    assert_eq!(rt; control.settle_alone(), Ok(0));
     assert_eq!(rt; control.turn(), Ok(Turn::Idle));
     assert_eq!(rt; control.scan(), 0);
     assert_eq!(rt; control.retry(), 0);
+    assert_eq!(rt; control.mark_settled(), Ok(0));
+    assert_eq!(rt; control.entries().len(), 5);
+    assert!(rt; control.object_of(Prefix::masked(Addr(0), 0)).is_some());
     Ok(())
 }
 
@@ -117,32 +121,25 @@ fn nothing_waits_in_it(rt: HostRuntime) -> Result<(), Fail> {
 fn three_lines_and_a_route(rt: HostRuntime) -> Result<(), Fail> {
     let alloc = rt.alloc();
     let mut control = fresh(alloc)?;
-    for number in 0..3 {
-        applied(alloc, &mut control, number)?;
-    }
+    assert_eq!(rt; applied(alloc, &mut control, 0)?, 1);
+    assert_eq!(rt; applied(alloc, &mut control, 1)?, 2);
+    assert_eq!(rt; applied(alloc, &mut control, 2)?, 3);
+    assert_eq!(rt; control.queued(), 4);
     let again = edit_of(alloc, 0)?;
     assert_eq!(rt;
         apply(&mut control, &again),
         Err(ApplyError::Refused(Refusal::InterfaceExists))
     );
-    assert_eq!(rt; control.queued(), 4);
     assert!(rt; control.mark_settled().is_err());
-    assert_eq!(rt; control.walk(), Ok(()));
+    assert_eq!(rt; turns(&mut control, 10)?, 4);
     assert_eq!(rt; control.scan(), 0);
+    assert_eq!(rt; control.retry(), 0);
     assert_eq!(rt; control.mark_settled(), Ok(3));
-    Ok(())
-}
-
-#[test]
-fn a_route_over_them(rt: HostRuntime) -> Result<(), Fail> {
-    let alloc = rt.alloc();
-    let mut control = fresh(alloc)?;
-    for number in 0..4 {
-        applied(alloc, &mut control, number)?;
-    }
-    assert_eq!(rt; control.walk(), Ok(()));
-    assert_eq!(rt; (control.scan(), control.retry()), (0, 0));
+    assert_eq!(rt; applied(alloc, &mut control, 3)?, 4);
+    assert_eq!(rt; turns(&mut control, 10)?, 2);
+    assert_eq!(rt; control.scan(), 0);
     assert_eq!(rt; control.mark_settled(), Ok(4));
+    assert!(rt; control.is_quiet());
     assert_eq!(rt; control.tables().routes.len(), 1);
     Ok(())
 }
