@@ -15,7 +15,7 @@ use fib_addr::{Addr, Prefix};
 use fib_resolve::{Address, Adjacency, Edit, Neighbor, Route, Tables};
 use std::alloc::{AllocError, Global};
 
-fn add_fixed(out: &mut Vec<Prefix>) -> Result<(), AllocError>
+fn add_fixed_prefixes(out: &mut Vec<Prefix>) -> Result<(), AllocError>
     ensures { OnOk result (out.new.items ≡ out.old.items ++ map prefix_of fixed_pairs) }
 {
     out.push(Prefix::masked(Addr(0), 0))?;
@@ -48,7 +48,7 @@ fn add_all_own(out: &mut Vec<Prefix>, addresses: &[Address]) -> Result<(), Alloc
     Ok(())
 }
 
-fn add_routes(out: &mut Vec<Prefix>, routes: &[Route]) -> Result<(), AllocError>
+fn add_route_prefixes(out: &mut Vec<Prefix>, routes: &[Route]) -> Result<(), AllocError>
     ensures { OnOk result (out.new.items ≡ out.old.items ++ map prefix_of_route routes.now) }
 {
     for r in routes {
@@ -57,7 +57,7 @@ fn add_routes(out: &mut Vec<Prefix>, routes: &[Route]) -> Result<(), AllocError>
     Ok(())
 }
 
-fn add_neighbors(out: &mut Vec<Prefix>, neighbors: &[Neighbor]) -> Result<(), AllocError>
+fn add_neighbor_hosts(out: &mut Vec<Prefix>, neighbors: &[Neighbor]) -> Result<(), AllocError>
     ensures { OnOk result (out.new.items ≡ out.old.items ++ map host_of neighbors.now) }
 {
     for n in neighbors {
@@ -82,10 +82,10 @@ fn candidates(alloc: Global, tables: &Tables, hops: &[Addr]) -> Result<Vec<Prefi
     ensures { IfOk result (λ v. v.items ≡ candidates tables.now hops.now) }
 {
     let mut out = Vec::new(alloc);
-    add_fixed(&mut out)?;
+    add_fixed_prefixes(&mut out)?;
     add_all_own(&mut out, tables.addresses.as_slice())?;
-    add_routes(&mut out, tables.routes.as_slice())?;
-    add_neighbors(&mut out, tables.neighbors.as_slice())?;
+    add_route_prefixes(&mut out, tables.routes.as_slice())?;
+    add_neighbor_hosts(&mut out, tables.neighbors.as_slice())?;
     add_hosts(&mut out, hops)?;
     Ok(out)
 }

@@ -13,7 +13,7 @@ use fib_core::Word;
 /// How many stores fill a board for the fresh tables.
 pub const FILLED: u32 = 254;
 
-/// How many there are with those of the ply that grows, without the last that puts the balance back.
+/// How many there are with those of the ply that grows.
 pub const GROWN: u32 = 271;
 
 // Where the ply in that object is linked.
@@ -77,7 +77,7 @@ fn grown_word(store: u32) -> Word
     }
 }
 
-/// The cell of that store, of 272.
+/// The cell of a store: 254 fill, then 17 grow a ply, and the last puts a balance back.
 pub fn cell(store: u32) -> u32
     requires { store < 272 }
     ensures { result ≡ cell_at store }
@@ -97,7 +97,7 @@ pub fn cell(store: u32) -> u32
     }
 }
 
-/// Its word.
+/// The word of a store.
 pub fn word(store: u32) -> Word
     requires { store < 272 }
     ensures { result ≡ word_of_store store }

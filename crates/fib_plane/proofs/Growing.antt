@@ -1,8 +1,7 @@
 -- Planes of the tests: filled for the fresh tables by their own puts, and a ply that grows and leaves beneath a held pass.
-use Rattle.std.proofs.Common.{arith, ◌≡◌, ◌≢◌, inl, inr, ℕ, zero, suc, ◌+◌, ◌*◌, ◌/◌, ◌%◌, ◌-◌, ◌<◌, ◌≤◌, true, List, [], ◌∷◌, length, Option, Some, None, refl, sym, ◌∙◌, ap, subst}
-use Rattle.std.specs.Prelude.{count_by, slice_index, slice_index_or}
+use Rattle.std.proofs.Common.{arith, ◌≡◌, ◌≢◌, inl, inr, ℕ, ◌+◌, ◌*◌, ◌/◌, ◌%◌, ◌-◌, ◌<◌, ◌≤◌, true, List, [], ◌∷◌, length, Option, Some, None, refl, sym, ◌∙◌, ap, subst}
+use Rattle.std.specs.Prelude.{slice_index, slice_index_or}
 use Rattle.std.proofs.lemmas.Bool.{cases_eq}
-use Rattle.fib_interned.specs.Interned.{Kept}
 use Rattle.fib_resolve.specs.Tables.{fresh}
 use Rattle.fib_resolve.specs.declared.types.Tables.{Tables}
 use Rattle.fib_union.specs.Marks.{is_even}
@@ -12,7 +11,6 @@ use Rattle.fib_core.specs.declared.word.Word.{Word}
 use Rattle.fib_core.specs.declared.word.Word.TheVariants as words
 use Rattle.fib_core.specs.Trails.{place, IsGoing}
 use Rattle.fib_pool.specs.declared.object.Object.{Object}
-use Rattle.fib_pool.specs.declared.object.AdjacencyRecord.{AdjacencyRecord}
 use Rattle.fib_pool.specs.Objects.{at, count_in, count_of, free_in, is_free, IsLive}
 use Rattle.fib_pool.proofs.Pools.{live_at}
 use Rattle.fib_lawful.specs.State.{Log, left_of}
@@ -20,11 +18,10 @@ use Rattle.fib_board.specs.Boards.{Board, IsFresh, Pass, board_begun, board_scan
 use Rattle.fib_board.specs.May.{Allows, MayStore, Serves}
 use Rattle.fib_plainboard.specs.Passes.{IsOnItsWay, fresh_plain, hopped_on, pass_begun, pass_ended, pass_of}
 use Rattle.fib_plainboard.specs.inner.Fresh.{after_stores, cell_at, word_of_store}
-use Rattle.fib_plainboard.specs.inner.Filling.{IsFilling, IsGrowing}
 use Rattle.fib_plainboard.proofs.Fills as fills
 use Rattle.fib_plainboard.proofs.Growing as growing
 use Rattle.fib_joined.specs.declared.put.Put.{Put}
-use Rattle.fib_plane.specs.Planes.{Plane, Holds, IsHeld, IsScanned, IsSwept, released, with_cells}
+use Rattle.fib_plane.specs.Planes.{Plane, Holds, IsHeld, IsScanned, IsSwept, released}
 use Rattle.fib_plane.specs.Puts.{IsPut, IsStored, MayPut}
 use Rattle.fib_plane.specs.Sound.{IsPlane}
 use Rattle.fib_plane.specs.inner.Grown.{HoldsBut, IsCalm, IsFillingPlane, IsGrowingPlane, IsReadyPlane, MayLook}

@@ -1,5 +1,5 @@
 -- Where each object is live a sweep changes nothing: a put is a store then, and a scan is looks alone.
-use Rattle.std.proofs.Common.{arith, ◌≡◌, ◌≢◌, ⊎_elim, ℕ, zero, suc, ◌+◌, ◌*◌, ◌<◌, List, [], ◌∷◌, length, map, Option, Some, None, refl, sym, ◌∙◌, ap, subst, length-set}
+use Rattle.std.proofs.Common.{arith, ◌≡◌, ◌≢◌, ⊎_elim, ℕ, ◌+◌, ◌*◌, ◌<◌, List, [], ◌∷◌, length, Option, Some, refl, sym, ◌∙◌, ap, subst, length-set}
 use Rattle.std.specs.Prelude.{count_by, slice_index, slice_set}
 use Rattle.std.proofs.lemmas.List.{ext_get_or, length-map}
 use Rattle.fib_union.specs.Unions.{owner}
@@ -10,7 +10,7 @@ use Rattle.fib_core.specs.Union.{copy_of}
 use Rattle.fib_core.proofs.Numbers.{decoded_encoded}
 use Rattle.fib_pool.specs.declared.object.Object.{Object}
 use Rattle.fib_pool.specs.Objects.{IsLive}
-use Rattle.fib_board.specs.Boards.{Board, as_control, board_scanned, board_scans, board_stored, edge_of, union_of}
+use Rattle.fib_board.specs.Boards.{Board, board_scanned, board_scans, board_stored, edge_of, union_of}
 use Rattle.fib_board.specs.May.{MayChange, MayStore, Serves}
 use Rattle.fib_plainboard.proofs.Forests.{set_cases}
 use Rattle.fib_joined.specs.declared.put.Put.{Put}

@@ -1,4 +1,3 @@
-use Rattle.fib_plainboard.proofs.Changing.{ready_begins}
 use Rattle.fib_plane.proofs.Growing.{begun_growing}
 use Rattle.fib_plane.proofs.tests.changing_plane.Goals as goal
 

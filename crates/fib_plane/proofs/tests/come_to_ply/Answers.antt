@@ -1,6 +1,4 @@
-use Rattle.std.proofs.Common.{ap}
-use Rattle.fib_board.specs.Boards.{Board}
-use Rattle.fib_plane.proofs.Growing.{begin_growing, calm_left, calm_pass, hop_growing}
+use Rattle.fib_plane.proofs.Growing.{calm_left, calm_pass}
 use Rattle.fib_plane.proofs.tests.come_to_ply.Goals as goal
 
 pub begin-requires-clause-rests : goal.begin-requires-clause-rests

@@ -1,4 +1,4 @@
-use Rattle.std.proofs.Common.{arith, ◌≡◌, ◌≤◌, ◌∙◌, sym, subst}
+use Rattle.std.proofs.Common.{arith, ◌≡◌}
 use Rattle.fib_pool.specs.Objects.{free_in}
 use Rattle.fib_plane.proofs.Growing.{calm_fresh, first_plane, is_fresh_one}
 use Rattle.fib_plane.proofs.tests.held_plane.Goals as goal

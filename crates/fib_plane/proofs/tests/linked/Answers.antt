@@ -1,8 +1,5 @@
-use Rattle.std.proofs.Common.{arith, ◌∙◌, ◌≡◌, ap, subst}
+use Rattle.std.proofs.Common.{arith, ◌∙◌}
 use Rattle.fib_pool.specs.declared.object.Kind.TheVariants as kinds
-use Rattle.fib_board.specs.Boards.{Board}
-use Rattle.fib_plainboard.specs.Passes.{fresh_plain}
-use Rattle.fib_plane.specs.Planes.{IsHeld}
 use Rattle.fib_plane.proofs.Trying.{held_one}
 use Rattle.fib_plane.proofs.tests.linked.Goals as goal
 

@@ -1,5 +1,5 @@
 use Rattle.std.proofs.Common.{arith}
-use Rattle.fib_plane.proofs.Growing.{last_look, last_passes, last_put, last_serves, last_source, last_target}
+use Rattle.fib_plane.proofs.Growing.{last_put, last_serves, last_source, last_target}
 use Rattle.fib_plane.proofs.Trying.{none_kept}
 use Rattle.fib_plane.proofs.tests.replace_edge.Goals as goal
 
