@@ -8,6 +8,7 @@ mod beginning;
 mod control;
 mod errors;
 mod following;
+mod looking;
 mod passes;
 mod queueing;
 
