@@ -5,12 +5,12 @@ use Rattle.std.proofs.lemmas.List.{append_assoc, append-nil, length-append}
 use Rattle.fib_results.specs.declared.record.Record.{Record}
 use Rattle.fib_results.specs.Trails.{AtLeast}
 use Rattle.fib_capture.specs.declared.packet.Packet.{Packet}
-use Rattle.fib_capture.specs.declared.packet.Packet.TheVariants.{Flow}
+use Rattle.fib_capture.specs.declared.packet.Packet.TheVariants.{Flow, NotIpv4, BadHeader}
 use Rattle.fib_lawful.specs.State.{left_of}
 use Rattle.fib_board.specs.Crews.{Seated}
 use Rattle.fib_worker.specs.Passes.{HasForwarded as HasPassed}
 use Rattle.fib_crew.specs.Packets.{Matched, IsAsked, IsOf, span}
-use Rattle.fib_crew.specs.Results.{numbered, Told, IsResultOf, HasForwarded}
+use Rattle.fib_crew.specs.Results.{numbered, Told, IsResultOf, HasForwarded, HasForwardedOne}
 use Rattle.fib_crew.proofs.Spans.{span_none, span_more, length_span}
 use Rattle.fib_crew.proofs.Matching.{matched_append, told_append, numbered_append, at_least_trans}
 
@@ -82,3 +82,20 @@ forwarded_flow v w u ps a b old mid new x h r le lt is f pass pushed =
           (at_least_trans v.worker.knows w.worker.knows r.hi f.knows (at_least_trans w.worker.knows r.lo r.hi pass.later pass.order));
       left = (let l = f.left in let e = ap (λ (s : Seated). s.worker.pass) pass.seat in let g = ap length grown in let m = length-append (span ps a b) (Flow x h ∷ []) in omega (arith, l, e, g, m));
     }
+
+-- by what the packet is
+pub forwarded_one : (v w u : Seated) (ps : List Packet) (a b : ℕ) (old mid new : List (ℕ × Record)) (p : Packet) → a ≤ b → b < length ps → slice_get ps b ≡ Some p
+    → HasForwarded v w a (span ps a b) old mid → HasForwardedOne w u b p mid new → HasForwarded v u a (span ps a (b + 1)) old new
+forwarded_one v w u ps a b old mid new (Flow x h) le lt is f one = forwarded_flow v w u ps a b old mid new x h one.0 le lt is f one.1 one.2
+forwarded_one v w u ps a b old mid new NotIpv4 le lt is f one =
+    subst (λ (x : Seated). HasForwarded v x a (span ps a (b + 1)) old new) (sym one.0)
+    (subst (HasForwarded v w a (span ps a (b + 1)) old) (sym one.1) (forwarded_other v w ps a b old mid NotIpv4 le lt is tt refl f))
+forwarded_one v w u ps a b old mid new BadHeader le lt is f one =
+    subst (λ (x : Seated). HasForwarded v x a (span ps a (b + 1)) old new) (sym one.0)
+    (subst (HasForwarded v w a (span ps a (b + 1)) old) (sym one.1) (forwarded_other v w ps a b old mid BadHeader le lt is tt refl f))
+
+-- it takes one pass at most
+pub one_left : (w u : Seated) (n : ℕ) (p : Packet) (mid new : List (ℕ × Record)) → HasForwardedOne w u n p mid new → left_of w.worker.pass ≤ left_of u.worker.pass + 1
+one_left w u n (Flow x h) mid new one = (let e = ap (λ (s : Seated). s.worker.pass) (one.1).seat in omega (arith, e))
+one_left w u n NotIpv4 mid new one = (let e = ap (λ (s : Seated). s.worker.pass) one.0 in omega (arith, e))
+one_left w u n BadHeader mid new one = (let e = ap (λ (s : Seated). s.worker.pass) one.0 in omega (arith, e))

@@ -1,18 +1,17 @@
 -- One frame more.
-use Rattle.std.proofs.Common.{◌≡◌, ◌<◌, ◌≤◌, ◌+◌, ◌*◌, ◌++◌, ◌∷◌, [], ℕ, List, drop, length, arith, refl, ap, ◌∙◌, sym, subst, Option, Some, None}
+use Rattle.std.proofs.Common.{◌≡◌, ◌<◌, ◌≤◌, ◌+◌, ◌*◌, ◌++◌, ◌∷◌, [], ℕ, List, drop, arith, refl, ap, ◌∙◌, sym, subst, Option, Some, None}
 use Rattle.std.specs.List.{AllByRecursion}
 use Rattle.std.proofs.lemmas.List.{append_assoc, append-nil, length-append, length-take}
 use Rattle.fib_list.proofs.Lists.{each-append}
 use Rattle.fib_results.specs.Trails.{AtLeast, version_at}
 use Rattle.fib_capture.specs.declared.packet.Packet.{Packet}
-use Rattle.fib_lawful.specs.State.{left_of}
 use Rattle.fib_board.specs.Crews.{Seated}
 use Rattle.fib_cells.specs.Seats.{seat_claimed}
 use Rattle.fib_crew.specs.Packets.{Matched, IsAsked}
 use Rattle.fib_crew.specs.Frames.{frame, frames}
 use Rattle.fib_crew.specs.Results.{numbered, results_of, Told, HasForwarded}
 use Rattle.fib_crew.specs.Work.{IsForwarded, frames_in, results_in, Named, HasWorked, steps_of, steps_so_far}
-use Rattle.fib_crew.specs.declared.work.Frame.{Frame}
+use Rattle.fib_crew.specs.declared.claims.Frame.{Frame}
 use Rattle.fib_crew.proofs.Matching.{asked_lower, told_append, results_numbered, at_least_trans}
 
 -- ---- steps in two parts

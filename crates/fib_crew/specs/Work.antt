@@ -10,7 +10,7 @@ use Rattle.fib_board.specs.Crews.{Seated}
 use Rattle.fib_crew.specs.Packets.{Matched, IsAsked}
 use Rattle.fib_crew.specs.Frames.{frame, frames}
 use Rattle.fib_crew.specs.Results.{numbered, results_of, Told}
-use Rattle.fib_crew.specs.declared.work.Frame.{Frame}
+use Rattle.fib_crew.specs.declared.claims.Frame.{Frame}
 
 -- of a round that opened at version k with these packets, of which the first has that number: this frame's packets were forwarded
 pub record IsForwarded (k first : ℕ) (taken : List Packet) (f : Frame) : Type 0 where

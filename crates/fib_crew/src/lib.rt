@@ -4,13 +4,13 @@
 //! them: each flow's result is that of a trail of its own, which is one of the worker's past.
 #![tactic(auto)]
 
+mod claims;
 mod results;
 mod span;
-mod work;
 
+pub use claims::{Frame, Taken, Worked, work};
 pub use results::Results;
 pub use span::forward_span;
-pub use work::{Frame, Taken, Worked, work};
 
 #[cfg(test)]
 mod tests;

@@ -107,10 +107,14 @@ pub fn work<'a, G: Gate>(
         let from = taken.first + 256 * number;
         let size = (taken.to - from).min(256);
         let Ok(mut results) = room_for(alloc, &mut list, size) else {
-            break;
+            return Worked {
+                worker,
+                frames: list,
+                done: false,
+            };
         };
         worker = forward_span(worker, packets, from, from + size, &mut results, gate);
-        let _ = list.push(Frame { number, results });
+        list.push_reserved(Frame { number, results });
     }
     Worked {
         worker,
