@@ -6,10 +6,12 @@
 
 mod beginning;
 mod control;
+mod crew;
 mod errors;
 mod following;
 mod passes;
 mod queueing;
+mod settling;
 
 pub use control::Control;
 pub use errors::{ApplyError, Busy};
