@@ -10,6 +10,7 @@ use Rattle.fib_resolve.specs.Touched.{is_touched}
 use Rattle.fib_resolve.specs.declared.types.Tables.{Tables}
 use Rattle.fib_core.specs.StandsFor.{Stands}
 use Rattle.fib_core.specs.Walk.{IsFlow, walk}
+use Rattle.fib_core.specs.Trails.{Trail}
 use Rattle.fib_config.specs.Config.{Setup}
 use Rattle.fib_entries.specs.Known.{Known, StandsFor, rank_of}
 use Rattle.fib_pool.specs.Objects.{free_in}
@@ -140,12 +141,12 @@ changed_like c T v queue s p ds setup plane none h =
     (subst (λ (x : Plane). IsStanding (record c { setup = record c.setup { tables = T }; entries = v; plane = x; queue = queue; done = ds })) (sym plane)
     (subst (λ (x : List Prefix). IsStanding (record c { setup = record c.setup { tables = T }; entries = v; plane = record c.plane { board = board_begun c.plane.board T }; queue = queue; done = x })) (sym none) h))
 
--- passes begin, hop and end: of the board only who is out, pass words and passes are other
-pub passed_standing : (c : Control) (out : List Bool) (rests : List ℕ) (passes : List (Option Pass)) → IsStanding c
-    → IsStanding (record c { plane = record c.plane { board = record c.plane.board { out = out; rests = rests; passes = passes } } })
-passed_standing c out rests passes i = record {
+-- passes begin, hop and end, and workers leave and come home: of the board only who is out, pass words, passes, trails and claims are other
+pub passed_standing : (c : Control) (out : List Bool) (rests : List ℕ) (passes : List (Option Pass)) (trails : List Trail) (gathered : List ℕ) → IsStanding c
+    → IsStanding (record c { plane = record c.plane { board = record c.plane.board { out = out; rests = rests; passes = passes; trails = trails; gathered = gathered } } })
+passed_standing c out rests passes trails gathered i = record {
   stands = i.stands;
-  joined = same_versions (tables_in c) (rank_by c) (promise_in c) (promise_of (record c.plane.board { out = out; rests = rests; passes = passes })) (view_in c) (parts_in c) i.joined refl refl refl;
+  joined = same_versions (tables_in c) (rank_by c) (promise_in c) (promise_of (record c.plane.board { out = out; rests = rests; passes = passes; trails = trails; gathered = gathered })) (view_in c) (parts_in c) i.joined refl refl refl;
   newest = i.newest;
   calm = i.calm;
   roomy = i.roomy;

@@ -23,7 +23,7 @@ ghost use Rattle.fib_stack.specs.Room.{HasRoomLeft};
 ghost use Rattle.fib_stack.specs.Turns.{parts_of};
 ghost use Rattle.fib_stack.specs.Records.{SamePlane};
 ghost use Rattle.fib_stack.specs.Steps.{Retried};
-ghost use Rattle.fib_control.specs.Controls.{IsBeneath, IsBusy, IsChanged, IsDoneAfter, IsNotCrowded, IsQuiet, IsSettled, TellsApply, noted, parts_in, promise_in, rank_by, state_now, tables_in, view_in};
+ghost use Rattle.fib_control.specs.Controls.{IsBeneath, IsBusy, IsChanged, IsDoneAfter, IsNotCrowded, IsQuiet, IsSettled, TellsApply, but_settled, noted, parts_in, promise_in, rank_by, state_now, tables_in, view_in};
 
 use crate::beginning::first_table;
 use crate::errors::{ApplyError, Busy};
@@ -322,7 +322,7 @@ impl<B: Board> Control<B> {
         ensures version { IfOk result (λ n. (n ≡ self.old.plane.board.log.version.applied) × (self.new.plane.board.log.version.settled ≡ n)) }
         ensures tables { self.new.setup ≡ self.old.setup }
         ensures entries { self.new.entries ≡ self.old.entries }
-        ensures alone { (promise_in self.new).alone ≡ true }
+        ensures board { but_settled self.new.plane.board ≡ but_settled self.old.plane.board }
         ensures finds { IsErrOf result Want.Object → ⊥ }
     {
         self.walk()?;

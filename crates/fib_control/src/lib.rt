@@ -6,11 +6,13 @@
 
 mod beginning;
 mod control;
+mod crew;
 mod errors;
 mod following;
 mod looking;
 mod passes;
 mod queueing;
+mod settling;
 
 pub use control::Control;
 pub use errors::{ApplyError, Busy};
