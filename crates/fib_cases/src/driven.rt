@@ -2,6 +2,7 @@
 // it is quiet, what it looks up is compared with the plain program's resolution over its tables.
 ghost use Rattle.std.specs.Prelude.{◌≡◌, ◌<◌, true, IfOk, OnOk};
 ghost use Rattle.fib_resolve.specs.Reachable.{IsWritten};
+ghost use Rattle.fib_resolve.specs.Tables.{IsSound};
 ghost use Rattle.fib_control.specs.Controls.{IsQuiet, promise_in};
 
 use crate::compared::Part;
@@ -12,7 +13,7 @@ use fib_control::{ApplyError, Control};
 use fib_list::Duplicate;
 use fib_plain::{Snapshot, touched};
 use fib_plainboard::PlainBoard;
-use fib_resolve::Edit;
+use fib_resolve::{Edit, Tables};
 use fib_stack::Turn;
 use std::alloc::{AllocError, Global};
 use std::collections::HashSet;
@@ -198,7 +199,30 @@ fn has_all_once(alloc: Global, had: &[Prefix], wanted: &[Prefix]) -> Result<bool
     Ok(wanted.iter().all(|p| seen.contains(p)))
 }
 
-// An edit on a settled control, and all turns that it makes: each prefix that it touches has one, and none has two.
+// An edit of these tables, and all turns that it makes: each prefix that it touches has one, and none has two.
+fn drive_from(
+    alloc: Global,
+    control: &mut Control<PlainBoard>,
+    before: &Tables,
+    edit: &Edit,
+) -> Result<Option<Part>, AllocError>
+    requires sound { IsSound before.now }
+    requires written { IsWritten edit.now }
+    requires alone { (promise_in control.old).alone ≡ true }
+    ensures alone { (promise_in control.new).alone ≡ true }
+{
+    if !make(control, edit)? {
+        return Ok(None);
+    }
+    let wanted = touched(alloc, before, control.tables())?;
+    let had = restacked(alloc, control)?;
+    if has_all_once(alloc, had.as_slice(), wanted.as_slice())? {
+        return Ok(None);
+    }
+    Ok(Some(Part::Touched))
+}
+
+// The same of the tables of a control that is settled first.
 fn drive_whole(
     alloc: Global,
     control: &mut Control<PlainBoard>,
@@ -210,15 +234,7 @@ fn drive_whole(
 {
     settle(control)?;
     let before = control.tables().duplicate(alloc)?;
-    if !make(control, edit)? {
-        return Ok(None);
-    }
-    let wanted = touched(alloc, &before, control.tables())?;
-    let had = restacked(alloc, control)?;
-    if has_all_once(alloc, had.as_slice(), wanted.as_slice())? {
-        return Ok(None);
-    }
-    Ok(Some(Part::Touched))
+    drive_from(alloc, control, &before, edit)
 }
 
 // An edit, and some of the work that it makes; once in so many times all of it.
@@ -248,26 +264,71 @@ fn drive(
     }
 }
 
-// The first difference in what the control answers; None where there is none. A batch's edits are made one by one.
-pub fn drive_script(alloc: Global, bytes: &[u8]) -> Result<Option<Difference>, ScriptError> {
-    let script = Script::read(alloc, bytes)?;
-    let mut control = fresh(alloc)?;
-    let mut dice = Dice { bits: 2463534242 };
+// A line's edit, where it is one.
+fn drive_line(
+    alloc: Global,
+    control: &mut Control<PlainBoard>,
+    dice: &mut Dice,
+    often: u32,
+    line: &[u8],
+) -> Result<Option<Part>, AllocError>
+    requires often { 0 < often }
+    requires alone { (promise_in control.old).alone ≡ true }
+    ensures alone { (promise_in control.new).alone ≡ true }
+{
+    match edit_of(alloc, line)? {
+        Some(edit) => drive(alloc, control, dice, often, &edit),
+        None => Ok(None),
+    }
+}
+
+// The first difference in what the control answers on the way through a script's edits.
+fn drive_lines(
+    alloc: Global,
+    control: &mut Control<PlainBoard>,
+    dice: &mut Dice,
+    script: &Script,
+) -> Result<Option<Difference>, AllocError>
+    requires { (promise_in control.old).alone ≡ true }
+    ensures { (promise_in control.new).alone ≡ true }
+{
     // The plain programs take long over long scripts.
     let often = 4 + script.lines() / 16;
     for line in 1..script.lines() + 1 {
-        let Some(edit) = edit_of(alloc, script.line(line))? else {
-            continue;
-        };
-        if let Some(part) = drive(alloc, &mut control, &mut dice, often, &edit)? {
+        if let Some(part) = drive_line(alloc, control, dice, often, script.line(line))? {
             return Ok(Some(Difference { line, part }));
         }
     }
-    match settled_difference(alloc, &mut control, &mut dice)? {
-        Some(part) => Ok(Some(Difference {
-            line: script.lines(),
-            part,
-        })),
+    Ok(None)
+}
+
+// And at its end.
+fn drive_all(
+    alloc: Global,
+    control: &mut Control<PlainBoard>,
+    script: &Script,
+) -> Result<Option<Difference>, AllocError>
+    requires { (promise_in control.old).alone ≡ true }
+{
+    let mut dice = Dice { bits: 2463534242 };
+    if let Some(found) = drive_lines(alloc, control, &mut dice, script)? {
+        return Ok(Some(found));
+    }
+    let line = script.lines();
+    match settled_difference(alloc, control, &mut dice)? {
+        Some(part) => Ok(Some(Difference { line, part })),
         None => Ok(None),
     }
+}
+
+// Over a control of its own.
+fn drive_fresh(alloc: Global, script: &Script) -> Result<Option<Difference>, AllocError> {
+    let mut control = fresh(alloc)?;
+    drive_all(alloc, &mut control, script)
+}
+
+// The first difference in what the control answers; None where there is none. A batch's edits are made one by one.
+pub fn drive_script(alloc: Global, bytes: &[u8]) -> Result<Option<Difference>, ScriptError> {
+    let script = Script::read(alloc, bytes)?;
+    Ok(drive_fresh(alloc, &script)?)
 }
