@@ -13,7 +13,7 @@ use fib_control::{ApplyError, Control};
 use fib_list::Duplicate;
 use fib_plain::{Snapshot, touched};
 use fib_plainboard::PlainBoard;
-use fib_resolve::{Edit, Tables};
+use fib_resolve::{Edit, End, Tables};
 use fib_stack::Turn;
 use std::alloc::{AllocError, Global};
 use std::collections::HashSet;
@@ -31,15 +31,27 @@ struct Dice {
 }
 
 impl Dice {
+    fn next(&mut self) -> u32 {
+        self.bits ^= self.bits << 13;
+        self.bits ^= self.bits >> 17;
+        self.bits ^= self.bits << 5;
+        self.bits
+    }
+
     // A number below that many sides.
     fn roll(&mut self, sides: u32) -> u32
         requires { 0 < sides }
         ensures { result < sides }
     {
-        self.bits ^= self.bits << 13;
-        self.bits ^= self.bits >> 17;
-        self.bits ^= self.bits << 5;
-        self.bits % sides
+        self.next() % sides
+    }
+
+    // A place in a list of that length.
+    fn place(&mut self, length: usize) -> usize
+        requires { 0 < length }
+        ensures { result < length }
+    {
+        self.next() as usize % length
     }
 }
 
@@ -48,7 +60,10 @@ fn fresh(alloc: Global) -> Result<Control<PlainBoard>, AllocError>
     ensures { IfOk result (λ c. (promise_in c).alone ≡ true) }
 {
     let board = PlainBoard::new(alloc, OBJECTS, 1)?;
-    Control::new(alloc, board)
+    match Control::new(alloc, board) {
+        Ok(control) => Ok(control),
+        Err(_) => Err(AllocError),
+    }
 }
 
 // Some turns, perhaps a scan, and perhaps a retry.
@@ -110,6 +125,10 @@ fn make(control: &mut Control<PlainBoard>, edit: &Edit) -> Result<bool, AllocErr
     }
 }
 
+fn ends_at(control: &Control<PlainBoard>, addr: Addr, hash: u32, wanted: &End) -> bool {
+    control.lookup(addr, hash) == *wanted
+}
+
 // Whether a packet ends where resolution says.
 fn looks_up(
     alloc: Global,
@@ -118,7 +137,10 @@ fn looks_up(
     addr: Addr,
     hash: u32,
 ) -> Result<bool, AllocError> {
-    Ok(control.lookup(addr, hash) == snapshot.resolve(alloc, addr, hash)?)
+    match snapshot.resolve(alloc, addr, hash) {
+        Ok(wanted) => Ok(ends_at(control, addr, hash, &wanted)),
+        Err(_) => Err(AllocError),
+    }
 }
 
 // Whether packets to the first and to the last address of some entries end where resolution says.
@@ -133,7 +155,7 @@ fn looks_up_some(
         return Ok(false);
     }
     for _sample in 0..SAMPLES {
-        let e = entries[dice.roll(entries.len() as u32) as usize];
+        let e = entries[dice.place(entries.len())];
         let hash = dice.roll(u32::MAX);
         if !looks_up(alloc, control, snapshot, e.bits(), hash)?
             || !looks_up(alloc, control, snapshot, e.last(), hash)?
@@ -173,16 +195,35 @@ fn settled_difference(
     difference(alloc, control, dice)
 }
 
+// Notes which prefix had a turn, if one had.
+fn note(had: &mut Vec<Prefix>, turn: &Turn) -> Result<bool, AllocError> {
+    match turn {
+        Turn::Idle => Ok(false),
+        Turn::Restacked { entry, .. } => {
+            had.push(*entry)?;
+            Ok(true)
+        }
+    }
+}
+
+// A turn, noted.
+fn turn_noted(control: &mut Control<PlainBoard>, had: &mut Vec<Prefix>) -> Result<bool, AllocError>
+    ensures { promise_in control.new ≡ promise_in control.old }
+{
+    match control.turn() {
+        Ok(turn) => note(had, &turn),
+        Err(_) => Err(AllocError),
+    }
+}
+
 // Turns until nothing is queued. The prefixes that had one, in order.
 fn restacked(alloc: Global, control: &mut Control<PlainBoard>) -> Result<Vec<Prefix>, AllocError>
     ensures { promise_in control.new ≡ promise_in control.old }
 {
     let mut had = Vec::new(alloc);
     for _turn in 0..u32::MAX {
-        match control.turn() {
-            Ok(Turn::Idle) => return Ok(had),
-            Ok(Turn::Restacked { entry, .. }) => had.push(entry)?,
-            Err(_) => return Err(AllocError),
+        if !turn_noted(control, &mut had)? {
+            return Ok(had);
         }
     }
     Err(AllocError)
