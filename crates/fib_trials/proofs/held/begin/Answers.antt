@@ -1,0 +1,14 @@
+use Rattle.fib_trials.proofs.Seating.{begun_held, rested_left}
+use Rattle.fib_trials.proofs.held.begin.Goals as goal
+
+pub begin-requires-clause-worker : goal.begin-requires-clause-worker
+begin-requires-clause-worker c = c.requires.some
+
+pub begin-requires-clause-rests : goal.begin-requires-clause-rests
+begin-requires-clause-rests c = c.requires.rests
+
+pub begin-requires-clause-left : goal.begin-requires-clause-left
+begin-requires-clause-left c = rested_left _ c.requires
+
+pub returns : goal.returns
+returns c = λ n r. begun_held n c.args.control.now c.begin.new.self c.args.addr 0 c.begin.ensures.pass c.begin.ensures.on r

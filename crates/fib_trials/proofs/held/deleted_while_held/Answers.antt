@@ -1,0 +1,15 @@
+use Rattle.std.proofs.Common.{◌∙◌, subst, sym}
+use Rattle.fib_trials.specs.Seats.{IsHeld, IsRested}
+use Rattle.fib_trials.proofs.Seating.{held_still, rested_by}
+use Rattle.fib_trials.proofs.held.deleted_while_held.Goals as goal
+
+pub hold-end-requires : goal.hold-end-requires
+hold-end-requires c = rested_by _ c.in_ok-control.ensures
+
+pub go_on-requires : goal.go_on-requires
+go_on-requires c = held_still _ _ _ (c.in_ok-kept.ensures ∙ c.in_ok-apply.ensures ∙ c.in_ok-turn_round.ensures) c.hold-end.ensures
+
+pub look_up-requires : goal.look_up-requires
+look_up-requires c =
+    let held = subst (IsHeld 2 c.hold-end.result) (sym (c.in_ok-kept.ensures ∙ c.in_ok-apply.ensures ∙ c.in_ok-turn_round.ensures)) c.hold-end.ensures in
+    subst (IsRested 1) (sym c.calm-ended.ensures) (c.in_ok-record.ensures 1 held)

@@ -1,0 +1,8 @@
+use Rattle.fib_trials.proofs.Seating.{hopped_held}
+use Rattle.fib_trials.proofs.held.hop.Goals as goal
+
+pub hop-requires : goal.hop-requires
+hop-requires c = c.requires.come
+
+pub returns : goal.returns
+returns c = λ n h. hopped_held n c.args.control.now c.hop.new.self c.hop.result _ c.hop.ensures.pass c.hop.ensures.on c.hop.ensures.ended h

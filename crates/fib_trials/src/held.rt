@@ -1,0 +1,197 @@
+// A pass that is held while two routes come to lead to each other: the buckets that would close a cycle with what it stands on wait for its end.
+ghost use Rattle.std.specs.Prelude.{IfOk, None, OnOk, Some, ℕ, ◌+◌, ◌≡◌};
+ghost use Rattle.fib_trials.specs.Seats.{IsHeld, IsRested, first_seats, seats_in};
+
+use crate::changes::eight;
+use crate::steps::{Answers, apply, calm, fresh, turns, turns_and_retries, walk};
+use crate::trouble::Trouble;
+use fib_addr::Addr;
+use fib_control::Control;
+use fib_core::Record;
+use fib_plainboard::PlainBoard;
+use fib_resolve::End;
+use fib_stack::Turn;
+use std::alloc::Global;
+
+// Worker 0 begins a pass.
+fn begin(control: &mut Control<PlainBoard>, addr: Addr)
+    requires { IsRested 1 (seats_in control.old) }
+    ensures { (n : ℕ) → IsRested n (seats_in control.old) → IsHeld n None (seats_in control.new) }
+{
+    control.begin(0, addr, 0);
+}
+
+// It goes on by one hop.
+fn hop(control: &mut Control<PlainBoard>) -> Option<End>
+    requires { IsHeld 0 None (seats_in control.old) }
+    ensures { (n : ℕ) → IsHeld n None (seats_in control.old) → IsHeld n result (seats_in control.new) }
+{
+    control.hop(0)
+}
+
+// Or by so many, unless it ends.
+fn hops(control: &mut Control<PlainBoard>, most: u32) -> Option<End>
+    requires { IsHeld 0 None (seats_in control.old) }
+    ensures { (n : ℕ) → IsHeld n None (seats_in control.old) → IsHeld n result (seats_in control.new) }
+{
+    for _count in 0..most {
+        if let Some(end) = hop(control) {
+            return Some(end);
+        }
+    }
+    None
+}
+
+// To its end, which it may have.
+fn hops_left(control: &mut Control<PlainBoard>, end: Option<End>) -> Option<End>
+    requires { IsHeld 0 end (seats_in control.old) }
+    ensures { (n : ℕ) → IsHeld n end (seats_in control.old) → IsHeld n result (seats_in control.new) }
+{
+    match end {
+        Some(_) => end,
+        None => hops(control, 200),
+    }
+}
+
+// It ends.
+fn finish(control: &mut Control<PlainBoard>, end: End) -> Record
+    requires { IsHeld 0 (Some end) (seats_in control.old) }
+    ensures { (n : ℕ) → IsHeld (n + 1) (Some end) (seats_in control.old) → IsRested n (seats_in control.new) }
+{
+    let _end = end;
+    control.end(0)
+}
+
+/// The pass goes on to its end.
+pub fn go_on(control: &mut Control<PlainBoard>, end: Option<End>) -> Result<Record, Trouble>
+    requires { IsHeld 0 end (seats_in control.old) }
+    ensures { OnOk result ((n : ℕ) → IsHeld (n + 1) end (seats_in control.old) → IsRested n (seats_in control.new)) }
+{
+    match hops_left(control, end) {
+        Some(end) => Ok(finish(control, end)),
+        None => Err(Trouble::Endless),
+    }
+}
+
+/// A whole pass with flow hash 0.
+pub fn look_up(control: &mut Control<PlainBoard>, addr: Addr) -> Result<End, Trouble>
+    requires { IsRested 1 (seats_in control.old) }
+{
+    begin(control, addr);
+    match go_on(control, None) {
+        Ok(record) => Ok(record.end),
+        Err(trouble) => Err(trouble),
+    }
+}
+
+/// eth0 is up and has 10.0.0.1/24. No turn came yet.
+pub fn based(alloc: Global) -> Result<Control<PlainBoard>, Trouble>
+    ensures { IfOk result (λ c. seats_in c ≡ first_seats) }
+{
+    let mut control = fresh(alloc)?;
+    apply(alloc, &mut control, 1)?;
+    apply(alloc, &mut control, 2)?;
+    apply(alloc, &mut control, 3)?;
+    Ok(control)
+}
+
+// 50.0.0.0/8 is over 60.0.0.1, and 60.0.0.0/8 over 10.0.0.7. Version 5 is settled.
+fn routed(alloc: Global) -> Result<Control<PlainBoard>, Trouble>
+    ensures { IfOk result (λ c. seats_in c ≡ first_seats) }
+{
+    let mut control = based(alloc)?;
+    apply(alloc, &mut control, 4)?;
+    apply(alloc, &mut control, 5)?;
+    walk(&mut control)?;
+    let answers = calm(&mut control);
+    if answers.settled.is_err() {
+        return Err(Trouble::Refused);
+    }
+    Ok(control)
+}
+
+// 50.0.0.0/8 is over 10.0.0.8, and then 60.0.0.0/8 over 50.0.0.1. Answers the turn of 60.0.0.0/8.
+fn turn_round(alloc: Global, control: &mut Control<PlainBoard>) -> Result<Turn, Trouble>
+    ensures { OnOk result (seats_in control.new ≡ seats_in control.old) }
+{
+    apply(alloc, control, 6)?;
+    apply(alloc, control, 7)?;
+    walk(control)?;
+    apply(alloc, control, 8)?;
+    apply(alloc, control, 9)?;
+    turns(control, eight(60))
+}
+
+// A pass to 50.1.1.1 comes so many hops far.
+fn hold(control: &mut Control<PlainBoard>, most: u32) -> Option<End>
+    requires { IsRested 2 (seats_in control.old) }
+    ensures { IsHeld 2 result (seats_in control.new) }
+{
+    begin(control, Addr(0x3201_0101));
+    hops(control, most)
+}
+
+/// What is found while a pass is held, and after its end.
+#[derive(Clone, Copy, Debug, PartialEq, Eq)]
+pub struct Found {
+    /// The turn of 60.0.0.0/8, which would have closed the cycle.
+    pub turn: Turn,
+    /// The buckets that are deferred then.
+    pub deferred: u32,
+    pub held: Answers,
+    /// What the pass answers.
+    pub record: Record,
+    pub ended: Answers,
+    /// Where a packet to 60.1.1.1 ends then.
+    pub end: End,
+}
+
+/// A pass to 50.1.1.1 is held after so many hops while the routes change.
+pub fn held_after(alloc: Global, most: u32) -> Result<Found, Trouble> {
+    let mut control = routed(alloc)?;
+    let end = hold(&mut control, most);
+    let turn = turn_round(alloc, &mut control)?;
+    let deferred = control.deferred();
+    let held = calm(&mut control);
+    let record = go_on(&mut control, end)?;
+    let ended = calm(&mut control);
+    let end = look_up(&mut control, Addr(0x3c01_0101))?;
+    Ok(Found {
+        turn,
+        deferred,
+        held,
+        record,
+        ended,
+        end,
+    })
+}
+
+/// What is found where 60.0.0.0/8 is deleted while its buckets are deferred.
+#[derive(Clone, Copy, Debug, PartialEq, Eq)]
+pub struct Deleted {
+    /// Whether the buckets stayed deferred until its turn, and none from then on.
+    pub kept: bool,
+    /// What the pass answers.
+    pub record: Record,
+    pub ended: Answers,
+    /// Where a packet to 60.1.1.1 ends then.
+    pub end: End,
+}
+
+/// A pass to 50.1.1.1 is held after three hops while the routes change and 60.0.0.0/8 is deleted.
+pub fn deleted_while_held(alloc: Global) -> Result<Deleted, Trouble> {
+    let mut control = routed(alloc)?;
+    let end = hold(&mut control, 3);
+    turn_round(alloc, &mut control)?;
+    apply(alloc, &mut control, 10)?;
+    let kept = turns_and_retries(&mut control, eight(60), 16)?;
+    let record = go_on(&mut control, end)?;
+    let ended = calm(&mut control);
+    let end = look_up(&mut control, Addr(0x3c01_0101))?;
+    Ok(Deleted {
+        kept,
+        record,
+        ended,
+        end,
+    })
+}
