@@ -1,2 +1,3 @@
+pub mod Calming
 pub mod Seating
 pub mod Starting

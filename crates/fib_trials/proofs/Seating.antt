@@ -1,5 +1,6 @@
 -- What the calls of a control plane leave of who passes, and what a pass's own calls make of it.
-use Rattle.std.proofs.Common.{◌≡◌, ℕ, ◌+◌, ◌-◌, ◌/◌, ◌^◌, ◌<◌, ◌≤◌, List, [], ◌∷◌, ◌∙◌, ap, arith, refl, sym, subst}
+use Rattle.std.proofs.Common.{◌≡◌, ℕ, ◌+◌, ◌-◌, ◌/◌, ◌^◌, ◌<◌, ◌≤◌, Bool, true, false, not, true≢false, List, [], ◌∷◌, ◌∙◌, ap, arith, refl, sym, subst}
+use Rattle.std.specs.List.{list_any}
 use Rattle.std.specs.Prelude.{Err, IfNone, IfSome, None, Ok, OnErr, OnOk, Option, Result, Some, slice_index, slice_index_or, slice_set}
 use Rattle.fib_resolve.specs.declared.types.End.{End}
 use Rattle.fib_resolve.specs.declared.types.Tables.{Tables}
@@ -10,7 +11,7 @@ use Rattle.fib_plane.specs.Planes.{Plane}
 use Rattle.fib_joined.specs.Promise.{Promise}
 use Rattle.fib_shared.specs.Shares.{promise_of}
 use Rattle.fib_control.specs.Controls.{Control, IsBeneath, IsChanged, IsSettled, promise_in, with_board}
-use Rattle.fib_trials.specs.Seats.{HasCome, IsHeld, IsHome, IsRested, Seats, first_seats, seats_in, seats_of}
+use Rattle.fib_trials.specs.Seats.{HasCome, IsElseHome, IsHeld, IsHome, IsRested, Seats, first_seats, seats_in, seats_of}
 
 pub seats_first : (c : Control) (b : Board) → promise_in c ≡ promise_of b → b ≡ fresh_plain 200 1 → seats_in c ≡ first_seats
 seats_first c b same is = ap (λ (p : Promise). seats_of p.rest) same ∙ ap seats_of is
@@ -32,18 +33,25 @@ pub home_by : (s : Seats) → s ≡ first_seats → IsHome s
 home_by s is = subst IsHome (sym is) refl
 
 pub rested_by : (s : Seats) → s ≡ first_seats → IsRested 2 s
-rested_by s is = subst (IsRested 2) (sym is) (record { some = omega arith; rests = refl; left = omega arith })
+rested_by s is = subst (IsRested 2) (sym is) (record { some = omega arith; home = refl; rests = refl; left = omega arith })
 
 pub held_still : (e : Option End) (s t : Seats) → t ≡ s → IsHeld 2 e s → IsHeld 0 e t
-held_still e s t same h = subst (IsHeld 0 e) (sym same) (record { some = h.some; left = omega arith; come = h.come })
+held_still e s t same h = subst (IsHeld 0 e) (sym same) (record { some = h.some; home = h.home; left = omega arith; come = h.come })
 
 pub rested_left : (s : Seats) → IsRested 1 s → 0 < left_of (slice_index s.rests 0)
 rested_left s r = (let l = r.left in omega (arith, l))
+
+-- worker 0 leaves, and comes home
+home_after : (out : List Bool) → not (list_any (λ away. away) out) ≡ true → not (list_any (λ away. away) (slice_set (slice_set out 0 true) 0 false)) ≡ true
+home_after [] h = h
+home_after (true ∷ out) h = absurd (true≢false (sym h))
+home_after (false ∷ out) h = h
 
 pub begun_held : (n : ℕ) (c d : Control) (a h : ℕ) → d ≡ with_board c (pass_begun c.plane.board 0 a h) → IsOnItsWay d.plane.board 0
     → IsRested n (seats_in c) → IsHeld n None (seats_in d)
 begun_held n c d a h is on r = record {
   some = subst (λ (x : Control). 0 < x.plane.board.workers) (sym is) r.some;
+  home = subst (λ (x : Control). IsElseHome (seats_in x)) (sym is) (home_after c.plane.board.out r.home);
   left = subst (λ (x : Control). n ≤ left_of (slice_index x.plane.board.rests 0)) (sym is) r.left;
   come = on;
 }
@@ -57,6 +65,7 @@ pub hopped_held : (n : ℕ) (c d : Control) (e : Option End) (X : Type 0) → d 
     → IsHeld n None (seats_in c) → IsHeld n e (seats_in d)
 hopped_held n c d e X is on ended h = record {
   some = subst (λ (x : Control). 0 < x.plane.board.workers) (sym is) h.some;
+  home = subst (λ (x : Control). IsElseHome (seats_in x)) (sym is) h.home;
   left = subst (λ (x : Control). n ≤ left_of (slice_index x.plane.board.rests 0)) (sym is) h.left;
   come = come_by d e X on ended;
 }
@@ -72,6 +81,7 @@ one_less n (r ∷ rs) lt = omega (arith, lt)
 pub ended_rested : (n : ℕ) (c d : Control) (e : End) → d ≡ with_board c (pass_ended c.plane.board 0) → IsHeld (n + 1) (Some e) (seats_in c) → IsRested n (seats_in d)
 ended_rested n c d e is h = subst (λ (x : Control). IsRested n (seats_in x)) (sym is) (record {
   some = h.some;
+  home = h.home;
   rests = none_after c.plane.board.passes;
   left = one_less n c.plane.board.rests h.left;
 })

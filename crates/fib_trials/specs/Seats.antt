@@ -1,5 +1,5 @@
 -- Who passes beneath a control plane over a plain board, and how far the pass of worker 0 came.
-use Rattle.std.specs.Prelude.{◌≡◌, ℕ, ◌<◌, ◌≤◌, Bool, true, not, List, Option, Some, None, slice_index, slice_index_or}
+use Rattle.std.specs.Prelude.{◌≡◌, ℕ, ◌<◌, ◌≤◌, Bool, true, false, not, List, Option, Some, None, slice_index, slice_index_or, slice_set}
 use Rattle.std.specs.List.{list_any}
 use Rattle.fib_resolve.specs.declared.types.End.{End}
 use Rattle.fib_core.specs.Walk.{ended}
@@ -26,13 +26,17 @@ seats_in c = seats_of c.plane.board
 abbrev pub first_seats : Seats
 first_seats = seats_of (fresh_plain 200 1)
 
--- nobody is out
+-- nobody is out; or nobody but worker 0
 abbrev pub IsHome : Seats → Type 0
 IsHome s = not (list_any (λ away. away) s.out) ≡ true
 
--- worker 0 rests, with so many passes left at least
+abbrev pub IsElseHome : Seats → Type 0
+IsElseHome s = not (list_any (λ away. away) (slice_set s.out 0 false)) ≡ true
+
+-- nobody is out, and worker 0 has so many passes left at least
 pub record IsRested (n : ℕ) (s : Seats) : Type 0 where
   pub some : 0 < s.workers
+  pub home : IsHome s
   pub rests : slice_index_or s.passes 0 None ≡ None
   pub left : n ≤ left_of (slice_index s.rests 0)
 
@@ -41,8 +45,9 @@ abbrev pub HasCome : Option End → Seats → Type 0
 HasCome None s = (q : Pass) × (slice_index_or s.passes 0 None ≡ Some q) × IsGoing (place q.loads)
 HasCome (Some e) s = (q : Pass) × (slice_index_or s.passes 0 None ≡ Some q) × (place q.loads ≡ ended e)
 
--- worker 0 makes a pass that has come so far; so many passes at least were left to it before
+-- worker 0 alone makes a pass, which has come so far; so many passes at least were left to it before
 pub record IsHeld (n : ℕ) (e : Option End) (s : Seats) : Type 0 where
   pub some : 0 < s.workers
+  pub home : IsElseHome s
   pub left : n ≤ left_of (slice_index s.rests 0)
   pub come : HasCome e s

@@ -1,5 +1,6 @@
 // A pass that is held while two routes come to lead to each other: the buckets that would close a cycle with what it stands on wait for its end.
-ghost use Rattle.std.specs.Prelude.{IfOk, None, OnOk, Some, ℕ, ◌+◌, ◌≡◌};
+ghost use Rattle.std.specs.Prelude.{IfOk, None, OnOk, Some, [], ℕ, ◌+◌, ◌≡◌};
+ghost use Rattle.fib_trials.specs.Calm.{AreCalm};
 ghost use Rattle.fib_trials.specs.Seats.{IsHeld, IsRested, first_seats, seats_in};
 
 use crate::changes::eight;
@@ -16,7 +17,8 @@ use std::alloc::Global;
 // Worker 0 begins a pass.
 fn begin(control: &mut Control<PlainBoard>, addr: Addr)
     requires { IsRested 1 (seats_in control.old) }
-    ensures { (n : ℕ) → IsRested n (seats_in control.old) → IsHeld n None (seats_in control.new) }
+    ensures held { (n : ℕ) → IsRested n (seats_in control.old) → IsHeld n None (seats_in control.new) }
+    ensures queue { control.new.queue ≡ control.old.queue }
 {
     control.begin(0, addr, 0);
 }
@@ -24,7 +26,8 @@ fn begin(control: &mut Control<PlainBoard>, addr: Addr)
 // It goes on by one hop.
 fn hop(control: &mut Control<PlainBoard>) -> Option<End>
     requires { IsHeld 0 None (seats_in control.old) }
-    ensures { (n : ℕ) → IsHeld n None (seats_in control.old) → IsHeld n result (seats_in control.new) }
+    ensures held { (n : ℕ) → IsHeld n None (seats_in control.old) → IsHeld n result (seats_in control.new) }
+    ensures queue { control.new.queue ≡ control.old.queue }
 {
     control.hop(0)
 }
@@ -32,7 +35,8 @@ fn hop(control: &mut Control<PlainBoard>) -> Option<End>
 // Or by so many, unless it ends.
 fn hops(control: &mut Control<PlainBoard>, most: u32) -> Option<End>
     requires { IsHeld 0 None (seats_in control.old) }
-    ensures { (n : ℕ) → IsHeld n None (seats_in control.old) → IsHeld n result (seats_in control.new) }
+    ensures held { (n : ℕ) → IsHeld n None (seats_in control.old) → IsHeld n result (seats_in control.new) }
+    ensures queue { control.new.queue ≡ control.old.queue }
 {
     for _count in 0..most {
         if let Some(end) = hop(control) {
@@ -45,7 +49,8 @@ fn hops(control: &mut Control<PlainBoard>, most: u32) -> Option<End>
 // To its end, which it may have.
 fn hops_left(control: &mut Control<PlainBoard>, end: Option<End>) -> Option<End>
     requires { IsHeld 0 end (seats_in control.old) }
-    ensures { (n : ℕ) → IsHeld n end (seats_in control.old) → IsHeld n result (seats_in control.new) }
+    ensures held { (n : ℕ) → IsHeld n end (seats_in control.old) → IsHeld n result (seats_in control.new) }
+    ensures queue { control.new.queue ≡ control.old.queue }
 {
     match end {
         Some(_) => end,
@@ -56,7 +61,8 @@ fn hops_left(control: &mut Control<PlainBoard>, end: Option<End>) -> Option<End>
 // It ends.
 fn finish(control: &mut Control<PlainBoard>, end: End) -> Record
     requires { IsHeld 0 (Some end) (seats_in control.old) }
-    ensures { (n : ℕ) → IsHeld (n + 1) (Some end) (seats_in control.old) → IsRested n (seats_in control.new) }
+    ensures rested { (n : ℕ) → IsHeld (n + 1) (Some end) (seats_in control.old) → IsRested n (seats_in control.new) }
+    ensures queue { control.new.queue ≡ control.old.queue }
 {
     let _end = end;
     control.end(0)
@@ -65,7 +71,8 @@ fn finish(control: &mut Control<PlainBoard>, end: End) -> Record
 /// The pass goes on to its end.
 pub fn go_on(control: &mut Control<PlainBoard>, end: Option<End>) -> Result<Record, Trouble>
     requires { IsHeld 0 end (seats_in control.old) }
-    ensures { OnOk result ((n : ℕ) → IsHeld (n + 1) end (seats_in control.old) → IsRested n (seats_in control.new)) }
+    ensures rested { OnOk result ((n : ℕ) → IsHeld (n + 1) end (seats_in control.old) → IsRested n (seats_in control.new)) }
+    ensures queue { OnOk result (control.new.queue ≡ control.old.queue) }
 {
     match hops_left(control, end) {
         Some(end) => Ok(finish(control, end)),
@@ -112,7 +119,8 @@ fn routed(alloc: Global) -> Result<Control<PlainBoard>, Trouble>
 
 // 50.0.0.0/8 is over 10.0.0.8, and then 60.0.0.0/8 over 50.0.0.1. Answers the turn of 60.0.0.0/8.
 fn turn_round(alloc: Global, control: &mut Control<PlainBoard>) -> Result<Turn, Trouble>
-    ensures { OnOk result (seats_in control.new ≡ seats_in control.old) }
+    ensures seats { OnOk result (seats_in control.new ≡ seats_in control.old) }
+    ensures none { OnOk result (control.new.queue ≡ []) }
 {
     apply(alloc, control, 6)?;
     apply(alloc, control, 7)?;
@@ -146,8 +154,10 @@ pub struct Found {
     pub end: End,
 }
 
-/// A pass to 50.1.1.1 is held after so many hops while the routes change.
-pub fn held_after(alloc: Global, most: u32) -> Result<Found, Trouble> {
+/// A pass to 50.1.1.1 is held after so many hops while the routes change. Once it has ended, nothing is left to wait for.
+pub fn held_after(alloc: Global, most: u32) -> Result<Found, Trouble>
+    ensures { IfOk result (λ found. AreCalm found.ended) }
+{
     let mut control = routed(alloc)?;
     let end = hold(&mut control, most);
     let turn = turn_round(alloc, &mut control)?;
@@ -169,8 +179,6 @@ pub fn held_after(alloc: Global, most: u32) -> Result<Found, Trouble> {
 /// What is found where 60.0.0.0/8 is deleted while its buckets are deferred.
 #[derive(Clone, Copy, Debug, PartialEq, Eq)]
 pub struct Deleted {
-    /// Whether the buckets stayed deferred until its turn, and none from then on.
-    pub kept: bool,
     /// What the pass answers.
     pub record: Record,
     pub ended: Answers,
@@ -178,20 +186,18 @@ pub struct Deleted {
     pub end: End,
 }
 
-/// A pass to 50.1.1.1 is held after three hops while the routes change and 60.0.0.0/8 is deleted.
-pub fn deleted_while_held(alloc: Global) -> Result<Deleted, Trouble> {
+/// A pass to 50.1.1.1 is held after three hops while the routes change and 60.0.0.0/8 is deleted: its buckets stay deferred until its turn, and
+/// none from then on.
+pub fn deleted_while_held(alloc: Global) -> Result<Deleted, Trouble>
+    ensures { IfOk result (λ found. AreCalm found.ended) }
+{
     let mut control = routed(alloc)?;
     let end = hold(&mut control, 3);
     turn_round(alloc, &mut control)?;
     apply(alloc, &mut control, 10)?;
-    let kept = turns_and_retries(&mut control, eight(60), 16)?;
+    turns_and_retries(&mut control, eight(60), 16)?;
     let record = go_on(&mut control, end)?;
     let ended = calm(&mut control);
     let end = look_up(&mut control, Addr(0x3c01_0101))?;
-    Ok(Deleted {
-        kept,
-        record,
-        ended,
-        end,
-    })
+    Ok(Deleted { record, ended, end })
 }

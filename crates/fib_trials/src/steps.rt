@@ -1,7 +1,9 @@
 // A control plane over a plain board, a step at a time. What isn't a pass's own call leaves all passes as they are.
-ghost use Rattle.std.specs.Prelude.{IfOk, OnOk, ◌≡◌};
+ghost use Rattle.std.specs.Prelude.{IfOk, IsOk, OnOk, [], true, ◌≡◌};
 ghost use Rattle.fib_resolve.specs.Reachable.{IsWritten};
-ghost use Rattle.fib_trials.specs.Seats.{first_seats, seats_in};
+ghost use Rattle.fib_control.specs.Controls.{IsQuiet};
+ghost use Rattle.fib_trials.specs.Calm.{AreCalm};
+ghost use Rattle.fib_trials.specs.Seats.{IsHome, first_seats, seats_in};
 
 use crate::changes::change;
 use crate::trouble::{Trouble, of_apply, of_want};
@@ -45,7 +47,7 @@ pub fn apply(alloc: Global, control: &mut Control<PlainBoard>, version: u32) -> 
     if make(control, &edit)? == version {
         return Ok(());
     }
-    Err(Trouble::Refused)
+    Err(Trouble::Otherwise)
 }
 
 // One turn.
@@ -66,16 +68,24 @@ fn is_of(turn: &Turn, prefix: Prefix) -> bool {
     }
 }
 
+// Whether nothing is queued.
+fn is_done(control: &Control<PlainBoard>) -> bool
+    ensures { result ≡ true → control.now.queue ≡ [] }
+{
+    control.queued() == 0
+}
+
 /// Turns until none is queued. Answers what the last turn of that prefix did; Idle if it had none.
 pub fn turns(control: &mut Control<PlainBoard>, prefix: Prefix) -> Result<Turn, Trouble>
-    ensures { OnOk result (seats_in control.new ≡ seats_in control.old) }
+    ensures seats { OnOk result (seats_in control.new ≡ seats_in control.old) }
+    ensures none { OnOk result (control.new.queue ≡ []) }
 {
     let mut last = Turn::Idle;
     for _count in 0..100 {
-        let turn = turn(control)?;
-        if turn == Turn::Idle {
+        if is_done(control) {
             return Ok(last);
         }
+        let turn = turn(control)?;
         if is_of(&turn, prefix) {
             last = turn;
         }
@@ -83,26 +93,26 @@ pub fn turns(control: &mut Control<PlainBoard>, prefix: Prefix) -> Result<Turn, 
     Err(Trouble::Endless)
 }
 
-/// Turns until none is queued, with a retry after each. Whether so many buckets stayed deferred until the turn of that prefix, and none from then
-/// on.
+/// Turns until none is queued, with a retry after each: so many buckets stay deferred until the turn of that prefix, and none from then on.
 pub fn turns_and_retries(
     control: &mut Control<PlainBoard>,
     prefix: Prefix,
     deferred: u32,
-) -> Result<bool, Trouble>
-    ensures { OnOk result (seats_in control.new ≡ seats_in control.old) }
+) -> Result<(), Trouble>
+    ensures seats { OnOk result (seats_in control.new ≡ seats_in control.old) }
+    ensures none { OnOk result (control.new.queue ≡ []) }
 {
     let mut left = deferred;
     for _count in 0..100 {
-        let turn = turn(control)?;
-        if turn == Turn::Idle {
-            return Ok(true);
+        if is_done(control) {
+            return Ok(());
         }
+        let turn = turn(control)?;
         if is_of(&turn, prefix) {
             left = 0;
         }
         if retry(control) != left {
-            return Ok(false);
+            return Err(Trouble::Otherwise);
         }
     }
     Err(Trouble::Endless)
@@ -130,27 +140,35 @@ pub struct Answers {
 }
 
 fn scan(control: &mut Control<PlainBoard>) -> u32
-    ensures { seats_in control.new ≡ seats_in control.old }
+    ensures seats { seats_in control.new ≡ seats_in control.old }
+    ensures queue { control.new.queue ≡ control.old.queue }
+    ensures alone { IsHome (seats_in control.old) → (result ≡ 0) × (control.new.plane.board.union.retired ≡ []) }
 {
     control.scan()
 }
 
 fn retry(control: &mut Control<PlainBoard>) -> u32
-    ensures { seats_in control.new ≡ seats_in control.old }
+    ensures seats { seats_in control.new ≡ seats_in control.old }
+    ensures queue { control.new.queue ≡ control.old.queue }
+    ensures calm { control.old.queue ≡ [] → control.old.plane.board.union.retired ≡ [] → (result ≡ 0) × IsQuiet control.new }
 {
     control.retry()
 }
 
 /// Tries to settle.
 pub fn settle(control: &mut Control<PlainBoard>) -> Result<u32, Busy>
-    ensures { seats_in control.new ≡ seats_in control.old }
+    ensures seats { seats_in control.new ≡ seats_in control.old }
+    ensures queue { control.new.queue ≡ control.old.queue }
+    ensures quiet { IsQuiet control.old → IsOk result }
 {
     control.mark_settled()
 }
 
-/// Scans, retries, and tries to settle.
+/// Scans, retries, and tries to settle. Where nobody is out and nothing is queued, nothing is left, and the last version is settled.
 pub fn calm(control: &mut Control<PlainBoard>) -> Answers
-    ensures { seats_in control.new ≡ seats_in control.old }
+    ensures seats { seats_in control.new ≡ seats_in control.old }
+    ensures queue { control.new.queue ≡ control.old.queue }
+    ensures calm { IsHome (seats_in control.old) → control.old.queue ≡ [] → AreCalm result }
 {
     let retired = scan(control);
     let deferred = retry(control);

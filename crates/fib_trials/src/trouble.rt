@@ -16,6 +16,8 @@ pub enum Trouble {
     Refused,
     /// Turns, or a pass, had no end.
     Endless,
+    /// A call answered otherwise than the trial wants.
+    Otherwise,
 }
 
 impl From<AllocError> for Trouble {

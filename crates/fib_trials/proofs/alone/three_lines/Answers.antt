@@ -3,4 +3,4 @@ use Rattle.fib_trials.proofs.Seating.{home_by}
 use Rattle.fib_trials.proofs.alone.three_lines.Goals as goal
 
 pub settle_alone-requires : goal.settle_alone-requires
-settle_alone-requires c = home_by _ (c.settle-before.ensures ∙ c.in_ok-control.ensures)
+settle_alone-requires c = home_by _ (c.settle-before.ensures.seats ∙ c.in_ok-control.ensures)

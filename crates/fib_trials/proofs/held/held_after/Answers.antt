@@ -7,9 +7,15 @@ pub hold-end-requires : goal.hold-end-requires
 hold-end-requires c = rested_by _ c.in_ok-control.ensures
 
 pub go_on-requires : goal.go_on-requires
-go_on-requires c = held_still _ _ _ (c.calm-held.ensures ∙ c.in_ok-turn.ensures) c.hold-end.ensures
+go_on-requires c = held_still _ _ _ (c.calm-held.ensures.seats ∙ c.in_ok-turn.ensures.seats) c.hold-end.ensures
 
 pub look_up-requires : goal.look_up-requires
 look_up-requires c =
-    let held = subst (IsHeld 2 c.hold-end.result) (sym (c.calm-held.ensures ∙ c.in_ok-turn.ensures)) c.hold-end.ensures in
-    subst (IsRested 1) (sym c.calm-ended.ensures) (c.in_ok-record.ensures 1 held)
+    let held = subst (IsHeld 2 c.hold-end.result) (sym (c.calm-held.ensures.seats ∙ c.in_ok-turn.ensures.seats)) c.hold-end.ensures in
+    subst (IsRested 1) (sym c.calm-ended.ensures.seats) (c.in_ok-record.ensures.rested 1 held)
+
+pub returns : goal.returns
+returns c =
+    let held = subst (IsHeld 2 c.hold-end.result) (sym (c.calm-held.ensures.seats ∙ c.in_ok-turn.ensures.seats)) c.hold-end.ensures in
+    let none = c.in_ok-record.ensures.queue ∙ c.calm-held.ensures.queue ∙ c.in_ok-turn.ensures.none in
+    c.calm-ended.ensures.calm (c.in_ok-record.ensures.rested 1 held).home none
