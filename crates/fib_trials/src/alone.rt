@@ -1,8 +1,9 @@
 // Settling while nobody is out.
-ghost use Rattle.fib_trials.specs.Seats.{IsHome, seats_in};
+ghost use Rattle.std.specs.Prelude.{◌≡◌};
+ghost use Rattle.fib_trials.specs.Seats.{IsHome, first_seats, seats_in};
 
-use crate::held::based;
-use crate::steps::settle;
+use crate::held::base;
+use crate::steps::{fresh, settle};
 use crate::trouble::{Trouble, of_want};
 use fib_control::{Busy, Control};
 use fib_plainboard::PlainBoard;
@@ -28,14 +29,22 @@ pub struct Settled {
     pub used: u32,
 }
 
-/// Three changes are made and settled.
-pub fn three_lines(alloc: Global) -> Result<Settled, Trouble> {
-    let mut control = based(alloc)?;
-    let before = settle(&mut control);
-    let version = settle_alone(&mut control)?;
+// The same on a control before its first change.
+fn settle_lines(alloc: Global, control: &mut Control<PlainBoard>) -> Result<Settled, Trouble>
+    requires { seats_in control.old ≡ first_seats }
+{
+    base(alloc, control)?;
+    let before = settle(control);
+    let version = settle_alone(control)?;
     Ok(Settled {
         before,
         version,
         used: control.used(),
     })
+}
+
+/// Three changes are made and settled.
+pub fn three_lines(alloc: Global) -> Result<Settled, Trouble> {
+    let mut control = fresh(alloc)?;
+    settle_lines(alloc, &mut control)
 }

@@ -92,29 +92,33 @@ pub fn look_up(control: &mut Control<PlainBoard>, addr: Addr) -> Result<End, Tro
 }
 
 /// eth0 is up and has 10.0.0.1/24. No turn came yet.
-pub fn based(alloc: Global) -> Result<Control<PlainBoard>, Trouble>
-    ensures { IfOk result (λ c. seats_in c ≡ first_seats) }
+pub fn base(alloc: Global, control: &mut Control<PlainBoard>) -> Result<(), Trouble>
+    ensures { OnOk result (seats_in control.new ≡ seats_in control.old) }
 {
-    let mut control = fresh(alloc)?;
-    apply(alloc, &mut control, 1)?;
-    apply(alloc, &mut control, 2)?;
-    apply(alloc, &mut control, 3)?;
-    Ok(control)
+    apply(alloc, control, 1)?;
+    apply(alloc, control, 2)?;
+    apply(alloc, control, 3)
+}
+
+// Turns, a scan and a retry; then the version is settled.
+fn settle_all(control: &mut Control<PlainBoard>) -> Result<(), Trouble>
+    ensures { OnOk result (seats_in control.new ≡ seats_in control.old) }
+{
+    walk(control)?;
+    if calm(control).settled.is_err() {
+        return Err(Trouble::Otherwise);
+    }
+    Ok(())
 }
 
 // 50.0.0.0/8 is over 60.0.0.1, and 60.0.0.0/8 over 10.0.0.7. Version 5 is settled.
-fn routed(alloc: Global) -> Result<Control<PlainBoard>, Trouble>
-    ensures { IfOk result (λ c. seats_in c ≡ first_seats) }
+fn route(alloc: Global, control: &mut Control<PlainBoard>) -> Result<(), Trouble>
+    ensures { OnOk result (seats_in control.new ≡ seats_in control.old) }
 {
-    let mut control = based(alloc)?;
-    apply(alloc, &mut control, 4)?;
-    apply(alloc, &mut control, 5)?;
-    walk(&mut control)?;
-    let answers = calm(&mut control);
-    if answers.settled.is_err() {
-        return Err(Trouble::Refused);
-    }
-    Ok(control)
+    base(alloc, control)?;
+    apply(alloc, control, 4)?;
+    apply(alloc, control, 5)?;
+    settle_all(control)
 }
 
 // 50.0.0.0/8 is over 10.0.0.8, and then 60.0.0.0/8 over 50.0.0.1. Answers the turn of 60.0.0.0/8.
@@ -154,18 +158,23 @@ pub struct Found {
     pub end: End,
 }
 
-/// A pass to 50.1.1.1 is held after so many hops while the routes change. Once it has ended, nothing is left to wait for.
-pub fn held_after(alloc: Global, most: u32) -> Result<Found, Trouble>
+// The same on a control before its first change.
+fn hold_while_turned(
+    alloc: Global,
+    control: &mut Control<PlainBoard>,
+    most: u32,
+) -> Result<Found, Trouble>
+    requires { seats_in control.old ≡ first_seats }
     ensures { IfOk result (λ found. AreCalm found.ended) }
 {
-    let mut control = routed(alloc)?;
-    let end = hold(&mut control, most);
-    let turn = turn_round(alloc, &mut control)?;
+    route(alloc, control)?;
+    let end = hold(control, most);
+    let turn = turn_round(alloc, control)?;
     let deferred = control.deferred();
-    let held = calm(&mut control);
-    let record = go_on(&mut control, end)?;
-    let ended = calm(&mut control);
-    let end = look_up(&mut control, Addr(0x3c01_0101))?;
+    let held = calm(control);
+    let record = go_on(control, end)?;
+    let ended = calm(control);
+    let end = look_up(control, Addr(0x3c01_0101))?;
     Ok(Found {
         turn,
         deferred,
@@ -174,6 +183,14 @@ pub fn held_after(alloc: Global, most: u32) -> Result<Found, Trouble>
         ended,
         end,
     })
+}
+
+/// A pass to 50.1.1.1 is held after so many hops while the routes change. Once it has ended, nothing is left to wait for.
+pub fn held_after(alloc: Global, most: u32) -> Result<Found, Trouble>
+    ensures { IfOk result (λ found. AreCalm found.ended) }
+{
+    let mut control = fresh(alloc)?;
+    hold_while_turned(alloc, &mut control, most)
 }
 
 /// What is found where 60.0.0.0/8 is deleted while its buckets are deferred.
@@ -186,18 +203,27 @@ pub struct Deleted {
     pub end: End,
 }
 
+// The same on a control before its first change.
+fn delete_while_held(alloc: Global, control: &mut Control<PlainBoard>) -> Result<Deleted, Trouble>
+    requires { seats_in control.old ≡ first_seats }
+    ensures { IfOk result (λ found. AreCalm found.ended) }
+{
+    route(alloc, control)?;
+    let end = hold(control, 3);
+    turn_round(alloc, control)?;
+    apply(alloc, control, 10)?;
+    turns_and_retries(control, eight(60), 16)?;
+    let record = go_on(control, end)?;
+    let ended = calm(control);
+    let end = look_up(control, Addr(0x3c01_0101))?;
+    Ok(Deleted { record, ended, end })
+}
+
 /// A pass to 50.1.1.1 is held after three hops while the routes change and 60.0.0.0/8 is deleted: its buckets stay deferred until its turn, and
 /// none from then on.
 pub fn deleted_while_held(alloc: Global) -> Result<Deleted, Trouble>
     ensures { IfOk result (λ found. AreCalm found.ended) }
 {
-    let mut control = routed(alloc)?;
-    let end = hold(&mut control, 3);
-    turn_round(alloc, &mut control)?;
-    apply(alloc, &mut control, 10)?;
-    turns_and_retries(&mut control, eight(60), 16)?;
-    let record = go_on(&mut control, end)?;
-    let ended = calm(&mut control);
-    let end = look_up(&mut control, Addr(0x3c01_0101))?;
-    Ok(Deleted { record, ended, end })
+    let mut control = fresh(alloc)?;
+    delete_while_held(alloc, &mut control)
 }

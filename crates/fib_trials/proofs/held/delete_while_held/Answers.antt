@@ -1,10 +1,10 @@
 use Rattle.std.proofs.Common.{◌∙◌, subst, sym}
 use Rattle.fib_trials.specs.Seats.{IsHeld, IsRested}
 use Rattle.fib_trials.proofs.Seating.{held_still, rested_by}
-use Rattle.fib_trials.proofs.held.deleted_while_held.Goals as goal
+use Rattle.fib_trials.proofs.held.delete_while_held.Goals as goal
 
 pub hold-end-requires : goal.hold-end-requires
-hold-end-requires c = rested_by _ c.in_ok-control.ensures
+hold-end-requires c = rested_by _ (c.in_ok-route.ensures ∙ c.requires)
 
 pub go_on-requires : goal.go_on-requires
 go_on-requires c = held_still _ _ _ (c.in_ok-turns_and_retries.ensures.seats ∙ c.in_ok-apply.ensures ∙ c.in_ok-turn_round.ensures.seats) c.hold-end.ensures
