@@ -21,7 +21,7 @@ pub fn fresh(alloc: Global) -> Result<Control<PlainBoard>, Trouble>
     let board = PlainBoard::new(alloc, 200, 1)?;
     match Control::new(alloc, board) {
         Ok(control) => Ok(control),
-        Err(want) => Err(of_want(want)),
+        Err(_) => Err(Trouble::Memory),
     }
 }
 
