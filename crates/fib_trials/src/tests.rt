@@ -8,7 +8,7 @@ use crate::sets::{Numbers, is_right};
 use crate::steps::Answers;
 use fib_addr::{Addr, Prefix};
 use fib_control::Busy;
-use fib_core::Version;
+use fib_core::{Record, Version};
 use fib_joined::Objects;
 use fib_resolve::End;
 use fib_stack::Turn;
@@ -93,29 +93,46 @@ fn hop_to(next_hop: u32) -> End {
 // Where a pass ends that was held after so many hops. The third brings it to the object of 60.0.0.1/32, the fourth to that of 60.0.0.0/8, and the
 // seventh is its last.
 fn end_after(hops: u32) -> End {
-    match hops {
-        0..=2 => hop_to(0x0a00_0008),
-        3..=4 => End::Drop,
-        _ => hop_to(0x0a00_0007),
+    if hops <= 2 {
+        return hop_to(0x0a00_0008);
     }
+    if hops <= 4 {
+        return End::Drop;
+    }
+    hop_to(0x0a00_0007)
 }
 
 // Whether the buckets of 60.0.0.0/8 wait for the pass.
 fn waits(found: &Found) -> bool {
-    let Err(
-        Busy {
-            queued,
-            deferred,
-            retired,
-        },
-    ) = found.held.settled
-    else {
-        return false;
-    };
-    (found.deferred, found.held.deferred) == (16, 16)
-        && (queued, deferred) == (0, 16)
-        && retired == found.held.retired
-        && retired > 0
+    match found.held.settled {
+        Ok(_) => false,
+        Err(busy) => {
+            (found.deferred, found.held.deferred) == (16, 16)
+                && (busy.queued, busy.deferred) == (0, 16)
+                && busy.retired == found.held.retired
+                && busy.retired > 0
+        }
+    }
+}
+
+// Whether nothing waits any more, and this version is settled.
+fn is_calm(answers: &Answers, version: u32) -> bool {
+    *answers
+        == Answers {
+            retired: 0,
+            deferred: 0,
+            settled: Ok(version),
+        }
+}
+
+// Whether the pass saw the versions from 5, which was settled, to 9.
+fn spans(record: &Record) -> bool {
+    record.lo == Version::settled_at(5)
+        && record.hi
+            == Version {
+                settled: 5,
+                applied: 9,
+            }
 }
 
 #[test]
@@ -125,24 +142,14 @@ fn sixteen_buckets_wait_for_a_held_pass(rt: HostRuntime) -> Result<(), Fail> {
         stores: 16,
         dropped: 16,
     };
-    let quiet = Answers {
-        retired: 0,
-        deferred: 0,
-        settled: Ok(9),
-    };
-    let begun = Version::settled_at(5);
-    let ended = Version {
-        settled: 5,
-        applied: 9,
-    };
     for hops in 0..8 {
         let found = held_after(rt.alloc(), hops)?;
-        assert_eq!(rt; found.turn, turn, "after {hops} hops");
-        assert!(rt; waits(&found), "after {hops} hops: {found:?}");
-        assert_eq!(rt; (found.record.lo, found.record.hi), (begun, ended));
-        assert_eq!(rt; found.record.end, end_after(hops), "after {hops} hops");
-        assert_eq!(rt; found.ended, quiet, "after {hops} hops");
-        assert_eq!(rt; found.end, hop_to(0x0a00_0008), "after {hops} hops");
+        assert_eq!(rt; found.turn, turn);
+        assert!(rt; waits(&found), "{hops} hops: {found:?}");
+        assert!(rt; spans(&found.record), "{hops} hops: {found:?}");
+        assert_eq!(rt; found.record.end, end_after(hops), "{hops} hops");
+        assert!(rt; is_calm(&found.ended, 9), "{hops} hops: {found:?}");
+        assert_eq!(rt; found.end, hop_to(0x0a00_0008));
     }
     Ok(())
 }
@@ -151,12 +158,7 @@ fn sixteen_buckets_wait_for_a_held_pass(rt: HostRuntime) -> Result<(), Fail> {
 fn a_route_is_deleted_while_its_buckets_wait(rt: HostRuntime) -> Result<(), Fail> {
     let deleted = deleted_while_held(rt.alloc())?;
     assert_eq!(rt; deleted.record.end, End::Drop);
-    let quiet = Answers {
-        retired: 0,
-        deferred: 0,
-        settled: Ok(10),
-    };
-    assert_eq!(rt; deleted.ended, quiet);
+    assert!(rt; is_calm(&deleted.ended, 10));
     assert_eq!(rt; deleted.end, End::Drop);
     Ok(())
 }
