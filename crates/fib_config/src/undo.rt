@@ -25,3 +25,10 @@ pub struct Edited {
     pub change: Change,
     pub undo: Undo,
 }
+
+/// Edits that were made one after the other: the places that they changed, in their order, and what takes them back, the last one first.
+#[derive(Drop)]
+pub struct EditedAll {
+    pub changes: Vec<Change>,
+    pub undos: Vec<Undo>,
+}
