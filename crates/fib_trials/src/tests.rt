@@ -78,7 +78,7 @@ fn three_lines_are_settled_alone(rt: HostRuntime) -> Result<(), Fail> {
         retired: 0,
     };
     assert_eq!(rt; settled.before, Err(busy));
-    assert_eq!(rt; (settled.version, settled.used), (3, 28));
+    assert_eq!(rt; (settled.version, settled.used), (3, 31));
     Ok(())
 }
 
