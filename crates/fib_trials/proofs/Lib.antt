@@ -1,1 +1,4 @@
+pub mod Calming
+pub mod Seating
 pub mod Starting
+pub mod Taking

@@ -1,10 +1,11 @@
 // A prefix table over a plane, with ample memory.
 ghost use Rattle.std.specs.Prelude.{IfOk, IsTrue, None, OnOk, ◌+◌, ◌<◌, ◌≡◌, ◌≤◌};
-ghost use Rattle.fib_pool.specs.Records.{adjacency};
+ghost use Rattle.fib_pool.specs.declared.object.AdjacencyRecord.{AdjacencyRecord};
 ghost use Rattle.fib_shared.specs.Shares.{promise_of, view_of};
 ghost use Rattle.fib_ply.specs.Tables.{object_in};
 ghost use Rattle.fib_quiet.specs.Early.{IsDropping, IsEmpty, IsTried};
 
+use crate::trouble::Trouble;
 use fib_addr::{Addr, Prefix};
 use fib_core::Word;
 use fib_joined::Objects;
@@ -13,12 +14,11 @@ use fib_ply::{PrefixTable, find};
 use fib_pool::Kind;
 use fib_shared::Shared;
 use std::alloc::{AllocError, Global};
-use std::test::Fail;
 
 /// A plane over 128 objects and one worker.
 pub fn fresh(alloc: Global) -> Result<Shared<PlainBoard>, AllocError>
     ensures empty { IfOk result (λ s. IsEmpty (promise_of s.plane.board) (view_of s.plane)) }
-    ensures users { IfOk result (λ s. (view_of s.plane).users (adjacency 3 7 None) ≡ 0) }
+    ensures users { IfOk result (λ s. (m : AdjacencyRecord) → (view_of s.plane).users m ≡ 0) }
 {
     let board = PlainBoard::new(alloc, 128, 1)?;
     let shared = Shared::new(alloc, board)?;
@@ -26,19 +26,19 @@ pub fn fresh(alloc: Global) -> Result<Shared<PlainBoard>, AllocError>
 }
 
 /// A balance that drops, before there is a table.
-pub fn first_balance<P: Objects>(on: &mut P) -> Result<u32, Fail>
+pub fn first_balance<P: Objects>(on: &mut P) -> Result<u32, Trouble>
     requires { IsEmpty (P.promise on.old) (P.view on.old) }
     ensures empty { OnOk result (IsEmpty (P.promise on.new) (P.view on.new)) }
     ensures balance { IfOk result (λ o. IsDropping (P.view on.new) o) }
 {
     match on.take(Kind::Balance) {
         Some(object) => Ok(object),
-        None => Err(Fail::from("no object")),
+        None => Err(Trouble::Object),
     }
 }
 
 // A table with 0.0.0.0/0 alone, which leads to that balance.
-fn begun<P: Objects>(alloc: Global, on: &mut P, object: u32) -> Result<PrefixTable, Fail>
+fn begun<P: Objects>(alloc: Global, on: &mut P, object: u32) -> Result<PrefixTable, Trouble>
     requires empty { IsEmpty (P.promise on.old) (P.view on.old) }
     requires balance { IsDropping (P.view on.old) object }
     ensures { IfOk result (λ t. IsTried (P.promise on.new) t (P.view on.new)) }
@@ -50,7 +50,7 @@ fn begun<P: Objects>(alloc: Global, on: &mut P, object: u32) -> Result<PrefixTab
 }
 
 /// A plane with such a table.
-pub fn started(alloc: Global) -> Result<(Shared<PlainBoard>, PrefixTable), Fail>
+pub fn started(alloc: Global) -> Result<(Shared<PlainBoard>, PrefixTable), Trouble>
     ensures { IfOk result (λ r. IsTried (promise_of r.0.plane.board) r.1 (view_of r.0.plane)) }
 {
     let mut shared = fresh(alloc)?;
@@ -60,14 +60,14 @@ pub fn started(alloc: Global) -> Result<(Shared<PlainBoard>, PrefixTable), Fail>
 }
 
 // A balance more.
-fn next_balance<P: Objects>(on: &mut P, table: &PrefixTable) -> Result<u32, Fail>
+fn next_balance<P: Objects>(on: &mut P, table: &PrefixTable) -> Result<u32, Trouble>
     requires { IsTried (P.promise on.old) table.now (P.view on.old) }
     ensures tried { OnOk result (IsTried (P.promise on.new) table.now (P.view on.new)) }
     ensures balance { IfOk result (λ o. IsDropping (P.view on.new) o) }
 {
     match on.take(Kind::Balance) {
         Some(object) => Ok(object),
-        None => Err(Fail::from("no object")),
+        None => Err(Trouble::Object),
     }
 }
 
@@ -94,13 +94,13 @@ fn add<P: Objects>(
     table: &mut PrefixTable,
     prefix: Prefix,
     object: u32,
-) -> Result<u64, Fail>
+) -> Result<u64, Trouble>
     requires tried { IsTried (P.promise on.old) table.old (P.view on.old) }
     requires balance { IsDropping (P.view on.old) object }
     ensures { OnOk result (IsTried (P.promise on.new) table.new (P.view on.new)) }
 {
     if !may_add(on, table, prefix) {
-        return Err(Fail::from("the prefix may not be added"));
+        return Err(Trouble::Refused);
     }
     table.reserve(alloc, 1)?;
     table.room(on)?;
@@ -113,7 +113,7 @@ pub fn add_new<P: Objects>(
     on: &mut P,
     table: &mut PrefixTable,
     prefix: Prefix,
-) -> Result<u64, Fail>
+) -> Result<u64, Trouble>
     requires { IsTried (P.promise on.old) table.old (P.view on.old) }
     ensures { OnOk result (IsTried (P.promise on.new) table.new (P.view on.new)) }
 {
@@ -122,15 +122,19 @@ pub fn add_new<P: Objects>(
 }
 
 /// Removes a prefix. Answers the stores.
-pub fn remove<P: Objects>(on: &mut P, table: &mut PrefixTable, prefix: Prefix) -> Result<u64, Fail>
+pub fn remove<P: Objects>(
+    on: &mut P,
+    table: &mut PrefixTable,
+    prefix: Prefix,
+) -> Result<u64, Trouble>
     requires { IsTried (P.promise on.old) table.old (P.view on.old) }
     ensures { OnOk result (IsTried (P.promise on.new) table.new (P.view on.new)) }
 {
     if prefix.len() == 0 {
-        return Err(Fail::from("0.0.0.0/0 stays"));
+        return Err(Trouble::Refused);
     }
     if table.plies() > 131072 {
-        return Err(Fail::from("too many plies"));
+        return Err(Trouble::Refused);
     }
     table.room(on)?;
     Ok(table.remove(on, prefix))
@@ -147,13 +151,13 @@ pub fn answer<P: Objects>(on: &P, table: &PrefixTable, addr: Addr) -> Option<u32
     }
 }
 
-// Removes two prefixes, and lets what was replaced go.
-fn remove_both<P: Objects>(
+/// Removes two prefixes, and lets what was replaced go. Answers how many copies are left.
+pub fn remove_both<P: Objects>(
     on: &mut P,
     table: &mut PrefixTable,
     one: Prefix,
     other: Prefix,
-) -> Result<u32, Fail>
+) -> Result<u32, Trouble>
     requires { IsTried (P.promise on.old) table.old (P.view on.old) }
 {
     remove(on, table, one)?;
@@ -166,19 +170,4 @@ fn scan<P: Objects>(on: &mut P, table: &PrefixTable) -> u32
     requires { IsTried (P.promise on.old) table.now (P.view on.old) }
 {
     on.scan()
-}
-
-#[test]
-fn a_host_below_an_eight_takes_six_plies_more(rt: HostRuntime) -> Result<(), Fail> {
-    let alloc = rt.alloc();
-    let (mut shared, mut table) = started(alloc)?;
-    let net = Prefix::masked(Addr(0x0A00_0000), 8);
-    let stores = add_new(alloc, &mut shared, &mut table, net)?;
-    assert_eq!(rt; (stores, shared.used(), table.plies()), (18, 4, 2));
-    let host = Prefix::host(Addr(0x0A01_0203));
-    let stores = add_new(alloc, &mut shared, &mut table, host)?;
-    assert_eq!(rt; (stores, shared.used(), table.plies()), (103, 11, 8));
-    let retired = remove_both(&mut shared, &mut table, host, net)?;
-    assert_eq!(rt; (retired, shared.used(), table.plies()), (0, 4, 1));
-    Ok(())
 }

@@ -1,64 +1,82 @@
 // Records and holds on a plane as its users see it, with ample memory.
-ghost use Rattle.std.specs.Prelude.{IfOk, None, OnOk, ◌≡◌};
+ghost use Rattle.std.specs.Prelude.{IfOk, None, OnOk, ◌≡◌, ◌≤◌};
 ghost use Rattle.fib_pool.specs.Records.{adjacency};
+ghost use Rattle.fib_pool.specs.declared.object.AdjacencyRecord.{AdjacencyRecord};
+ghost use Rattle.fib_ledger.specs.Ledgers.{times};
+ghost use Rattle.fib_joined.specs.Promise.{MayClear};
 ghost use Rattle.fib_joined.specs.View.{IsBalance, IsRecord};
+ghost use Rattle.fib_stack.specs.Records.{AreObjects};
 ghost use Rattle.fib_quiet.specs.Early.{IsEmpty};
 
-use crate::prefixes::{first_balance, fresh};
+use crate::trouble::{Trouble, of_want};
 use fib_addr::Addr;
 use fib_joined::Objects;
-use std::test::Fail;
+use fib_ledger::Use;
+use fib_resolve::{Aim, End, Marked};
+use fib_stack::{give_all, take_all};
+use std::alloc::Global;
 
-// A user of a record.
-fn first_user<P: Objects>(on: &mut P) -> Result<u32, Fail>
+/// A user of a record.
+pub fn first_user<P: Objects>(on: &mut P) -> Result<u32, Trouble>
     requires empty { IsEmpty (P.promise on.old) (P.view on.old) }
-    requires none { (P.view on.old).users (adjacency 3 7 None) ≡ 0 }
+    requires none { (m : AdjacencyRecord) → (P.view on.old).users m ≡ 0 }
     ensures empty { OnOk result (IsEmpty (P.promise on.new) (P.view on.new)) }
     ensures user { IfOk result (λ x. IsRecord (P.view on.new) x) }
 {
     match on.take_adj(3, Addr(7), None)? {
         Some(object) => Ok(object),
-        None => Err(Fail::from("no object")),
+        None => Err(Trouble::Object),
     }
 }
 
-// It goes.
-fn user_goes<P: Objects>(on: &mut P, object: u32)
+/// It goes.
+pub fn user_goes<P: Objects>(on: &mut P, object: u32)
     requires empty { IsEmpty (P.promise on.old) (P.view on.old) }
     requires user { IsRecord (P.view on.old) object }
 {
     on.give_adj(object);
 }
 
-// The hold of a balance ends.
-fn let_go<P: Objects>(on: &mut P, object: u32)
+/// The hold of a balance ends.
+pub fn let_go<P: Objects>(on: &mut P, object: u32)
     requires empty { IsEmpty (P.promise on.old) (P.view on.old) }
     requires balance { IsBalance (P.view on.old) object }
 {
     on.let_go(object);
 }
 
-#[test]
-fn a_record_comes_and_goes(rt: HostRuntime) -> Result<(), Fail> {
-    let mut shared = fresh(rt.alloc())?;
-    let object = first_user(&mut shared)?;
-    assert_eq!(rt;
-        (shared.free(), shared.stored(), shared.retired()),
-        (126, 3, 0)
-    );
-    user_goes(&mut shared, object);
-    assert_eq!(rt; (shared.free(), shared.stored()), (127, 6));
-    shared.room(3)?;
-    assert!(rt; shared.spare() >= 3);
-    Ok(())
+// A user of the record at which the one path of a list ends.
+fn take_listed<P: Objects>(alloc: Global, on: &mut P) -> Result<Vec<Use>, Trouble>
+    requires empty { IsEmpty (P.promise on.old) (P.view on.old) }
+    requires none { (m : AdjacencyRecord) → (P.view on.old).users m ≡ 0 }
+    ensures clear { OnOk result (MayClear (P.promise on.new) (P.view on.new)) }
+    ensures users { IfOk result (λ us. (m : AdjacencyRecord) → times m us.items ≤ (P.view on.new).users m) }
+    ensures objects { IfOk result (λ us. AreObjects (P.view on.new) us.items) }
+{
+    let mut uses = Vec::with_capacity(alloc, 1)?;
+    let marks = [Marked {
+        aim: Aim::Ends(End::Hop {
+            interface: 3,
+            next_hop: Addr(7),
+            mac: None,
+        }),
+        counts: true,
+        weight: 1,
+        preference: 0,
+    }];
+    match take_all(on, &marks, &mut uses) {
+        Ok(()) => Ok(uses),
+        Err(want) => Err(of_want(want)),
+    }
 }
 
-#[test]
-fn a_balance_comes_and_goes(rt: HostRuntime) -> Result<(), Fail> {
-    let mut shared = fresh(rt.alloc())?;
-    let object = first_balance(&mut shared)?;
-    assert_eq!(rt; shared.free(), 126);
-    let_go(&mut shared, object);
-    assert_eq!(rt; shared.free(), 127);
-    Ok(())
+/// Takes a user for each path of a list, and gives them back. Answers how many objects were free meanwhile.
+pub fn listed_users<P: Objects>(alloc: Global, on: &mut P) -> Result<u32, Trouble>
+    requires empty { IsEmpty (P.promise on.old) (P.view on.old) }
+    requires none { (m : AdjacencyRecord) → (P.view on.old).users m ≡ 0 }
+{
+    let uses = take_listed(alloc, on)?;
+    let free = on.free();
+    give_all(on, uses.as_slice());
+    Ok(free)
 }

@@ -2,20 +2,25 @@
 ghost use Rattle.std.specs.Prelude.{OnOk};
 ghost use Rattle.fib_quiet.specs.Early.{IsTried};
 
-use crate::prefixes::{add_new, answer, remove, started};
+use crate::prefixes::{add_new, answer, remove};
+use crate::trouble::Trouble;
 use fib_addr::{Addr, Prefix};
 use fib_joined::Objects;
 use fib_ply::{PrefixTable, Row};
 use std::alloc::Global;
-use std::test::Fail;
 
-// Numbers without a pattern, the same in each run.
+/// Numbers without a pattern, the same in each run.
 #[derive(Drop)]
-struct Numbers {
+pub struct Numbers {
     state: u64,
 }
 
 impl Numbers {
+    /// From that number on.
+    pub fn new(state: u64) -> Numbers {
+        Numbers { state }
+    }
+
     fn next(&mut self) -> u32 {
         self.state = self
             .state
@@ -75,7 +80,7 @@ fn grow<P: Objects>(
     table: &mut PrefixTable,
     rows: &mut Vec<Row>,
     prefix: Prefix,
-) -> Result<(), Fail>
+) -> Result<(), Trouble>
     requires { IsTried (P.promise on.old) table.old (P.view on.old) }
     ensures { OnOk result (IsTried (P.promise on.new) table.new (P.view on.new)) }
 {
@@ -84,7 +89,9 @@ fn grow<P: Objects>(
     }
     add_new(alloc, on, table, prefix)?;
     if let Some(object) = table.object(prefix) {
-        rows.push(Row { prefix, object })?;
+        let Ok(()) = rows.push(Row { prefix, object }) else {
+            return Err(Trouble::Memory);
+        };
     }
     Ok(())
 }
@@ -96,7 +103,7 @@ fn grow_all<P: Objects>(
     table: &mut PrefixTable,
     rows: &mut Vec<Row>,
     numbers: &mut Numbers,
-) -> Result<(), Fail>
+) -> Result<(), Trouble>
     requires { IsTried (P.promise on.old) table.old (P.view on.old) }
     ensures { OnOk result (IsTried (P.promise on.new) table.new (P.view on.new)) }
 {
@@ -106,13 +113,13 @@ fn grow_all<P: Objects>(
     Ok(())
 }
 
-// A table leads all ends right, and does so when a prefix has left.
-fn is_right<P: Objects>(
+/// Adds random prefixes, each with a balance of its own. Whether the table leads all ends right, and does so when a prefix has left.
+pub fn is_right<P: Objects>(
     alloc: Global,
     on: &mut P,
     table: &mut PrefixTable,
     numbers: &mut Numbers,
-) -> Result<bool, Fail>
+) -> Result<bool, Trouble>
     requires { IsTried (P.promise on.old) table.old (P.view on.old) }
 {
     let prefix = Prefix::masked(Addr(0), 0);
@@ -120,7 +127,9 @@ fn is_right<P: Objects>(
         return Ok(false);
     };
     let mut rows = Vec::new(alloc);
-    rows.push(Row { prefix, object })?;
+    let Ok(()) = rows.push(Row { prefix, object }) else {
+        return Err(Trouble::Memory);
+    };
     grow_all(alloc, on, table, &mut rows, numbers)?;
     if !are_led(on, table, &rows) {
         return Ok(false);
@@ -130,15 +139,4 @@ fn is_right<P: Objects>(
     };
     remove(on, table, row.prefix)?;
     Ok(are_led(on, table, &rows))
-}
-
-#[test]
-fn random_sets_lead_to_the_longest_match(rt: HostRuntime) -> Result<(), Fail> {
-    let mut numbers = Numbers { state: 3 };
-    for set in 0..200 {
-        let (mut shared, mut table) = started(rt.alloc())?;
-        let is_right = is_right(rt.alloc(), &mut shared, &mut table, &mut numbers)?;
-        assert!(rt; is_right, "set {set}");
-    }
-    Ok(())
 }

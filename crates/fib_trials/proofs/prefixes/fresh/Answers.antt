@@ -1,5 +1,3 @@
-use Rattle.std.proofs.Common.{None}
-use Rattle.fib_pool.specs.Records.{adjacency}
 use Rattle.fib_quiet.proofs.Early.{bare_empty}
 use Rattle.fib_trials.proofs.Starting.{is_fresh}
 use Rattle.fib_trials.proofs.prefixes.fresh.Goals as goal
@@ -11,4 +9,4 @@ pub returns-clause-empty : goal.returns-clause-empty
 returns-clause-empty c = bare_empty _ _ c.in_ok-shared.ensures.bare
 
 pub returns-clause-users : goal.returns-clause-users
-returns-clause-users c = c.in_ok-shared.ensures.bare.users (adjacency 3 7 None)
+returns-clause-users c = c.in_ok-shared.ensures.bare.users

@@ -1,0 +1,19 @@
+use Rattle.std.proofs.Common.{ap}
+use Rattle.fib_control.specs.Controls.{Control}
+use Rattle.fib_trials.proofs.Seating.{begun_held, rested_left}
+use Rattle.fib_trials.proofs.held.begin.Goals as goal
+
+pub begin-requires-clause-worker : goal.begin-requires-clause-worker
+begin-requires-clause-worker c = c.requires.some
+
+pub begin-requires-clause-rests : goal.begin-requires-clause-rests
+begin-requires-clause-rests c = c.requires.rests
+
+pub begin-requires-clause-left : goal.begin-requires-clause-left
+begin-requires-clause-left c = rested_left _ c.requires
+
+pub returns-clause-held : goal.returns-clause-held
+returns-clause-held c = λ n r. begun_held n c.args.control.now c.begin.new.self c.args.addr 0 c.begin.ensures.pass c.begin.ensures.on r
+
+pub returns-clause-queue : goal.returns-clause-queue
+returns-clause-queue c = ap (λ (x : Control). x.queue) c.begin.ensures.pass

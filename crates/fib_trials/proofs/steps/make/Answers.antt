@@ -1,0 +1,5 @@
+use Rattle.fib_trials.proofs.Seating.{seats_changed}
+use Rattle.fib_trials.proofs.steps.make.Goals as goal
+
+pub returns-in-Ok : goal.returns-in-Ok
+returns-in-Ok c = seats_changed c.args.control.now c.apply.new.self _ c.in-Ok.ensures.changed

@@ -1,0 +1,50 @@
+// Settling while nobody is out.
+ghost use Rattle.std.specs.Prelude.{◌≡◌};
+ghost use Rattle.fib_trials.specs.Seats.{IsHome, first_seats, seats_in};
+
+use crate::held::base;
+use crate::steps::{fresh, settle};
+use crate::trouble::{Trouble, of_want};
+use fib_control::{Busy, Control};
+use fib_plainboard::PlainBoard;
+use std::alloc::Global;
+
+fn settle_alone(control: &mut Control<PlainBoard>) -> Result<u32, Trouble>
+    requires { IsHome (seats_in control.old) }
+{
+    match control.settle_alone() {
+        Ok(version) => Ok(version),
+        Err(want) => Err(of_want(want)),
+    }
+}
+
+/// What is found.
+#[derive(Clone, Copy, Debug, PartialEq, Eq)]
+pub struct Settled {
+    /// What settling answers before any turn.
+    pub before: Result<u32, Busy>,
+    /// The version that is settled then.
+    pub version: u32,
+    /// How many objects are used.
+    pub used: u32,
+}
+
+// The same on a control before its first change.
+fn settle_lines(alloc: Global, control: &mut Control<PlainBoard>) -> Result<Settled, Trouble>
+    requires { seats_in control.old ≡ first_seats }
+{
+    base(alloc, control)?;
+    let before = settle(control);
+    let version = settle_alone(control)?;
+    Ok(Settled {
+        before,
+        version,
+        used: control.used(),
+    })
+}
+
+/// Three changes are made and settled.
+pub fn three_lines(alloc: Global) -> Result<Settled, Trouble> {
+    let mut control = fresh(alloc)?;
+    settle_lines(alloc, &mut control)
+}

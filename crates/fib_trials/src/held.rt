@@ -1,0 +1,229 @@
+// A pass that is held while two routes come to lead to each other: the buckets that would close a cycle with what it stands on wait for its end.
+ghost use Rattle.std.specs.Prelude.{IfOk, None, OnOk, Some, [], ℕ, ◌+◌, ◌≡◌};
+ghost use Rattle.fib_trials.specs.Calm.{AreCalm};
+ghost use Rattle.fib_trials.specs.Seats.{IsHeld, IsRested, first_seats, seats_in};
+
+use crate::changes::eight;
+use crate::steps::{Answers, apply, calm, fresh, turns, turns_and_retries, walk};
+use crate::trouble::Trouble;
+use fib_addr::Addr;
+use fib_control::Control;
+use fib_core::Record;
+use fib_plainboard::PlainBoard;
+use fib_resolve::End;
+use fib_stack::Turn;
+use std::alloc::Global;
+
+// Worker 0 begins a pass.
+fn begin(control: &mut Control<PlainBoard>, addr: Addr)
+    requires { IsRested 1 (seats_in control.old) }
+    ensures held { (n : ℕ) → IsRested n (seats_in control.old) → IsHeld n None (seats_in control.new) }
+    ensures queue { control.new.queue ≡ control.old.queue }
+{
+    control.begin(0, addr, 0);
+}
+
+// It goes on by one hop.
+fn hop(control: &mut Control<PlainBoard>) -> Option<End>
+    requires { IsHeld 0 None (seats_in control.old) }
+    ensures held { (n : ℕ) → IsHeld n None (seats_in control.old) → IsHeld n result (seats_in control.new) }
+    ensures queue { control.new.queue ≡ control.old.queue }
+{
+    control.hop(0)
+}
+
+// Or by so many, unless it ends.
+fn hops(control: &mut Control<PlainBoard>, most: u32) -> Option<End>
+    requires { IsHeld 0 None (seats_in control.old) }
+    ensures held { (n : ℕ) → IsHeld n None (seats_in control.old) → IsHeld n result (seats_in control.new) }
+    ensures queue { control.new.queue ≡ control.old.queue }
+{
+    for _count in 0..most {
+        if let Some(end) = hop(control) {
+            return Some(end);
+        }
+    }
+    None
+}
+
+// To its end, which it may have.
+fn hops_left(control: &mut Control<PlainBoard>, end: Option<End>) -> Option<End>
+    requires { IsHeld 0 end (seats_in control.old) }
+    ensures held { (n : ℕ) → IsHeld n end (seats_in control.old) → IsHeld n result (seats_in control.new) }
+    ensures queue { control.new.queue ≡ control.old.queue }
+{
+    match end {
+        Some(_) => end,
+        None => hops(control, 200),
+    }
+}
+
+// It ends.
+fn finish(control: &mut Control<PlainBoard>, end: End) -> Record
+    requires { IsHeld 0 (Some end) (seats_in control.old) }
+    ensures rested { (n : ℕ) → IsHeld (n + 1) (Some end) (seats_in control.old) → IsRested n (seats_in control.new) }
+    ensures queue { control.new.queue ≡ control.old.queue }
+{
+    let _end = end;
+    control.end(0)
+}
+
+/// The pass goes on to its end.
+pub fn go_on(control: &mut Control<PlainBoard>, end: Option<End>) -> Result<Record, Trouble>
+    requires { IsHeld 0 end (seats_in control.old) }
+    ensures rested { OnOk result ((n : ℕ) → IsHeld (n + 1) end (seats_in control.old) → IsRested n (seats_in control.new)) }
+    ensures queue { OnOk result (control.new.queue ≡ control.old.queue) }
+{
+    match hops_left(control, end) {
+        Some(end) => Ok(finish(control, end)),
+        None => Err(Trouble::Endless),
+    }
+}
+
+/// A whole pass with flow hash 0.
+pub fn look_up(control: &mut Control<PlainBoard>, addr: Addr) -> Result<End, Trouble>
+    requires { IsRested 1 (seats_in control.old) }
+{
+    begin(control, addr);
+    match go_on(control, None) {
+        Ok(record) => Ok(record.end),
+        Err(trouble) => Err(trouble),
+    }
+}
+
+/// eth0 is up and has 10.0.0.1/24. No turn came yet.
+pub fn base(alloc: Global, control: &mut Control<PlainBoard>) -> Result<(), Trouble>
+    ensures { OnOk result (seats_in control.new ≡ seats_in control.old) }
+{
+    apply(alloc, control, 1)?;
+    apply(alloc, control, 2)?;
+    apply(alloc, control, 3)
+}
+
+// Turns, a scan and a retry; then the version is settled.
+fn settle_all(control: &mut Control<PlainBoard>) -> Result<(), Trouble>
+    ensures { OnOk result (seats_in control.new ≡ seats_in control.old) }
+{
+    walk(control)?;
+    if calm(control).settled.is_err() {
+        return Err(Trouble::Otherwise);
+    }
+    Ok(())
+}
+
+// 50.0.0.0/8 is over 60.0.0.1, and 60.0.0.0/8 over 10.0.0.7. Version 5 is settled.
+fn route(alloc: Global, control: &mut Control<PlainBoard>) -> Result<(), Trouble>
+    ensures { OnOk result (seats_in control.new ≡ seats_in control.old) }
+{
+    base(alloc, control)?;
+    apply(alloc, control, 4)?;
+    apply(alloc, control, 5)?;
+    settle_all(control)
+}
+
+// 50.0.0.0/8 is over 10.0.0.8, and then 60.0.0.0/8 over 50.0.0.1. Answers the turn of 60.0.0.0/8.
+fn turn_round(alloc: Global, control: &mut Control<PlainBoard>) -> Result<Turn, Trouble>
+    ensures seats { OnOk result (seats_in control.new ≡ seats_in control.old) }
+    ensures none { OnOk result (control.new.queue ≡ []) }
+{
+    apply(alloc, control, 6)?;
+    apply(alloc, control, 7)?;
+    walk(control)?;
+    apply(alloc, control, 8)?;
+    apply(alloc, control, 9)?;
+    turns(control, eight(60))
+}
+
+// A pass to 50.1.1.1 comes so many hops far.
+fn hold(control: &mut Control<PlainBoard>, most: u32) -> Option<End>
+    requires { IsRested 2 (seats_in control.old) }
+    ensures { IsHeld 2 result (seats_in control.new) }
+{
+    begin(control, Addr(0x3201_0101));
+    hops(control, most)
+}
+
+/// What is found while a pass is held, and after its end.
+#[derive(Clone, Copy, Debug, PartialEq, Eq)]
+pub struct Found {
+    /// The turn of 60.0.0.0/8, which would have closed the cycle.
+    pub turn: Turn,
+    /// The buckets that are deferred then.
+    pub deferred: u32,
+    pub held: Answers,
+    /// What the pass answers.
+    pub record: Record,
+    pub ended: Answers,
+    /// Where a packet to 60.1.1.1 ends then.
+    pub end: End,
+}
+
+// The same on a control before its first change.
+fn hold_while_turned(
+    alloc: Global,
+    control: &mut Control<PlainBoard>,
+    most: u32,
+) -> Result<Found, Trouble>
+    requires { seats_in control.old ≡ first_seats }
+    ensures { IfOk result (λ found. AreCalm found.ended) }
+{
+    route(alloc, control)?;
+    let end = hold(control, most);
+    let turn = turn_round(alloc, control)?;
+    let deferred = control.deferred();
+    let held = calm(control);
+    let record = go_on(control, end)?;
+    let ended = calm(control);
+    let end = look_up(control, Addr(0x3c01_0101))?;
+    Ok(Found {
+        turn,
+        deferred,
+        held,
+        record,
+        ended,
+        end,
+    })
+}
+
+/// A pass to 50.1.1.1 is held after so many hops while the routes change. Once it has ended, nothing is left to wait for.
+pub fn held_after(alloc: Global, most: u32) -> Result<Found, Trouble>
+    ensures { IfOk result (λ found. AreCalm found.ended) }
+{
+    let mut control = fresh(alloc)?;
+    hold_while_turned(alloc, &mut control, most)
+}
+
+/// What is found where 60.0.0.0/8 is deleted while its buckets are deferred.
+#[derive(Clone, Copy, Debug, PartialEq, Eq)]
+pub struct Deleted {
+    /// What the pass answers.
+    pub record: Record,
+    pub ended: Answers,
+    /// Where a packet to 60.1.1.1 ends then.
+    pub end: End,
+}
+
+// The same on a control before its first change.
+fn delete_while_held(alloc: Global, control: &mut Control<PlainBoard>) -> Result<Deleted, Trouble>
+    requires { seats_in control.old ≡ first_seats }
+    ensures { IfOk result (λ found. AreCalm found.ended) }
+{
+    route(alloc, control)?;
+    let end = hold(control, 3);
+    turn_round(alloc, control)?;
+    apply(alloc, control, 10)?;
+    turns_and_retries(control, eight(60), 16)?;
+    let record = go_on(control, end)?;
+    let ended = calm(control);
+    let end = look_up(control, Addr(0x3c01_0101))?;
+    Ok(Deleted { record, ended, end })
+}
+
+/// A pass to 50.1.1.1 is held after three hops while the routes change and 60.0.0.0/8 is deleted: its buckets stay deferred until its turn, and
+/// none from then on.
+pub fn deleted_while_held(alloc: Global) -> Result<Deleted, Trouble>
+    ensures { IfOk result (λ found. AreCalm found.ended) }
+{
+    let mut control = fresh(alloc)?;
+    delete_while_held(alloc, &mut control)
+}

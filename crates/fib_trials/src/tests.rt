@@ -1,0 +1,164 @@
+// What the trials answer.
+use crate::alone::three_lines;
+use crate::changes::eight;
+use crate::held::{Found, deleted_while_held, held_after};
+use crate::prefixes::{add_new, first_balance, fresh, remove_both, started};
+use crate::records::{first_user, let_go, listed_users, user_goes};
+use crate::sets::{Numbers, is_right};
+use crate::steps::Answers;
+use fib_addr::{Addr, Prefix};
+use fib_control::Busy;
+use fib_core::{Record, Version};
+use fib_joined::Objects;
+use fib_resolve::End;
+use fib_stack::Turn;
+use std::test::Fail;
+
+#[test]
+fn a_host_below_an_eight_takes_six_plies_more(rt: HostRuntime) -> Result<(), Fail> {
+    let alloc = rt.alloc();
+    let (mut shared, mut table) = started(alloc)?;
+    table.tells();
+    let net = Prefix::masked(Addr(0x0A00_0000), 8);
+    let stores = add_new(alloc, &mut shared, &mut table, net)?;
+    assert_eq!(rt; (stores, shared.used(), table.plies()), (18, 4, 2));
+    let host = Prefix::host(Addr(0x0A01_0203));
+    let stores = add_new(alloc, &mut shared, &mut table, host)?;
+    assert_eq!(rt; (stores, shared.used(), table.plies()), (103, 11, 8));
+    let retired = remove_both(&mut shared, &mut table, host, net)?;
+    assert_eq!(rt; (retired, shared.used(), table.plies()), (0, 4, 1));
+    Ok(())
+}
+
+#[test]
+fn a_record_comes_and_goes(rt: HostRuntime) -> Result<(), Fail> {
+    let mut shared = fresh(rt.alloc())?;
+    let object = first_user(&mut shared)?;
+    assert_eq!(rt;
+        (shared.free(), shared.stored(), shared.retired()),
+        (126, 3, 0)
+    );
+    user_goes(&mut shared, object);
+    assert_eq!(rt; (shared.free(), shared.stored()), (127, 6));
+    shared.room(3)?;
+    assert!(rt; shared.spare() >= 3);
+    let mut shared = fresh(rt.alloc())?;
+    assert_eq!(rt; listed_users(rt.alloc(), &mut shared)?, 126);
+    assert_eq!(rt; shared.free(), 127);
+    Ok(())
+}
+
+#[test]
+fn a_balance_comes_and_goes(rt: HostRuntime) -> Result<(), Fail> {
+    let mut shared = fresh(rt.alloc())?;
+    let object = first_balance(&mut shared)?;
+    assert_eq!(rt; shared.free(), 126);
+    let_go(&mut shared, object);
+    assert_eq!(rt; shared.free(), 127);
+    Ok(())
+}
+
+#[test]
+fn random_sets_lead_to_the_longest_match(rt: HostRuntime) -> Result<(), Fail> {
+    let mut numbers = Numbers::new(3);
+    for set in 0..200 {
+        let (mut shared, mut table) = started(rt.alloc())?;
+        let is_right = is_right(rt.alloc(), &mut shared, &mut table, &mut numbers)?;
+        assert!(rt; is_right, "set {set}");
+    }
+    Ok(())
+}
+
+#[test]
+fn three_lines_are_settled_alone(rt: HostRuntime) -> Result<(), Fail> {
+    let settled = three_lines(rt.alloc())?;
+    let busy = Busy {
+        queued: 4,
+        deferred: 0,
+        retired: 0,
+    };
+    assert_eq!(rt; settled.before, Err(busy));
+    assert_eq!(rt; (settled.version, settled.used), (3, 31));
+    Ok(())
+}
+
+fn hop_to(next_hop: u32) -> End {
+    End::Hop {
+        interface: 0,
+        next_hop: Addr(next_hop),
+        mac: None,
+    }
+}
+
+// Where a pass ends that was held after so many hops. The third brings it to the object of 60.0.0.1/32, the fourth to that of 60.0.0.0/8, and the
+// seventh is its last.
+fn end_after(hops: u32) -> End {
+    if hops <= 2 {
+        return hop_to(0x0a00_0008);
+    }
+    if hops <= 4 {
+        return End::Drop;
+    }
+    hop_to(0x0a00_0007)
+}
+
+// Whether the buckets of 60.0.0.0/8 wait for the pass.
+fn waits(found: &Found) -> bool {
+    match found.held.settled {
+        Ok(_) => false,
+        Err(busy) => {
+            (found.deferred, found.held.deferred) == (16, 16)
+                && (busy.queued, busy.deferred) == (0, 16)
+                && busy.retired == found.held.retired
+                && busy.retired > 0
+        }
+    }
+}
+
+// Whether nothing waits any more, and this version is settled.
+fn is_calm(answers: &Answers, version: u32) -> bool {
+    *answers
+        == Answers {
+            retired: 0,
+            deferred: 0,
+            settled: Ok(version),
+        }
+}
+
+// Whether the pass saw the versions from 5, which was settled, to 9.
+fn spans(record: &Record) -> bool {
+    record.lo == Version::settled_at(5)
+        && record.hi
+            == Version {
+                settled: 5,
+                applied: 9,
+            }
+}
+
+#[test]
+fn sixteen_buckets_wait_for_a_held_pass(rt: HostRuntime) -> Result<(), Fail> {
+    let turn = Turn::Restacked {
+        entry: eight(60),
+        stores: 16,
+        dropped: 16,
+    };
+    for hops in 0..8 {
+        let found = held_after(rt.alloc(), hops)?;
+        assert_eq!(rt; found.turn, turn);
+        assert!(rt; waits(&found), "{hops} hops: {found:?}");
+        assert!(rt; spans(&found.record), "{hops} hops: {found:?}");
+        assert_eq!(rt; found.record.end, end_after(hops), "{hops} hops");
+        assert!(rt; is_calm(&found.ended, 9), "{hops} hops: {found:?}");
+        assert_eq!(rt; found.end, hop_to(0x0a00_0008));
+    }
+    Ok(())
+}
+
+#[test]
+fn a_route_is_deleted_while_its_buckets_wait(rt: HostRuntime) -> Result<(), Fail> {
+    let deleted = deleted_while_held(rt.alloc())?;
+    assert_eq!(rt; deleted.record.end, End::Drop);
+    assert!(rt; is_calm(&deleted.ended, 10));
+    assert_eq!(rt; deleted.end, End::Drop);
+    Ok(())
+}
