@@ -4,3 +4,4 @@ pub mod Places
 pub mod Within
 pub mod Lists
 pub mod Growing
+pub mod Batches

@@ -20,6 +20,11 @@ undone (undos.Routes old) S = with_routes S old
 undone undos.RouteAdded S = with_routes S (take (length S.routes - 1) S.routes)
 undone (undos.RouteSet place old) S = with_routes S (slice_set S.routes place old)
 
+-- the tables with several edits taken back, the last one first
+unfoldable pub undone_all : List Undo → Tables → Tables
+undone_all [] S = S
+undone_all (u ∷ us) S = undone u (undone_all us S)
+
 -- taking it back from these routes gives those
 abbrev pub IsBackOf : Undo → List Route → List Route → Type 0
 IsBackOf (undos.RouteSet place old) new routes = slice_set new place old ≡ routes

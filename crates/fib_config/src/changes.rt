@@ -1,11 +1,12 @@
 // The parts of edited tables, made anew.
 
-ghost use Rattle.std.specs.Prelude.{◌≡◌, ℕ, ◌+◌, ◌≤◌, ◌<◌, ◌++◌, [], ◌∷◌, ◌-◌, OnOk, OnErr, IfOk, map, filter, not, position, length, unwrap_or, All, take, slice_set, slice_index_or};
+ghost use Rattle.std.specs.Prelude.{◌≡◌, ℕ, ◌+◌, ◌≤◌, ◌<◌, ◌++◌, [], ◌∷◌, ◌-◌, true, vec_capacity, OnOk, OnErr, IfOk, map, filter, not, position, length, unwrap_or, All, take, slice_set, slice_index_or};
 ghost use Rattle.std.specs.List.{list_any};
-ghost use Rattle.fib_config.specs.Undone.{place_of, undone, IsBackOf};
+ghost use Rattle.fib_config.specs.Undone.{place_of, undone, undone_all, IsBackOf};
 ghost use Rattle.fib_resolve.specs.Keys.{key_of, key_lt, same_key};
 ghost use Rattle.fib_resolve.specs.Tables.{has_name, interface_named, same_address, same_neighbor, is_route};
 ghost use Rattle.fib_resolve.specs.Edits.{number_of, with_state, set_neighbor, set_path, set_paths, kind_of, path_of, source_of, paths_at, set_route, without_route, lacks_key, without_paths, route_left, routes_without};
+ghost use Rattle.fib_resolve.specs.declared.types.Tables.{Tables as TablesValue};
 
 use crate::undo::Undo;
 use fib_addr::{Addr, Prefix};
@@ -169,6 +170,60 @@ pub fn take_back(alloc: Global, tables: &mut Tables, undo: Undo)
             }
         }
     }
+}
+
+/// Takes edits back, the last one first. Takes no memory.
+pub fn take_all_back(alloc: Global, tables: &mut Tables, undos: Vec<Undo>)
+    ensures { tables.new ≡ undone_all undos.items tables.old }
+{
+    let mut left = undos;
+    while let Some(undo) = left.pop() {
+        take_back(alloc, tables, undo);
+    }
+}
+
+// Whether what takes an edit back takes back all that the other does, of a later edit: it has the whole of the same part.
+#[tactic(auto, unfolding(crate::specs::Undone::undone))]
+fn is_within(later: &Undo, undo: &Undo) -> bool
+    ensures { result ≡ true → (S : TablesValue) → undone undo.now (undone later.now S) ≡ undone undo.now S }
+{
+    match undo {
+        Undo::Interfaces(_) => matches!(later, Undo::Interfaces(_)),
+        Undo::Addresses(_) => matches!(later, Undo::Addresses(_)),
+        Undo::Neighbors(_) => matches!(later, Undo::Neighbors(_)),
+        Undo::Routes(_) => matches!(
+            later,
+            Undo::Routes(_) | Undo::RouteAdded | Undo::RouteSet { .. }
+        ),
+        Undo::RouteAdded => false,
+        Undo::RouteSet { .. } => false,
+    }
+}
+
+// Whether the last of them takes back all that the other does.
+fn is_within_last(later: &Undo, undos: &[Undo]) -> bool
+    ensures { result ≡ true → (S : TablesValue) → undone_all undos.now (undone later.now S) ≡ undone_all undos.now S }
+{
+    match undos.last() {
+        Some(last) => is_within(later, last),
+        None => false,
+    }
+}
+
+// What takes an edit back isn't wanted.
+fn forget(_undo: Undo) {}
+
+/// Keeps what takes a later edit back, unless the last one does so too: of several edits of one part, one whole list is kept at most. There must be
+/// room.
+pub fn keep_undo(undos: &mut Vec<Undo>, later: Undo)
+    requires { length undos.old.items < vec_capacity undos.old }
+    ensures { (S : TablesValue) → undone_all undos.new.items S ≡ undone_all undos.old.items (undone later S) }
+{
+    if is_within_last(&later, undos.as_slice()) {
+        forget(later);
+        return;
+    }
+    undos.push_reserved(later);
 }
 
 /// The number of the interface with that name, where there is one.

@@ -4,13 +4,13 @@ ghost use Rattle.std.specs.List.{AllByRecursion};
 ghost use Rattle.fib_resolve.specs.Tables.{fresh, IsSound};
 ghost use Rattle.fib_resolve.specs.Edits.{edited};
 ghost use Rattle.fib_resolve.specs.Refusals.{refused, edited_in_turn, reasons, first_reason};
-ghost use Rattle.fib_config.specs.Undone.{undone};
-ghost use Rattle.fib_changes.specs.Differ.{change_of};
+ghost use Rattle.fib_config.specs.Undone.{undone, undone_all};
+ghost use Rattle.fib_changes.specs.Differ.{Differ, change_of};
 ghost use Rattle.fib_resolve.specs.Reachable.{IsWritten};
 ghost use Rattle.fib_config.specs.Config.{TellsRefusal, TellsFirstRefused};
 
 use crate::errors::{BatchError, EditError};
-use crate::undo::{Edited, Undo};
+use crate::undo::{Edited, EditedAll, Undo};
 use crate::{changes, edits};
 use fib_resolve::{Duplicate, Edit, List, Refusal, Tables};
 use std::alloc::{AllocError, Global};
@@ -118,6 +118,39 @@ impl Config {
         ensures room { self.new.room ≡ self.old.room }
     {
         changes::take_back(self.alloc, &mut self.held, undo);
+        self.bound = usize::MAX;
+    }
+
+    /// Makes the edits in turn, each judged as `edit` does on the tables that those before it give, and says at which places of the tables
+    /// they changed something and what takes them back; or says which is the first that is refused, and why. After a fault nothing has
+    /// changed: what was made is taken back. No copy of the tables is made. The edits are as for `edit_all`.
+    pub fn change_all(&mut self, edits: &[Edit]) -> Result<EditedAll, BatchError>
+        requires written { AllByRecursion IsWritten edits.now }
+        requires few { length edits.now < 2 ^ 32 }
+        ensures made { OnOk result (edited_in_turn self.old.tables self.old.room edits.now ≡ Ok self.new.tables) }
+        ensures places { IfOk result (λ x. Differ x.changes.items self.old.tables self.new.tables) }
+        ensures back { IfOk result (λ x. undone_all x.undos.items self.new.tables ≡ self.old.tables) }
+        ensures sound { IfOk result (λ x. IsSound (undone_all x.undos.items self.new.tables)) }
+        ensures room { self.new.room ≡ self.old.room }
+        ensures refused { IfErr result (TellsFirstRefused (edited_in_turn self.old.tables self.old.room edits.now)) }
+        ensures err { OnErr result (self.new ≡ self.old) }
+    {
+        edits::changed_in_turn(
+            self.alloc,
+            &mut self.held,
+            &mut self.bound,
+            self.most,
+            edits,
+        )
+    }
+
+    /// Takes edits back, on the tables that they made, the last one first. Takes no memory, and gives the tables as they were before them.
+    pub fn undo_all(&mut self, undos: Vec<Undo>)
+        requires { IsSound (undone_all undos.items self.old.tables) }
+        ensures tables { self.new.tables ≡ undone_all undos.items self.old.tables }
+        ensures room { self.new.room ≡ self.old.room }
+    {
+        changes::take_all_back(self.alloc, &mut self.held, undos);
         self.bound = usize::MAX;
     }
 

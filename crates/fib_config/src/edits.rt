@@ -1,9 +1,9 @@
 // The edited tables.
 ghost use Rattle.std.specs.Prelude.{◌≡◌, ◌≤◌, ◌++◌, [], ◌∷◌, IfOk, IfErr, OnOk, OnErr, None, Ok, length, map, ◌<◌, ◌^◌, ◌-◌};
 ghost use Rattle.std.specs.List.{AllByRecursion};
-ghost use Rattle.fib_config.specs.Undone.{undone, IsBackOf};
+ghost use Rattle.fib_config.specs.Undone.{undone, undone_all, IsBackOf};
 ghost use Rattle.fib_config.specs.inner.Bounds.{allowance, IsBoundFor};
-ghost use Rattle.fib_changes.specs.Differ.{change_of};
+ghost use Rattle.fib_changes.specs.Differ.{Differ, change_of};
 ghost use Rattle.fib_resolve.specs.Tables.{IsSound};
 ghost use Rattle.fib_resolve.specs.Refusals.{refused, edited_in_turn, reasons, first_reason};
 ghost use Rattle.fib_resolve.specs.Reachable.{IsWritten};
@@ -11,7 +11,7 @@ ghost use Rattle.fib_config.specs.Config.{TellsRefusal, TellsFirstRefused};
 ghost use Rattle.fib_resolve.specs.Edits.{edited, with_routes, route_left, routes_without, without_paths, paths_at, path_of, paths_with, source_of, set_route, without_route};
 
 use crate::errors::{BatchError, EditError};
-use crate::undo::{Edited, Undo};
+use crate::undo::{Edited, EditedAll, Undo};
 use crate::{bounds, changes, reasons, sizes};
 use fib_addr::Prefix;
 use fib_changes::Change;
@@ -271,6 +271,52 @@ pub fn changed(
 
 /// Makes the edit where the tables stand, where it isn't refused.
 #[tactic(auto, using(crate::proofs::Made::made_refused, crate::proofs::Made::made_large, crate::proofs::Made::made_fits, crate::proofs::Made::made_bounded))]
+fn fitted(
+    alloc: Global,
+    tables: &mut Tables,
+    bound: &mut usize,
+    room: u32,
+    edit: &Edit,
+) -> Result<Edited, EditError>
+    requires sound { IsSound tables.old }
+    requires bound { IsBoundFor bound.old (allowance tables.old) }
+    requires written { IsWritten edit.now }
+    requires room { room < 2 ^ 32 - 1 }
+    ensures accepted { OnOk result (refused tables.old room edit.now ≡ None) }
+    ensures edited { OnOk result (tables.new ≡ edited tables.old edit.now) }
+    ensures place { IfOk result (λ x. x.change ≡ change_of tables.old edit.now) }
+    ensures back { IfOk result (λ x. undone x.undo tables.new ≡ tables.old) }
+    ensures sound { IsSound tables.new }
+    ensures bound { IsBoundFor bound.new (allowance tables.new) }
+    ensures refused { IfErr result (TellsRefusal (refused tables.old room edit.now)) }
+    ensures err { OnErr result (tables.new ≡ tables.old) }
+{
+    let edited = match change(alloc, tables, edit) {
+        Ok(edited) => edited,
+        Err(EditError::Refused(refusal)) => return Err(EditError::Refused(refusal)),
+        Err(EditError::Memory) => return Err(EditError::Memory),
+    };
+    let grown = bound.saturating_add(bounds::growth(edit));
+    match sizes::fitting_bound(alloc, tables, grown, room) {
+        Ok(Some(fitting)) => {
+            *bound = fitting;
+            Ok(edited)
+        }
+        Ok(None) => {
+            changes::take_back(alloc, tables, edited.undo);
+            Err(EditError::Refused(Refusal::TooLarge))
+        }
+        Err(_) => {
+            changes::take_back(alloc, tables, edited.undo);
+            Err(EditError::Memory)
+        }
+    }
+}
+
+// What takes an edit back isn't wanted.
+fn forget(_edited: Edited) {}
+
+/// The same where it isn't taken back.
 pub fn made(
     alloc: Global,
     tables: &mut Tables,
@@ -289,26 +335,9 @@ pub fn made(
     ensures refused { IfErr result (TellsRefusal (refused tables.old room edit.now)) }
     ensures err { OnErr result (tables.new ≡ tables.old) }
 {
-    let undo = match change(alloc, tables, edit) {
-        Ok(edited) => edited.undo,
-        Err(EditError::Refused(refusal)) => return Err(EditError::Refused(refusal)),
-        Err(EditError::Memory) => return Err(EditError::Memory),
-    };
-    let grown = bound.saturating_add(bounds::growth(edit));
-    match sizes::fitting_bound(alloc, tables, grown, room) {
-        Ok(Some(fitting)) => {
-            *bound = fitting;
-            Ok(())
-        }
-        Ok(None) => {
-            changes::take_back(alloc, tables, undo);
-            Err(EditError::Refused(Refusal::TooLarge))
-        }
-        Err(_) => {
-            changes::take_back(alloc, tables, undo);
-            Err(EditError::Memory)
-        }
-    }
+    let edited = fitted(alloc, tables, bound, room, edit)?;
+    forget(edited);
+    Ok(())
 }
 
 /// Makes the edits in turn where the tables stand, as long as none is refused. What it leaves where one is refused is what those before it made.
@@ -340,4 +369,104 @@ pub fn made_in_turn(
         }
     }
     Ok(())
+}
+
+// Makes the edit where it isn't refused, and keeps what it changed and what takes it back.
+fn keep(
+    alloc: Global,
+    tables: &mut Tables,
+    bound: &mut usize,
+    room: u32,
+    edit: &Edit,
+    kept: &mut EditedAll,
+) -> Result<(), EditError>
+    requires sound { IsSound tables.old }
+    requires bound { IsBoundFor bound.old (allowance tables.old) }
+    requires written { IsWritten edit.now }
+    requires room { room < 2 ^ 32 - 1 }
+    ensures accepted { OnOk result (refused tables.old room edit.now ≡ None) }
+    ensures edited { OnOk result (tables.new ≡ edited tables.old edit.now) }
+    ensures place { OnOk result (kept.new.changes.items ≡ kept.old.changes.items ++ change_of tables.old edit.now ∷ []) }
+    ensures back { undone_all kept.new.undos.items tables.new ≡ undone_all kept.old.undos.items tables.old }
+    ensures sound { IsSound tables.new }
+    ensures bound { IsBoundFor bound.new (allowance tables.new) }
+    ensures refused { IfErr result (TellsRefusal (refused tables.old room edit.now)) }
+{
+    kept.changes.reserve(1)?;
+    kept.undos.reserve(1)?;
+    let Edited { change, undo } = fitted(alloc, tables, bound, room, edit)?;
+    kept.changes.push_reserved(change);
+    changes::keep_undo(&mut kept.undos, undo);
+    Ok(())
+}
+
+// Makes the edits in turn, as long as none is refused, and keeps what takes those back that it made.
+fn keep_in_turn(
+    alloc: Global,
+    tables: &mut Tables,
+    bound: &mut usize,
+    room: u32,
+    edits: &[Edit],
+    kept: &mut EditedAll,
+) -> Result<(), BatchError>
+    requires sound { IsSound tables.old }
+    requires bound { IsBoundFor bound.old (allowance tables.old) }
+    requires written { AllByRecursion IsWritten edits.now }
+    requires few { length edits.now < 2 ^ 32 }
+    requires room { room < 2 ^ 32 - 1 }
+    requires none { kept.old.changes.items ≡ [] }
+    ensures made { OnOk result (edited_in_turn tables.old room edits.now ≡ Ok tables.new) }
+    ensures places { OnOk result (Differ kept.new.changes.items tables.old tables.new) }
+    ensures back { undone_all kept.new.undos.items tables.new ≡ undone_all kept.old.undos.items tables.old }
+    ensures sound { IsSound tables.new }
+    ensures bound { IsBoundFor bound.new (allowance tables.new) }
+    ensures refused { IfErr result (TellsFirstRefused (edited_in_turn tables.old room edits.now)) }
+{
+    for (place, edit) in edits.iter().enumerate() {
+        match keep(alloc, tables, bound, room, edit, kept) {
+            Ok(()) => {}
+            Err(EditError::Refused(refusal)) => {
+                let place = place as u32;
+                return Err(BatchError::Refused { place, refusal });
+            }
+            Err(EditError::Memory) => return Err(BatchError::Memory),
+        }
+    }
+    Ok(())
+}
+
+/// Makes the edits in turn where the tables stand, unless one is refused, and says what they changed and what takes them back.
+pub fn changed_in_turn(
+    alloc: Global,
+    tables: &mut Tables,
+    bound: &mut usize,
+    room: u32,
+    edits: &[Edit],
+) -> Result<EditedAll, BatchError>
+    requires sound { IsSound tables.old }
+    requires bound { IsBoundFor bound.old (allowance tables.old) }
+    requires written { AllByRecursion IsWritten edits.now }
+    requires few { length edits.now < 2 ^ 32 }
+    requires room { room < 2 ^ 32 - 1 }
+    ensures made { OnOk result (edited_in_turn tables.old room edits.now ≡ Ok tables.new) }
+    ensures places { IfOk result (λ x. Differ x.changes.items tables.old tables.new) }
+    ensures back { IfOk result (λ x. undone_all x.undos.items tables.new ≡ tables.old) }
+    ensures sound { IsSound tables.new }
+    ensures bound { IsBoundFor bound.new (allowance tables.new) }
+    ensures refused { IfErr result (TellsFirstRefused (edited_in_turn tables.old room edits.now)) }
+    ensures err { OnErr result (tables.new ≡ tables.old) }
+{
+    let mut kept = EditedAll {
+        changes: Vec::new(alloc),
+        undos: Vec::new(alloc),
+    };
+    match keep_in_turn(alloc, tables, bound, room, edits, &mut kept) {
+        Ok(()) => Ok(kept),
+        Err(error) => {
+            let EditedAll { undos, .. } = kept;
+            changes::take_all_back(alloc, tables, undos);
+            *bound = usize::MAX;
+            Err(error)
+        }
+    }
 }

@@ -14,7 +14,7 @@ mod undo;
 
 pub use config::Config;
 pub use errors::{BatchError, EditError};
-pub use undo::{Edited, Undo};
+pub use undo::{Edited, EditedAll, Undo};
 
 #[cfg(test)]
 mod tests;

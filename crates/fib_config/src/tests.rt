@@ -78,3 +78,20 @@ fn an_edit_is_taken_back(rt: HostRuntime) -> Result<(), Fail> {
     assert_eq!(rt; config.tables().interfaces.len(), 0);
     Ok(())
 }
+
+#[test]
+fn a_batch_is_taken_back(rt: HostRuntime) -> Result<(), Fail> {
+    let alloc = rt.alloc();
+    let mut config = Config::new(alloc, 32)?;
+    let edits = [edit_of(alloc, 0)?, edit_of(alloc, 2)?, edit_of(alloc, 4)?];
+    let EditedAll { changes, undos } = config.change_all(&edits)?;
+    assert_eq!(rt; config.tables().addresses.len(), 1);
+    assert_eq!(rt; changes.len(), 3);
+    assert_eq!(rt; undos.len(), 2);
+    config.undo_all(undos);
+    assert_eq!(rt; config.tables().interfaces.len(), 0);
+    let twice = [edit_of(alloc, 0)?, edit_of(alloc, 0)?];
+    assert!(rt; config.change_all(&twice).is_err());
+    assert_eq!(rt; config.tables().interfaces.len(), 0);
+    Ok(())
+}

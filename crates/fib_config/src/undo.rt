@@ -25,3 +25,10 @@ pub struct Edited {
     pub change: Change,
     pub undo: Undo,
 }
+
+/// Edits that were made one after the other: the places that they changed, and what takes each back, in the order of the edits.
+#[derive(Drop)]
+pub struct EditedAll {
+    pub changes: Vec<Change>,
+    pub undos: Vec<Undo>,
+}

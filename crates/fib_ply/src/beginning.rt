@@ -1,5 +1,5 @@
 // The root's first cells.
-ghost use Rattle.std.specs.Prelude.{◌≡◌};
+ghost use Rattle.std.specs.Prelude.{◌≡◌, ◌≤◌};
 ghost use Rattle.fib_joined.specs.Frames.{Beside};
 ghost use Rattle.fib_ply.specs.inner.Blank.{IsBlank};
 
@@ -11,6 +11,7 @@ use fib_joined::Objects;
 pub fn begin<P: Objects>(on: &mut P, object: u32)
     requires blank { IsBlank (P.promise on.old) (P.view on.old) object 0 }
     ensures begun { IsBlank (P.promise on.new) (P.view on.new) object 16 }
+    ensures free { (P.view on.old).free ≤ (P.view on.new).free }
     ensures promise { P.promise on.new ≡ P.promise on.old }
     ensures beside { Beside (P.view on.old) (P.view on.new) }
 {

@@ -84,6 +84,7 @@ impl PrefixTable {
         requires room { 0 < self.old.rows.spare }
         ensures object { object_in self.new ≡ added (λ e. None) everything object }
         ensures plies { self.new.plies ≡ 1 }
+        ensures free { (P.view on.old).free ≤ (P.view on.new).free }
         ensures room { self.old.rows.spare ≤ self.new.rows.spare + 1 }
         ensures stands { Stands (P.promise on.new) self.new (P.view on.new) }
         ensures leads { LeadsAll self.new (P.view on.new) }

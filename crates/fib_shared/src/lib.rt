@@ -4,6 +4,7 @@
 #![tactic(auto)]
 
 pub mod calls;
+mod crew;
 pub mod laws;
 mod passes;
 mod shared;

@@ -25,12 +25,13 @@ pub put-requires-clause-calm : goal.put-requires-clause-calm
 put-requires-clause-calm g c = blank_calm (g.P.Objects.promise c.loop-slot.on) (g.P.Objects.view c.loop-slot.on) c.args.object c.loop-slot.slot c.loop-slot.invariant.blank
 
 pub loop-slot-init : goal.loop-slot-init
-loop-slot-init g c = record { blank = c.requires.blank; promise = refl; beside = beside_none _ }
+loop-slot-init g c = record { blank = c.requires.blank; promise = refl; free = omega arith; beside = beside_none _ }
 
 pub loop-slot-preserved : goal.loop-slot-preserved
 loop-slot-preserved g c = record {
   blank = subst (λ (p : Promise). IsBlank p (g.P.Objects.view c.put.new.on) c.args.object (c.loop-slot.slot + 1)) (sym c.put.ensures.promise)
       (blank_on (g.P.Objects.promise c.loop-slot.on) (g.P.Objects.view c.loop-slot.on) c.args.object c.loop-slot.slot c.loop-slot.invariant.blank (g.P.Objects.view c.put.new.on) c.loop-slot-test.true c.put.ensures.put c.put.ensures.beside);
   promise = c.put.ensures.promise ∙ c.loop-slot.invariant.promise;
+  free = (let i = c.loop-slot.invariant.free in let f = c.put.ensures.put.free in omega (arith, i, f));
   beside = beside_then _ _ _ c.loop-slot.invariant.beside c.put.ensures.beside;
 }

@@ -1,4 +1,4 @@
-use Rattle.std.proofs.Common.{◌≡◌}
+use Rattle.std.proofs.Common.{◌≡◌, ◌≤◌}
 use Rattle.fib_joined.specs.Frames.{Beside}
 use Rattle.fib_ply.specs.inner.Blank.{IsBlank}
 use Rattle.fib_ply.proofs.beginning.begin.Given as goal
@@ -7,5 +7,6 @@ abbrev pub invariant-loop-slot : goal.invariant-loop-slot
 invariant-loop-slot g l = record {
   blank : IsBlank (g.P.Objects.promise l.on) (g.P.Objects.view l.on) l.object l.slot;
   promise : g.P.Objects.promise l.on ≡ g.P.Objects.promise l.initial.on;
+  free : (g.P.Objects.view l.initial.on).free ≤ (g.P.Objects.view l.on).free;
   beside : Beside (g.P.Objects.view l.initial.on) (g.P.Objects.view l.on);
 }

@@ -1,5 +1,5 @@
 use Rattle.fib_config.proofs.Made.{made_refused}
-use Rattle.fib_config.proofs.edits.made.Goals as goal
+use Rattle.fib_config.proofs.edits.fitted.Goals as goal
 
 pub returns-in-Err-Refused-clause-refused : goal.returns-in-Err-Refused-clause-refused
 returns-in-Err-Refused-clause-refused c =
