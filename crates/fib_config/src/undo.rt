@@ -26,7 +26,7 @@ pub struct Edited {
     pub undo: Undo,
 }
 
-/// Edits that were made one after the other: the places that they changed, and what takes each back, in the order of the edits.
+/// Edits that were made one after the other: the places that they changed, in their order, and what takes them back, the last one first.
 #[derive(Drop)]
 pub struct EditedAll {
     pub changes: Vec<Change>,
