@@ -4,6 +4,7 @@
 //! carries proofs.
 #![tactic(auto)]
 
+mod batches;
 mod beginning;
 mod control;
 mod errors;
@@ -12,7 +13,7 @@ mod passes;
 mod queueing;
 
 pub use control::Control;
-pub use errors::{ApplyError, Busy};
+pub use errors::{ApplyError, BatchApplyError, Busy};
 
 #[cfg(test)]
 mod tests;
