@@ -231,7 +231,8 @@ impl<B: Board> Control<B> {
             Ok(()) => {
                 self.shared.begin_version(self.config.tables());
                 self.done.clear();
-                Ok(self.shared.version().applied)
+                let version = self.shared.version();
+                Ok(version.applied)
             }
             Err(error) => Err(error),
         }

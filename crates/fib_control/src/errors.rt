@@ -22,7 +22,10 @@ pub enum ApplyError {
 #[derive(Clone, Copy, Debug, PartialEq, Eq)]
 pub enum BatchApplyError {
     /// The edit at that place, counted from 0, is the first that is refused on the tables that those before it give.
-    Refused { place: u32, refusal: Refusal },
+    Refused {
+        place: u32,
+        refusal: Refusal,
+    },
     /// None is refused, but fewer objects are free than the tables after all of them take.
     Crowded {
         /// How many objects are free.
