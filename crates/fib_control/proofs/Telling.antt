@@ -2,7 +2,7 @@
 use Rattle.std.proofs.Common.{◌≡◌, List, ◌∷◌, [], ℕ, ◌+◌, ◌<◌, ◌≤◌, ap, ◌∙◌, subst, sym, refl, arith}
 use Rattle.std.specs.Prelude.{Option, Some, None, Result, Ok, Err}
 use Rattle.fib_resolve.specs.Edits.{edited}
-use Rattle.fib_resolve.specs.Refusals.{FirstRefused, edited_from, first_reason, reasons, refused, unless_refused}
+use Rattle.fib_resolve.specs.Refusals.{FirstRefused, edited_from, edited_in_turn, first_reason, reasons, refused, unless_refused}
 use Rattle.fib_resolve.specs.Sizes.{size}
 use Rattle.fib_resolve.specs.declared.types.Edit.{Edit}
 use Rattle.fib_resolve.specs.declared.types.Refusal.{Refusal}
@@ -57,6 +57,15 @@ turns_fit (e ∷ es) i room S T fits is = by (refused S room e) refl
     by : (o : Option Refusal) → refused S room e ≡ o → size T ≤ room
     by None none = turns_fit es (i + 1) room (edited S e) T (fits_room S room e none) (sym (ap (λ o. unless_refused o i (edited_from (i + 1) (edited S e) room es)) none) ∙ is)
     by (Some r) why = absurd (let bad : the_err i r ≡ the_ok T = sym (ap (λ o. unless_refused o i (edited_from (i + 1) (edited S e) room es)) why) ∙ is in cc)
+
+pub batch_crowded : (S T : Tables) (l : Limits) (es : List Edit) (free wanted : ℕ) → edited_in_turn S l.room es ≡ Ok T → IsTooMuch l (size T) (errors.Crowded free wanted)
+    → TellsBatch S l es (batch_errors.Crowded free wanted)
+batch_crowded S T l es free wanted made h =
+    let f = h.1 in
+    let w = h.2 in
+    let lt = h.3 in
+    let less : free < wanted = omega (arith, f, w, lt) in
+    (T, made, f, w, less)
 
 -- edits none of which is refused want objects or memory alone
 pub wants_more : (T : Tables) (l : Limits) (x : ApplyError) → size T ≤ l.room → IsTooMuch l (size T) x → WantsMore x
