@@ -21,10 +21,10 @@ use Rattle.fib_control.specs.declared.errors.BatchApplyError.{BatchApplyError}
 use Rattle.fib_control.specs.declared.errors.BatchApplyError.TheVariants as batch_errors
 use Rattle.fib_control.specs.declared.following.Limits.{Limits}
 
-the_ok : Tables → Result Tables FirstRefused
+abbrev the_ok : Tables → Result Tables FirstRefused
 the_ok S = Ok S
 
-the_err : ℕ → Refusal → Result Tables FirstRefused
+abbrev the_err : ℕ → Refusal → Result Tables FirstRefused
 the_err i r = Err (record { place = i; refusal = r })
 
 pub tells_too_much : (S T : Tables) (l : Limits) (e : Edit) (x : ApplyError) → T ≡ edited S e → first_reason (reasons S e) ≡ None → IsTooMuch l (size T) x → TellsEdit S l e x
@@ -48,15 +48,17 @@ not_crowded S l e (errors.Refused r) h never = tt
 not_crowded S l e (errors.Crowded free wanted) h never = never wanted (let f = fits_room S l.room e h.0 in let w = h.2 in omega (arith, f, w)) (let a = h.1 in let b = h.3 in omega (arith, a, b))
 not_crowded S l e errors.Memory h never = tt
 
+next_fits : (o : Option Refusal) (i room : ℕ) (S T : Tables) (e : Edit) (more : Result Tables FirstRefused) → refused S room e ≡ o
+    → (more ≡ the_ok T → size (edited S e) ≤ room → size T ≤ room) → unless_refused o i more ≡ the_ok T → size T ≤ room
+next_fits None i room S T e more none later is = later is (fits_room S room e none)
+next_fits (Some r) i room S T e more why later is = absurd (let bad : the_err i r ≡ the_ok T = is in cc)
+
 -- so do the tables after edits in turn of which none is refused
 pub turns_fit : (es : List Edit) (i room : ℕ) (S T : Tables) → size S ≤ room → edited_from i S room es ≡ Ok T → size T ≤ room
 unfolding edited_from
 turns_fit [] i room S T fits is = subst (λ (V : Tables). size V ≤ room) (let same : the_ok S ≡ the_ok T = is in cc) fits
-turns_fit (e ∷ es) i room S T fits is = by (refused S room e) refl
-  where
-    by : (o : Option Refusal) → refused S room e ≡ o → size T ≤ room
-    by None none = turns_fit es (i + 1) room (edited S e) T (fits_room S room e none) (sym (ap (λ o. unless_refused o i (edited_from (i + 1) (edited S e) room es)) none) ∙ is)
-    by (Some r) why = absurd (let bad : the_err i r ≡ the_ok T = sym (ap (λ o. unless_refused o i (edited_from (i + 1) (edited S e) room es)) why) ∙ is in cc)
+turns_fit (e ∷ es) i room S T fits is =
+    next_fits (refused S room e) i room S T e (edited_from (i + 1) (edited S e) room es) refl (λ made below. turns_fit es (i + 1) room (edited S e) T below made) is
 
 pub batch_crowded : (S T : Tables) (l : Limits) (es : List Edit) (free wanted : ℕ) → edited_in_turn S l.room es ≡ Ok T → IsTooMuch l (size T) (errors.Crowded free wanted)
     → TellsBatch S l es (batch_errors.Crowded free wanted)

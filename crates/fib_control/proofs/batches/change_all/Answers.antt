@@ -1,6 +1,7 @@
-use Rattle.std.proofs.Common.{◌≡◌, ℕ, ap, ◌∙◌, subst, sym}
-use Rattle.std.specs.Prelude.{Ok}
+use Rattle.std.proofs.Common.{ℕ, List, ap, ◌∙◌, subst, sym}
 use Rattle.fib_resolve.specs.Refusals.{edited_in_turn}
+use Rattle.fib_changes.specs.Differ.{Differ}
+use Rattle.fib_changes.specs.declared.change.Change.{Change}
 use Rattle.fib_config.specs.Config.{TellsFirstRefused}
 use Rattle.fib_control.proofs.Telling.{turns_fit, wants_more}
 use Rattle.fib_control.proofs.batches.change_all.Goals as goal
@@ -12,13 +13,17 @@ returns-in-Err-clause-why c =
     (subst (λ (r : ℕ). TellsFirstRefused (edited_in_turn S r c.args.edits.now) c.in-Err.error) (sym c.requires.same) c.in-Err.ensures.refused)
 
 pub follow_all-requires-clause-before : goal.follow_all-requires-clause-before
-follow_all-requires-clause-before c = (c.args.config.now.tables, c.requires.stands, c.in-Ok.ensures.places, c.requires.fits)
+follow_all-requires-clause-before c =
+    let S = c.args.config.now.tables in
+    (S, c.requires.stands, subst (λ (list : List Change). Differ list S c.change_all.new.self.tables) (sym c.as_slice.ensures.value) c.in-Ok.ensures.places, c.requires.fits)
 
 pub returns-in-Ok-follow_all-clause-made : goal.returns-in-Ok-follow_all-clause-made
 returns-in-Ok-follow_all-clause-made c = ap (λ (r : ℕ). edited_in_turn c.args.config.now.tables r c.args.edits.now) c.requires.same ∙ c.in-Ok.ensures.made
 
 pub returns-in-Ok-follow_all-clause-queued : goal.returns-in-Ok-follow_all-clause-queued
-returns-in-Ok-follow_all-clause-queued c = c.in-Ok-follow_all.ensures.queued c.args.config.now.tables c.requires.stands c.in-Ok.ensures.places
+returns-in-Ok-follow_all-clause-queued c =
+    let S = c.args.config.now.tables in
+    c.in-Ok-follow_all.ensures.queued S c.requires.stands (subst (λ (list : List Change). Differ list S c.change_all.new.self.tables) (sym c.as_slice.ensures.value) c.in-Ok.ensures.places)
 
 -- the tables after the last edit fit the room, as each of the others did
 pub crowded_of-requires : goal.crowded_of-requires
@@ -26,8 +31,3 @@ crowded_of-requires c =
     let T = c.change_all.new.self.tables in
     let made = ap (λ (r : ℕ). edited_in_turn c.args.config.now.tables r c.args.edits.now) c.requires.same ∙ c.in-Ok.ensures.made in
     wants_more T c.args.limits c.in-Err-follow_all.error (turns_fit c.args.edits.now 0 c.args.limits.room c.args.config.now.tables T c.requires.fits made) c.in-Err-follow_all.ensures.why
-
-pub returns-in-Err-follow_all-clause-why : goal.returns-in-Err-follow_all-clause-why
-returns-in-Err-follow_all-clause-why c =
-    let made = ap (λ (r : ℕ). edited_in_turn c.args.config.now.tables r c.args.edits.now) c.requires.same ∙ c.in-Ok.ensures.made in
-    c.crowded_of.ensures c.args.config.now.tables c.change_all.new.self.tables c.args.limits c.args.edits.now made c.in-Err-follow_all.ensures.why
