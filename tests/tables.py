@@ -18,7 +18,8 @@ the crate's data are kept, and their answers are made anew by the oracle.
 
 A line of the crate's `args` is the words of one run, joined by colons. A run of the words `follow` and a file has entries follow the
 file's edits, and prints nothing where they are what the plain programs say after each; every generated table and short worked file
-is followed so, and further generated command files.
+is followed so, and further generated command files. A run of `drive` and a file drives a control over a plain board by the same
+edits, the long files' too.
 """
 import pathlib
 import random
@@ -171,7 +172,7 @@ def rounds(oracle, crate):
 
 
 def expected(oracle, crate, words):
-    if words.startswith("follow:"):
+    if words.startswith(("follow:", "drive:")):
         return b""
     names = [word for word in words.split(":") if not word.startswith("--")]
     options = [word for word in words.split(":") if word.startswith("--objects")]
@@ -187,7 +188,7 @@ def main():
     oracle = sys.argv[1]
     sys.path.insert(0, str(pathlib.Path(oracle).resolve().parent))
     crate = pathlib.Path(sys.argv[2] if len(sys.argv) > 2 else "crates/fib_cases")
-    runs = [words for words in (crate / "args").read_text().split() if not re.match(r"table_|follow:|--workers=\d:rounds_", words)]
+    runs = [words for words in (crate / "args").read_text().split() if not re.match(r"table_|follow:|drive:|--workers=\d:rounds_", words)]
     for name, lines in worked().items():
         (crate / "data" / name).write_text("\n".join(lines) + "\n")
         runs += [] if name in runs else [name]
@@ -198,7 +199,9 @@ def main():
             runs.append(name)
     files = [words for words in runs if is_short(crate, words)]
     runs += rounds(oracle, crate)
-    runs += [f"follow:{name}" for name in files + followed(oracle, crate)]
+    files += followed(oracle, crate)
+    runs += [f"follow:{name}" for name in files]
+    runs += [f"drive:{name}" for name in [*files, *(name for name in worked() if name not in files)]]
     (crate / "args").write_text("\n".join(runs) + "\n")
     (crate / "stdout").write_bytes(b"".join(expected(oracle, crate, words) for words in runs))
     print(f"{len(runs)} runs")

@@ -19,6 +19,7 @@ pub enum Part {
     Cover,
     Size,
     Touched,
+    Lookup,
 }
 
 // Whether the plain programs' pairs have that list from that source for the prefix.

@@ -87,7 +87,7 @@ fn follow_edit(
 }
 
 // The edit of a line, where it is one.
-fn edit_of(alloc: Global, text: &[u8]) -> Result<Option<Edit>, AllocError>
+pub fn edit_of(alloc: Global, text: &[u8]) -> Result<Option<Edit>, AllocError>
     ensures { IfOk result (λ found. IfSome found IsWritten) }
 {
     match read_line(alloc, text) {

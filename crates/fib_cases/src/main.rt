@@ -4,14 +4,18 @@
 //! shares nothing with this repository (`tests/tables.py` writes the generated ones).
 //!
 //! A run of the words `follow` and a file follows the file's edits with entries, and compares them with the plain
-//! programs after each; it prints nothing, and ends with 9 where they differ.
+//! programs after each; a run of `drive` and a file drives a control over a plain board by them, and compares what it
+//! looks up. Both print nothing, and end with 9 where something differs.
 #![tactic(auto)]
 
 mod compared;
+mod driven;
 mod followed;
 
 use fib_outside::{FileShelf, FreeGate, StandardOut};
 use fib_run::fib_main;
+use driven::drive_script;
+use fib_commands::ScriptError;
 use followed::{Difference, follow_script};
 use std::alloc::{AllocError, Global};
 use std::io::Print;
@@ -24,7 +28,7 @@ use std::{env, fs};
 /// The status where memory or a file is wanted.
 const MEMORY: u8 = 6;
 
-/// The status where entries that followed a script are others than the plain programs say.
+/// The status where what a script's edits led to is another than the plain programs say.
 const DIFFERENT: u8 = 9;
 
 // The words after the program's name, or None where they cannot be had.
@@ -46,7 +50,7 @@ fn words_of(alloc: Global, run: &str) -> Result<Vec<String>, AllocError> {
     Ok(words)
 }
 
-// Prints where the entries differ.
+// Prints where something differs.
 fn tell<R: Print>(rt: &R, name: &str, found: Difference) -> u8 {
     match println!(rt; "{name} line {}: {:?}", found.line, found.part) {
         Ok(()) => DIFFERENT,
@@ -54,12 +58,33 @@ fn tell<R: Print>(rt: &R, name: &str, found: Difference) -> u8 {
     }
 }
 
+/// What a file's edits are followed by.
+#[derive(Clone, Copy)]
+enum Follower {
+    /// Entries, after each edit.
+    Entries,
+    /// A control over a plain board.
+    Control,
+}
+
+// The first difference; None where there is none.
+fn compare(
+    alloc: Global,
+    follower: Follower,
+    bytes: &[u8],
+) -> Result<Option<Difference>, ScriptError> {
+    match follower {
+        Follower::Entries => follow_script(alloc, bytes),
+        Follower::Control => drive_script(alloc, bytes),
+    }
+}
+
 // The status of a run that follows the edits of a file.
-fn follow<R: Files + Print + Alloc<A = Global>>(rt: &R, name: &str) -> u8 {
+fn follow<R: Files + Print + Alloc<A = Global>>(rt: &R, follower: Follower, name: &str) -> u8 {
     let Ok(bytes) = fs::read(rt, name) else {
         return MEMORY;
     };
-    match follow_script(rt.alloc(), bytes.as_slice()) {
+    match compare(rt.alloc(), follower, bytes.as_slice()) {
         Ok(None) => 0,
         Ok(Some(found)) => tell(rt, name, found),
         Err(_) => MEMORY,
@@ -76,10 +101,11 @@ fn run<R: Files + Print + Threads + Wait + Sync + Alloc<A = Global>>(
     fib_main(rt, rt.alloc(), words, &mut shelf, &mut out, &FreeGate)
 }
 
-// The file whose edits a run follows, where it does.
-fn followed_file(words: &[String]) -> Option<&str> {
+// The file whose edits a run follows, and by what, where it does.
+fn followed_file(words: &[String]) -> Option<(Follower, &str)> {
     match words {
-        [first, name] if first.as_str() == "follow" => Some(name.as_str()),
+        [first, name] if first.as_str() == "follow" => Some((Follower::Entries, name.as_str())),
+        [first, name] if first.as_str() == "drive" => Some((Follower::Control, name.as_str())),
         _ => None,
     }
 }
@@ -90,7 +116,7 @@ fn status_of<R: Files + Print + Threads + Wait + Sync + Alloc<A = Global>>(
     words: &[String],
 ) -> u8 {
     match followed_file(words) {
-        Some(name) => follow(rt, name),
+        Some((follower, name)) => follow(rt, follower, name),
         None => run(rt, words),
     }
 }

@@ -1,7 +1,9 @@
 -- How a control begins.
-use Rattle.std.proofs.Common.{inl, inr, zero, suc, ◌≡◌, ℕ, ◌+◌, ◌-◌, ◌*◌, ◌/◌, ◌^◌, ◌<◌, ◌≤◌, Bool, true, false, true≢false, List, [], ◌∷◌, length, map, refl, sym, ap, ap₂, ◌∙◌, subst, arith}
-use Rattle.std.specs.Prelude.{Contains, Some, None, slice_get}
+use Rattle.std.proofs.Common.{inl, inr, zero, suc, ◌≡◌, ℕ, ◌+◌, ◌-◌, ◌*◌, ◌/◌, ◌^◌, ◌<◌, ◌≤◌, Bool, true, false, true≢false, cond, List, [], ◌∷◌, length, map, refl, sym, ap, ap₂, ◌∙◌, subst, arith}
+use Rattle.std.specs.Prelude.{Contains, Option, Some, None, count_by, replicate, slice_get}
 use Rattle.std.proofs.lemmas.Map.Made.{is_member-Decides}
+use Rattle.std.proofs.lemmas.List.Folds.{sum_by-replicate}
+use Rattle.fib_list.proofs.Booleans.{count_by-cons}
 use Rattle.fib_list.proofs.Lists.{either}
 use Rattle.fib_addr.specs.Longest.{everything}
 use Rattle.fib_addr.specs.Prefixes.{Prefix, same_prefix}
@@ -22,6 +24,10 @@ use Rattle.fib_ledger.specs.Ledgers.{known_of, total}
 use Rattle.fib_ledger.specs.declared.late.Late.{Late}
 use Rattle.fib_ledger.specs.declared.ledger.Known.{Known as KnownOf}
 use Rattle.fib_queue.specs.declared.order.Queued.{Queued}
+use Rattle.fib_pool.specs.Objects as pool
+use Rattle.fib_pool.specs.Objects.{free_in}
+use Rattle.fib_pool.specs.declared.object.Kind.TheVariants as kinds
+use Rattle.fib_pool.specs.declared.object.Object.{Object}
 use Rattle.fib_ply.specs.declared.rows.Row.{Row}
 use Rattle.fib_plane.specs.Planes.{Plane}
 use Rattle.fib_joined.specs.Promise.{Promise}
@@ -105,6 +111,18 @@ module _ (b : Board) (q : Plane) (new : IsFresh b) (same : promise_of q.board �
 
   pub fresh_objects : q.board.objects ≡ b.objects
   fresh_objects = ap (λ (p : Promise). p.rest.objects) same
+
+-- all objects are free but the root's
+none_free : (m : ℕ) → count_by pool.is_free (replicate m None) ≡ m
+none_free m = (let h = sum_by-replicate (λ (x : Option Object). cond (pool.is_free x) 1 0) m None in omega (arith, h))
+
+free_fresh : (n : ℕ) → 0 < n → free_in (pool.fresh_objects n) + 1 ≡ n
+unfolding free_in
+free_fresh zero some = absurd (omega (arith, some))
+free_fresh (suc m) some = (let h = none_free m in let c = count_by-cons pool.is_free (pool.as_new kinds.Ply) (replicate m None) in omega (arith, h, c))
+
+pub fresh_free : (objects : List (Option Object)) (n : ℕ) → objects ≡ pool.fresh_objects n → 0 < n → free_in objects + 1 ≡ n
+fresh_free objects n is some = ap (λ (xs : List (Option Object)). free_in xs + 1) is ∙ free_fresh n some
 
 -- so it stands
 pub born : (b : Board) (new : IsFresh b) (s : Setup) (v : Known) (q : Plane) (t : Table) (u : View) (left : ℕ)

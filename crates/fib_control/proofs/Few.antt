@@ -1,15 +1,17 @@
 -- How much a change can touch and move: each of it was an entry before, or is one after.
-use Rattle.std.proofs.Common.{inl, inr, ⊎_elim, ◌≡◌, ℕ, ◌+◌, ◌*◌, ◌<◌, ◌≤◌, Bool, List, [], ◌∷◌, ◌++◌, length, map, refl, sym, ap, ◌∙◌, subst, arith}
+use Rattle.std.proofs.Common.{inl, inr, ⊎_elim, ◌≡◌, ℕ, zero, suc, ◌+◌, ◌*◌, ◌<◌, ◌≤◌, Bool, List, [], ◌∷◌, ◌++◌, length, map, take, refl, sym, ap, ◌∙◌, subst, arith}
 use Rattle.std.specs.Prelude.{Contains, Option, Some, None, ◌⊎◌}
 use Rattle.std.specs.List.{AllByRecursion}
 use Rattle.std.proofs.lemmas.List.{length-append, length-map}
 use Rattle.std.proofs.lemmas.List.Elements.{Contains-append_left, Contains-append_right}
 use Rattle.fib_list.proofs.Lists.{each-weaker}
+use Rattle.fib_addr.specs.Longest.{everything}
 use Rattle.fib_addr.specs.Prefixes.{Prefix}
 use Rattle.fib_reach.specs.Walks.{AllDiffer}
 use Rattle.fib_reach.proofs.Places.{length-le_from_differ}
-use Rattle.fib_resolve.specs.Pairs.{entries}
+use Rattle.fib_resolve.specs.Pairs.{all_pairs, base_pairs, entries, pairs}
 use Rattle.fib_resolve.specs.Sizes.{size}
+use Rattle.fib_resolve.specs.Tables.{fresh}
 use Rattle.fib_resolve.specs.declared.types.Tables.{Tables}
 use Rattle.fib_resolve.proofs.OneList.{each-itself}
 use Rattle.fib_resolve.proofs.TouchedEntries.{touched_effective}
@@ -19,6 +21,7 @@ use Rattle.fib_entries.specs.Changes.{AreMoved, AreTouched, prefix_moved}
 use Rattle.fib_entries.specs.declared.changes.Moved.{Moved}
 use Rattle.fib_entries.specs.declared.rows.Row.{Row}
 use Rattle.fib_entries.proofs.Standing.{row_there}
+use Rattle.fib_entries.proofs.Touches.{ascending_differ}
 
 entries_few : (S : Tables) → length (entries S) ≤ size S
 unfolding size
@@ -68,3 +71,27 @@ moved_few v w S T most ms s t before after are =
         let real = are.real m.0 m.1 in
         subst (λ (x : Prefix). Contains (entries S) x ⊎ Contains (entries T) x) m.2
         (moved_entry v w S T m.0.prefix before after (λ same. real.1 (same ∙ sym real.0)))
+
+-- the fresh tables have five entries
+fresh_few : length (entries fresh) ≤ 5
+unfolding entries pairs all_pairs base_pairs
+fresh_few = omega arith
+
+first_few : (v : Known) → StandsFor v fresh → length (map prefix_of v.rows) ≤ 5
+first_few v stands =
+    let le = length-le_from_differ (map prefix_of v.rows) (entries fresh) (ascending_differ (map prefix_of v.rows) stands.ordered)
+    (each-weaker (Contains (map prefix_of v.rows)) (Contains (entries fresh)) (λ d c. (stands.entries d).0 c) (map prefix_of v.rows) (each-itself (map prefix_of v.rows))) in
+    let f = fresh_few in
+    omega (arith, le, f)
+
+take_few : (n : ℕ) (xs : List Prefix) → length (take n xs) ≤ length xs
+take_few zero xs = omega arith
+take_few (suc n) [] = omega arith
+take_few (suc n) (x ∷ xs) = let h = take_few n xs in omega (arith, h)
+
+-- so many are named before the last of them
+pub few_named : (v : Known) (n : ℕ) → StandsFor v fresh → length (everything ∷ take n (map prefix_of v.rows)) < 7
+few_named v n stands =
+    let a = first_few v stands in
+    let b = take_few n (map prefix_of v.rows) in
+    omega (arith, a, b)

@@ -3,11 +3,14 @@ use Rattle.std.proofs.Common.{inl, inr, ⊎_elim, ◌≡◌, ◌⊎◌, ℕ, zer
 use Rattle.std.specs.Prelude.{Contains, Option, Some, None, slice_get}
 use Rattle.fib_addr.specs.Prefixes.{Prefix}
 use Rattle.fib_lawful.proofs.Histories.{get_last}
+use Rattle.fib_resolve.specs.Resolution.{resolve}
 use Rattle.fib_resolve.specs.Sizes.{size}
 use Rattle.fib_resolve.specs.Tables.{IsSound, fresh}
 use Rattle.fib_resolve.specs.Touched.{is_touched}
 use Rattle.fib_resolve.specs.declared.types.Tables.{Tables}
 use Rattle.fib_core.specs.StandsFor.{Stands}
+use Rattle.fib_core.specs.Walk.{IsFlow, walk}
+use Rattle.fib_core.specs.Trails.{Trail}
 use Rattle.fib_config.specs.Config.{Setup}
 use Rattle.fib_entries.specs.Known.{Known, StandsFor, rank_of}
 use Rattle.fib_pool.specs.Objects.{free_in}
@@ -27,7 +30,7 @@ use Rattle.fib_stack.proofs.Ordering.{begun_in_order}
 use Rattle.fib_stack.proofs.Rooming.{room_at_change}
 use Rattle.fib_quiet.specs.Rest.{IsAtRest, IsSeen}
 use Rattle.fib_quiet.proofs.Versions.{joined_begun, joined_first, joined_settled}
-use Rattle.fib_quiet.proofs.Planed.{stands_at_rest, used_at_rest}
+use Rattle.fib_quiet.proofs.Planed.{stands_at_rest, used_at_rest, walks_at_rest}
 use Rattle.fib_quiet.proofs.Workers.{same_versions}
 use Rattle.fib_control.specs.Controls.{Control, IsQuiet, is_queued, parts_in, promise_in, rank_by, state_now, tables_in, view_in}
 use Rattle.fib_control.specs.inner.Standing.{IsStanding}
@@ -101,6 +104,13 @@ module _ (c : Control) (i : IsStanding c) (t : Tells c) where
       let s = t.told.size in
       omega (arith, used, all, h, f, s, fits, few)
 
+  -- its walks are resolution, and as many are used as the size says
+  pub walks_quiet : IsQuiet c → (a h : ℕ) → IsFlow a h → walk c.plane.board.union.cells a h ≡ resolve (tables_in c) a h
+  walks_quiet q = walks_at_rest (tables_in c) (rank_by c) (promise_in c) c.plane (parts_in c) t.told t.seen (quiet_rests c i t.plane t.rows t.used q)
+
+  pub used_quiet : IsQuiet c → length c.plane.objects - free_in c.plane.objects ≡ size (tables_in c)
+  used_quiet q = used_at_rest (tables_in c) (rank_by c) (promise_in c) c.plane (parts_in c) t.told t.seen (quiet_rests c i t.plane t.rows t.used q)
+
   pub may_settle : IsQuiet c → MaySettle c.plane.board
   may_settle q = record {
     tables = tables_in c;
@@ -131,12 +141,12 @@ changed_like c T v queue s p ds setup plane none h =
     (subst (λ (x : Plane). IsStanding (record c { setup = record c.setup { tables = T }; entries = v; plane = x; queue = queue; done = ds })) (sym plane)
     (subst (λ (x : List Prefix). IsStanding (record c { setup = record c.setup { tables = T }; entries = v; plane = record c.plane { board = board_begun c.plane.board T }; queue = queue; done = x })) (sym none) h))
 
--- passes begin, hop and end: of the board only who is out, pass words and passes are other
-pub passed_standing : (c : Control) (out : List Bool) (rests : List ℕ) (passes : List (Option Pass)) → IsStanding c
-    → IsStanding (record c { plane = record c.plane { board = record c.plane.board { out = out; rests = rests; passes = passes } } })
-passed_standing c out rests passes i = record {
+-- passes begin, hop and end, and workers leave and come home: of the board only who is out, pass words, passes, trails and claims are other
+pub passed_standing : (c : Control) (out : List Bool) (rests : List ℕ) (passes : List (Option Pass)) (trails : List Trail) (gathered : List ℕ) → IsStanding c
+    → IsStanding (record c { plane = record c.plane { board = record c.plane.board { out = out; rests = rests; passes = passes; trails = trails; gathered = gathered } } })
+passed_standing c out rests passes trails gathered i = record {
   stands = i.stands;
-  joined = same_versions (tables_in c) (rank_by c) (promise_in c) (promise_of (record c.plane.board { out = out; rests = rests; passes = passes })) (view_in c) (parts_in c) i.joined refl refl refl;
+  joined = same_versions (tables_in c) (rank_by c) (promise_in c) (promise_of (record c.plane.board { out = out; rests = rests; passes = passes; trails = trails; gathered = gathered })) (view_in c) (parts_in c) i.joined refl refl refl;
   newest = i.newest;
   calm = i.calm;
   roomy = i.roomy;

@@ -8,3 +8,4 @@ pub mod Started
 pub mod Born
 pub mod Rests
 pub mod Walked
+pub mod Lookups

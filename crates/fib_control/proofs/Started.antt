@@ -1,7 +1,7 @@
 -- The first prefixes of a table.
 use native.Mathlib.Decide.{ℕ_discrete}
 use mathlib.Core.Logic.{dite}
-use Rattle.std.proofs.Common.{inl, inr, ⊎_elim, ◌⊎◌, ◌≡◌, ◌≢◌, ℕ, zero, suc, ◌+◌, ◌<◌, ◌≤◌, ◌||◌, Bool, true, false, true≢false, List, [], ◌∷◌, ◌++◌, length, map, take, refl, sym, ap, ◌∙◌, subst, arith}
+use Rattle.std.proofs.Common.{inl, inr, ⊎_elim, ◌⊎◌, ◌≡◌, ◌≢◌, ℕ, zero, suc, ◌+◌, ◌*◌, ◌<◌, ◌≤◌, ◌||◌, Bool, true, false, true≢false, List, [], ◌∷◌, ◌++◌, length, map, take, refl, sym, ap, ◌∙◌, subst, arith}
 use Rattle.std.specs.Prelude.{Option, Some, None, slice_get, if◌then◌else◌}
 use Rattle.std.specs.List.{list_any}
 use Rattle.std.proofs.lemmas.List.Folds.{list_any-append}
@@ -31,6 +31,14 @@ named_more named x e = list_any-append (λ y. same_prefix y e) named (x ∷ []) 
     or_none : (b : Bool) → b || false ≡ b
     or_none true = refl
     or_none false = refl
+
+-- room is no object
+pub same_free : (u v : View) → HasRoom u v → v.free ≡ u.free
+same_free u v room = ap (λ (w : View). w.free) room.same
+
+length_more : (named : List Prefix) (x : Prefix) → length (named ++ x ∷ []) ≡ suc (length named)
+length_more [] x = refl
+length_more (y ∷ ys) x = ap suc (length_more ys x)
 
 -- balances from before a prefix is added to after
 pub record Went (u v : View) (c : ℕ) : Type 0 where
@@ -68,7 +76,7 @@ went u0 u1 u2 u3 c t room beside = record {
     before x b = dite (ℕ_discrete x c) (λ is. inl is) (λ ne. let o = t.others x ne in inr (sym o.0 ∙ b.0, sym o.1 ∙ b.1))
 
 module _ (p q : Promise) (t s : Table) (u v : View) (named : List Prefix) (x : Prefix) (c : ℕ) (i : IsStarted p t u named) (same : q ≡ p) (stands : Stands q s v)
-    (is : object_in s ≡ added (object_in t) x c) (w : Went u v c) where
+    (is : object_in s ≡ added (object_in t) x c) (w : Went u v c) (plies : s.plies ≤ t.plies + 7) (free : u.free + t.plies ≤ v.free + s.plies + 1) where
   found : (e : Prefix) → object_in s e ≡ added (object_in t) x c e
   found e = ap (λ (f : Prefix → Option ℕ). f e) is
 
@@ -126,8 +134,13 @@ module _ (p q : Promise) (t s : Table) (u v : View) (named : List Prefix) (x : P
         (λ (a : IsBalance u o). let e = i.owned o a in (e.0, found e.0 ∙ not_x e.0 o e.1))
         (w.only o b);
     users = λ m. ap (λ (f : AdjacencyRecord → ℕ). f m) w.users ∙ i.users m;
+    few = one_longer (λ n. s.plies ≤ 7 * n) (let f = i.few in omega (arith, f, plies));
+    roomy = one_longer (λ n. 70 ≤ v.free + 8 * n) (let r = i.roomy in omega (arith, r, free, plies));
   }
     where
+      one_longer : (P : ℕ → Type 0) → P (suc (length named)) → P (length (named ++ x ∷ []))
+      one_longer P h = subst P (sym (length_more named x)) h
+
       not_x : (e : Prefix) (o : ℕ) → object_in t e ≡ Some o → (if same_prefix e x then Some c else object_in t e) ≡ Some o
       not_x e o at = by (same_prefix e x) refl
         where
@@ -145,6 +158,8 @@ started_same p t u named x i there = record {
   drops = i.drops;
   owned = i.owned;
   users = i.users;
+  few = subst (λ n. t.plies ≤ 7 * n) (sym (length_more named x)) (let f = i.few in omega (arith, f));
+  roomy = subst (λ n. 70 ≤ u.free + 8 * n) (sym (length_more named x)) (let r = i.roomy in omega (arith, r));
 }
   where
     or_none : (b : Bool) → b ≡ b || false
@@ -157,7 +172,7 @@ started_same p t u named x i there = record {
 
 -- the table with 0.0.0.0/0 alone
 module _ (p q : Promise) (s : Table) (u v : View) (c : ℕ) (bare : IsBare p u) (same : q ≡ p) (stands : Stands q s v)
-    (is : object_in s ≡ added (λ e. None) everything c) (w : Went u v c) (early : IsEarly p) where
+    (is : object_in s ≡ added (λ e. None) everything c) (w : Went u v c) (early : IsEarly p) (plies : s.plies ≡ 1) (free : 62 ≤ v.free) where
   first_at : (e : Prefix) (o : ℕ) → object_in s e ≡ Some o → (e ≡ everything) × (o ≡ c)
   first_at e o at = by (same_prefix e everything) refl
     where
@@ -187,6 +202,8 @@ module _ (p q : Promise) (s : Table) (u v : View) (c : ℕ) (bare : IsBare p u) 
         (λ (a : IsBalance u o). absurd (true≢false (sym a.0 ∙ bare.held o)))
         (w.only o b);
     users = λ m. ap (λ (f : AdjacencyRecord → ℕ). f m) w.users ∙ bare.users m;
+    few = omega (arith, plies);
+    roomy = omega (arith, free);
   }
 
 -- a loop over a list of prefixes has named one more

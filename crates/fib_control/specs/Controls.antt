@@ -24,7 +24,7 @@ use Rattle.fib_entries.specs.declared.rows.Row.{Row}
 use Rattle.fib_queue.specs.Queues.{rank_in}
 use Rattle.fib_joined.specs.Promise.{Promise}
 use Rattle.fib_joined.specs.View.{View}
-use Rattle.fib_shared.specs.Shares.{promise_of, view_of}
+use Rattle.fib_shared.specs.Shares.{but_words, promise_of, view_of}
 use Rattle.fib_stack.specs.Joined.{Parts, queued_in, state_in}
 use Rattle.fib_stack.specs.States.{State}
 use Rattle.fib_stack.specs.declared.turn.Turn.{Turn}
@@ -177,3 +177,7 @@ pub record IsSettled (c d : Control) : Type 0 where
 -- the same over another board
 abbrev pub with_board : Control → Board → Control
 with_board c b = record c { plane = record c.plane { board = b } }
+
+-- the board but for its words and for what is settled
+abbrev pub but_settled : Board → Board
+but_settled b = board_settled (but_words b)

@@ -1,3 +1,4 @@
 pub mod Standing
 pub mod Starting
 pub mod Rested
+pub mod Readable

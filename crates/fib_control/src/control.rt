@@ -8,7 +8,9 @@ ghost use Rattle.fib_resolve.specs.Edits.{edited};
 ghost use Rattle.fib_resolve.specs.Reachable.{IsWritten};
 ghost use Rattle.fib_resolve.specs.Refusals.{edited_in_turn, refused};
 ghost use Rattle.fib_resolve.specs.Sizes.{size};
-ghost use Rattle.fib_resolve.specs.Tables.{fresh};
+ghost use Rattle.fib_resolve.specs.Resolution.{resolve};
+ghost use Rattle.fib_resolve.specs.Tables.{IsSound, fresh};
+ghost use Rattle.fib_core.specs.Walk.{walk};
 ghost use Rattle.fib_board.specs.Boards.{IsFresh};
 ghost use Rattle.fib_pool.specs.Objects.{free_in};
 ghost use Rattle.fib_ply.specs.Rows.{held};
@@ -22,13 +24,14 @@ ghost use Rattle.fib_stack.specs.Room.{HasRoomLeft};
 ghost use Rattle.fib_stack.specs.Turns.{parts_of};
 ghost use Rattle.fib_stack.specs.Records.{SamePlane};
 ghost use Rattle.fib_stack.specs.Steps.{Retried};
-ghost use Rattle.fib_control.specs.Controls.{IsBatchNotCrowded, IsBeneath, IsBusy, IsChanged, IsDoneAfter, IsNotCrowded, IsQuiet, IsSettled, TellsApply, TellsApplyAll, noted, parts_in, promise_in, rank_by, state_now, tables_in, view_in};
+ghost use Rattle.fib_control.specs.Controls.{IsBatchNotCrowded, IsBeneath, IsBusy, IsChanged, IsDoneAfter, IsNotCrowded, IsQuiet, IsSettled, TellsApply, TellsApplyAll, but_settled, noted, parts_in, promise_in, rank_by, state_now, tables_in, view_in};
 
 use crate::batches::change_all;
 use crate::beginning::first_table;
 use crate::errors::{ApplyError, BatchApplyError, Busy};
 use crate::following::{Limits, change};
-use fib_addr::Prefix;
+use crate::looking::{is_flow, look_up};
+use fib_addr::{Addr, Prefix};
 use fib_board::Board;
 use fib_config::Config;
 use fib_core::Version;
@@ -36,10 +39,10 @@ use fib_entries::Entries;
 use fib_joined::Objects;
 use fib_ply::PrefixTable;
 use fib_queue::Queue;
-use fib_resolve::{Edit, Tables};
+use fib_resolve::{Edit, End, Tables};
 use fib_shared::Shared;
 use fib_stack::{Stack, Turn, Want};
-use std::alloc::Global;
+use std::alloc::{AllocError, Global};
 use std::marker::Model;
 
 /// Tables under change, and the shared words that stand for them: exactly, whenever nothing is queued, deferred or retired.
@@ -74,8 +77,8 @@ impl<B: Board> Model for Control<B> {
 
 impl<B: Board + Drop> Control<B> {
     /// Over a fresh board: the tables are those without interfaces and routes, in version (0, 0), for which the cells stand. The room is half of the
-    /// objects. `Want::Object` comes only where too few objects are free for those tables.
-    pub fn new(alloc: Global, board: B) -> Result<Control<B>, Want>
+    /// objects.
+    pub fn new(alloc: Global, board: B) -> Result<Control<B>, AllocError>
         requires { IsFresh (B.view board) }
         ensures setup { IfOk result (λ c. c.setup ≡ record { tables = fresh; room = (B.view board).objects / 2 }) }
         ensures rest { IfOk result (λ c. promise_in c ≡ promise_of (B.view board)) }
@@ -83,12 +86,9 @@ impl<B: Board + Drop> Control<B> {
     {
         board.tells();
         let room = board.objects() / 2;
-        let (Ok(config), Ok(entries)) = (Config::new(alloc, room), Entries::new(alloc)) else {
-            return Err(Want::Memory);
-        };
-        let Ok(mut shared) = Shared::new(alloc, board) else {
-            return Err(Want::Memory);
-        };
+        let config = Config::new(alloc, room)?;
+        let entries = Entries::new(alloc)?;
+        let mut shared = Shared::new(alloc, board)?;
         let table = first_table(alloc, &mut shared, &entries)?;
         shared.scan();
         Ok(Control {
@@ -106,9 +106,10 @@ impl<B: Board + Drop> Control<B> {
 }
 
 impl<B: Board> Control<B> {
-    /// The tables as they are.
+    /// The tables as they are. They are well formed.
     pub fn tables(&self) -> &Tables
-        ensures { result.now ≡ tables_in self.now }
+        ensures value { result.now ≡ tables_in self.now }
+        ensures sound { IsSound result.now }
     {
         self.config.tables()
     }
@@ -127,11 +128,28 @@ impl<B: Board> Control<B> {
         self.shared.version()
     }
 
-    /// How many objects aren't free.
+    /// How many objects aren't free. On a quiet control as many as the size of the tables says.
     pub fn used(&self) -> u32
-        ensures { result ≡ length self.now.plane.objects - free_in self.now.plane.objects }
+        ensures used { result ≡ length self.now.plane.objects - free_in self.now.plane.objects }
+        ensures quiet { IsQuiet self.now → result ≡ size (tables_in self.now) }
     {
+        self.shared.tells();
+        self.table.tells();
+        self.stack.tells();
         self.shared.used()
+    }
+
+    /// Where a packet to `addr` with that flow hash ends: the walk over the cells as they are. On a quiet control that is resolution over the
+    /// tables.
+    pub fn lookup(&self, addr: Addr, hash: u32) -> End
+        ensures walk { result ≡ walk self.now.plane.board.union.cells addr hash }
+        ensures quiet { IsQuiet self.now → result ≡ resolve (tables_in self.now) addr hash }
+    {
+        self.shared.tells();
+        self.table.tells();
+        self.stack.tells();
+        is_flow(addr, hash);
+        look_up(&self.shared.plane, addr, hash)
     }
 
     /// The number of a prefix's balance; None exactly where the prefix isn't in the prefix table.
@@ -349,6 +367,7 @@ impl<B: Board> Control<B> {
         ensures version { IfOk result (λ n. (n ≡ self.old.plane.board.log.version.applied) × (self.new.plane.board.log.version.settled ≡ n)) }
         ensures tables { self.new.setup ≡ self.old.setup }
         ensures entries { self.new.entries ≡ self.old.entries }
+        ensures board { but_settled self.new.plane.board ≡ but_settled self.old.plane.board }
         ensures finds { IsErrOf result Want.Object → ⊥ }
     {
         self.walk()?;

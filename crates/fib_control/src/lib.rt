@@ -7,10 +7,13 @@
 mod batches;
 mod beginning;
 mod control;
+mod crew;
 mod errors;
 mod following;
+mod looking;
 mod passes;
 mod queueing;
+mod settling;
 
 pub use control::Control;
 pub use errors::{ApplyError, BatchApplyError, Busy};

@@ -9,7 +9,7 @@ use fib_addr::{Addr, Prefix};
 use fib_core::Version;
 use fib_plainboard::PlainBoard;
 use fib_resolve::{Edit, End, List, Name, Need, PathSpec, Refusal, SpecKind};
-use fib_stack::{Turn, Want};
+use fib_stack::Turn;
 use std::alloc::Global;
 use std::test::Fail;
 
@@ -18,11 +18,7 @@ fn fresh(alloc: Global) -> Result<Control<PlainBoard>, Fail>
     ensures { IfOk result (λ c. IsRested c.plane.board) }
 {
     let board = PlainBoard::new(alloc, 200, 1)?;
-    match Control::new(alloc, board) {
-        Ok(control) => Ok(control),
-        Err(Want::Memory) => Err("no memory".into()),
-        Err(Want::Object) => Err("no object".into()),
-    }
+    Ok(Control::new(alloc, board)?)
 }
 
 fn name(alloc: Global) -> Result<Name, Fail> {

@@ -14,12 +14,14 @@ use Rattle.fib_rounds.specs.Counts.{IsSmall}
 use Rattle.fib_rounds.specs.declared.round.Opening.{Opening}
 use Rattle.fib_rounds.specs.declared.summary.Summary.{Summary}
 use Rattle.fib_rounds.specs.Stages.{Round, opened_by}
-use Rattle.fib_rounds.specs.Packets.{span, answers, last_text}
+use Rattle.fib_crew.specs.Packets.{span}
+use Rattle.fib_rounds.specs.Packets.{answers, last_text}
 use Rattle.fib_rounds.specs.Frozen.{frozen, by_asked, round_text}
 use Rattle.fib_rounds.specs.Summaries.{counted, with_round, with_results}
 use Rattle.fib_rounds.specs.Rounds.{StopsAt, KeepsText, KeepsCounts, is_still_quiet, round_at, text_from, counts_from, closed_router, closed_text, MayOpen, next_opening}
 use Rattle.fib_rounds.proofs.Turning.{end_keeps}
-use Rattle.fib_rounds.proofs.Spans.{span_taken, length_span}
+use Rattle.fib_crew.proofs.Spans.{length_span}
+use Rattle.fib_rounds.proofs.Spans.{span_taken}
 
 pub closed_keeps : (r : Router) (asked : Option ℕ) → (closed_router r asked).config.tables ≡ r.config.tables
 closed_keeps r None = end_keeps r

@@ -11,9 +11,11 @@ use Rattle.fib_results.specs.Trails.{settled_answer}
 use Rattle.fib_capture.specs.declared.packet.Packet.{Packet}
 use Rattle.fib_capture.specs.declared.packet.Packet.TheVariants.{Flow, NotIpv4, BadHeader}
 use Rattle.fib_rounds.specs.declared.crew.Station.{Station}
-use Rattle.fib_rounds.specs.Packets.{span, answers, packets_text}
+use Rattle.fib_crew.specs.Packets.{span}
+use Rattle.fib_rounds.specs.Packets.{answers, packets_text}
 use Rattle.fib_rounds.specs.Crew.{MayForward, HasForwarded, IsCrew, IsBack, NoneFailed, crew_text, crew_results}
-use Rattle.fib_rounds.proofs.Spans.{span_head, span_none, span_join, length_span, answers_append, text_append}
+use Rattle.fib_crew.proofs.Spans.{span_head, span_none, span_join, length_span}
+use Rattle.fib_rounds.proofs.Spans.{answers_append, text_append}
 
 -- ---- the results of one worker, packet by packet
 

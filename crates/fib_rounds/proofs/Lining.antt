@@ -13,7 +13,7 @@ use Rattle.fib_rounds.specs.Frozen.{frozen, by_asked, round_text}
 use Rattle.fib_rounds.specs.Summaries.{counted, with_round}
 use Rattle.fib_rounds.specs.Rounds.{StopsAt, KeepsText, KeepsCounts, is_still_quiet}
 use Rattle.fib_rounds.proofs.Turning.{asked_stays}
-use Rattle.fib_rounds.proofs.Spans.{drop_at}
+use Rattle.fib_crew.proofs.Spans.{drop_at}
 
 frozen_next : (packets : Capture) (n : ℕ) (o : Round) (S : Tables) (r : Router) (line : List ℕ) (lines : List (List ℕ)) → asks r line ≡ None
     → frozen packets n o S r (line ∷ lines) ≡ (turn_of n r line).1 ++ frozen packets (n + 1) o S (turn_of n r line).0 lines

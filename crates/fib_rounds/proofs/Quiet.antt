@@ -13,7 +13,8 @@ use Rattle.fib_capture.specs.declared.packet.Packet.{Packet}
 use Rattle.fib_capture.specs.declared.packet.Packet.TheVariants.{Flow, NotIpv4, BadHeader}
 use Rattle.fib_turns.specs.Turns.{turn_of, asks, end_turn}
 use Rattle.fib_rounds.specs.Stages.{Stage, Round, start, first_round, after_line, opened_by}
-use Rattle.fib_rounds.specs.Packets.{Matched, IsAnswer, packets_text, last_text, answers}
+use Rattle.fib_crew.specs.Packets.{Matched}
+use Rattle.fib_rounds.specs.Packets.{IsAnswer, packets_text, last_text, answers}
 use Rattle.fib_rounds.specs.Output.{Closes, Prints, ByAsked, Output}
 use Rattle.fib_rounds.specs.Frozen.{frozen, by_asked, round_text, frozen_output}
 use Rattle.fib_rounds.specs.Quiet.{IsStill, AllStill, HasQuietRounds}

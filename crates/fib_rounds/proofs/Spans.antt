@@ -10,36 +10,9 @@ use Rattle.fib_results.specs.Trails.{settled_answer}
 use Rattle.fib_print.specs.Packets.{packet_text, not_ipv4_text, bad_header_text}
 use Rattle.fib_capture.specs.declared.packet.Packet.{Packet}
 use Rattle.fib_capture.specs.declared.packet.Packet.TheVariants.{Flow, NotIpv4, BadHeader}
-use Rattle.fib_rounds.specs.Packets.{span, packets_text, answers}
-
-take_cons : {A : Type 0} (n : ℕ) (x : A) (xs : List A) → 0 < n → take n (x ∷ xs) ≡ x ∷ take (n - 1) xs
-take_cons zero x xs lt = absurd (omega (arith, lt))
-take_cons (suc n) x xs lt = let e : suc n - 1 ≡ n = omega arith in rw e refl
-
-pub drop_at : {A : Type 0} (xs : List A) (i : ℕ) (x : A) → slice_get xs i ≡ Some x → drop i xs ≡ x ∷ drop (i + 1) xs
-drop_at xs i x e = drop_more xs i x (slice_get_within xs i x e) ∙ ap (λ y. y ∷ drop (i + 1) xs) (get_or_from_slice_get xs i x x e)
-
-pub span_none : (ps : List Packet) (a : ℕ) → span ps a a ≡ []
-span_none ps a = let e : a - a ≡ 0 = omega arith in ap (λ k. take k (drop a ps)) e
-
--- the first packet of a span, and the rest
-pub span_head : (ps : List Packet) (a b : ℕ) (p : Packet) → a < b → slice_get ps a ≡ Some p → span ps a b ≡ p ∷ span ps (a + 1) b
-span_head ps a b p lt e =
-    let f : b - a - 1 ≡ b - (a + 1) = omega arith in
-    ap (take (b - a)) (drop_at ps a p e) ∙ (take_cons (b - a) p (drop (a + 1) ps) (omega (arith, lt)) ∙ ap (λ k. p ∷ take k (drop (a + 1) ps)) f)
-
-pub span_join : (ps : List Packet) (a b c : ℕ) → a ≤ b → b ≤ c → span ps a b ++ span ps b c ≡ span ps a c
-span_join ps a b c le me =
-    let e : (b - a) + (c - b) ≡ c - a = omega arith in
-    let f : a + (b - a) ≡ b = omega arith in
-    ap (λ xs. span ps a b ++ take (c - b) xs) (ap (λ k. drop k ps) (sym f) ∙ sym (drop-drop (b - a) a ps))
-    ∙ (sym (take-add (b - a) (c - b) (drop a ps)) ∙ ap (λ k. take k (drop a ps)) e)
-
-pub span_one : (ps : List Packet) (a : ℕ) (p : Packet) → slice_get ps a ≡ Some p → span ps a (a + 1) ≡ p ∷ []
-span_one ps a p e = span_head ps a (a + 1) p (omega arith) e ∙ ap (λ xs. p ∷ xs) (span_none ps (a + 1))
-
-pub length_span : (ps : List Packet) (a b : ℕ) → a ≤ b → b ≤ length ps → length (span ps a b) ≡ b - a
-length_span ps a b le lt = omega (arith, le, lt, length-take (b - a) (drop a ps), length-drop a ps)
+use Rattle.fib_crew.specs.Packets.{span}
+use Rattle.fib_crew.proofs.Spans.{length_span, span_head, span_none}
+use Rattle.fib_rounds.specs.Packets.{packets_text, answers}
 
 -- the packets that are left, or fewer
 pub span_taken : (ps : List Packet) (a n : ℕ) → a ≤ length ps → span ps a (a + min n (length ps - a)) ≡ take n (drop a ps)

@@ -5,7 +5,8 @@ use Rattle.fib_resolve.specs.declared.types.Tables.{Tables}
 use Rattle.fib_capture.specs.declared.packet.Packet.{Packet}
 use Rattle.fib_rounds.specs.declared.crew.Station.{Station}
 use Rattle.fib_results.specs.declared.record.Record.{Record}
-use Rattle.fib_rounds.specs.Packets.{span, answers, packets_text}
+use Rattle.fib_crew.specs.Packets.{span}
+use Rattle.fib_rounds.specs.Packets.{answers, packets_text}
 
 -- where the share of worker w of n begins, of the packets from one place up to another
 abbrev pub share_start : ℕ → ℕ → ℕ → ℕ → ℕ

@@ -8,19 +8,6 @@ use Rattle.fib_print.specs.Packets.{packet_text, not_ipv4_text, bad_header_text,
 use Rattle.fib_capture.specs.declared.packet.Packet.{Packet}
 use Rattle.fib_capture.specs.declared.packet.Packet.TheVariants.{Flow, NotIpv4, BadHeader}
 
--- the packets from one place up to another
-abbrev pub span : List Packet → ℕ → ℕ → List Packet
-span packets from to = take (to - from) (drop from packets)
-
--- there is one result for each flow, in order; other packets have none
-abbrev pub Matched : (ℕ → ℕ → Record → Type 0) → List Packet → List Record → Type 0
-Matched P [] [] = Unit {0}
-Matched P [] (r ∷ results) = ⊥
-Matched P (NotIpv4 ∷ packets) results = Matched P packets results
-Matched P (BadHeader ∷ packets) results = Matched P packets results
-Matched P (Flow a h ∷ packets) [] = ⊥
-Matched P (Flow a h ∷ packets) (r ∷ results) = P a h r × Matched P packets results
-
 -- A right answer to a flow of a round that opened at version k, over all tables until its close: of that address and hash, right and
 -- steady, and of no version before the opening. It is of none after the close, since a right answer's window lies in the history.
 pub record IsAnswer (k : ℕ) (H : List Tables) (a h : ℕ) (r : Record) : Type 0 where

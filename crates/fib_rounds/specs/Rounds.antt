@@ -8,7 +8,8 @@ use Rattle.fib_turns.specs.Turns.{asks, end_turn}
 use Rattle.fib_rounds.specs.declared.round.Opening.{Opening}
 use Rattle.fib_rounds.specs.declared.summary.Summary.{Summary}
 use Rattle.fib_rounds.specs.Stages.{Round}
-use Rattle.fib_rounds.specs.Packets.{span, last_text}
+use Rattle.fib_crew.specs.Packets.{span}
+use Rattle.fib_rounds.specs.Packets.{last_text}
 use Rattle.fib_rounds.specs.Frozen.{frozen}
 use Rattle.fib_rounds.specs.Summaries.{counted, with_router}
 

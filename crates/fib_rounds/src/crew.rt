@@ -1,7 +1,8 @@
 // The workers of a round.
 ghost use Rattle.std.specs.Prelude.{◌≡◌, ◌<◌, ◌≤◌, ◌+◌, ◌-◌, ◌*◌, ◌/◌, ◌++◌, ℕ, All, length, IfOk, OnOk, slice_index_or};
 ghost use Rattle.fib_results.specs.Trails.{settled_answer};
-ghost use Rattle.fib_rounds.specs.Packets.{span, answers};
+ghost use Rattle.fib_crew.specs.Packets.{span};
+ghost use Rattle.fib_rounds.specs.Packets.{answers};
 ghost use Rattle.fib_rounds.specs.Crew.{MayForward, HasForwarded, IsCrew, share_start};
 ghost use Rattle.fib_rounds.specs.declared.crew.Station.{Station};
 

@@ -1,7 +1,8 @@
 // What a run writes.
 ghost use Rattle.std.specs.Prelude.{◌≡◌, ◌<◌, ◌≤◌, ◌+◌, ◌++◌, ℕ, length, OnOk, OnErr};
 ghost use Rattle.fib_outside.specs.Outside.{HasRisen, Appends};
-ghost use Rattle.fib_rounds.specs.Packets.{span, packets_text, last_text};
+ghost use Rattle.fib_crew.specs.Packets.{span};
+ghost use Rattle.fib_rounds.specs.Packets.{packets_text, last_text};
 ghost use Rattle.fib_rounds.specs.Writes.{AppendsSome};
 
 use fib_capture::{Capture, Packet};

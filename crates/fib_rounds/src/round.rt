@@ -2,7 +2,8 @@
 ghost use Rattle.std.specs.Prelude.{◌≡◌, ◌<◌, ◌≤◌, ◌+◌, ◌-◌, ◌^◌, ◌++◌, ℕ, All, length, drop, min, IfOk, IfSome, OnOk, Some, None, false, slice_index_or};
 ghost use Rattle.std.specs.List.{list_any};
 ghost use Rattle.fib_turns.specs.Routers.{Fits};
-ghost use Rattle.fib_rounds.specs.Packets.{span, packets_text, answers};
+ghost use Rattle.fib_crew.specs.Packets.{span};
+ghost use Rattle.fib_rounds.specs.Packets.{packets_text, answers};
 ghost use Rattle.fib_rounds.specs.Counts.{IsSmall};
 ghost use Rattle.fib_rounds.specs.Crew.{MayForward, HasForwarded, IsBack, NoneFailed, crew_text, crew_results};
 ghost use Rattle.fib_rounds.specs.Summaries.{with_ends, with_results};

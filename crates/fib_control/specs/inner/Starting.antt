@@ -1,5 +1,5 @@
 -- A prefix table while it gets its first prefixes, each at a balance of its own that drops.
-use Rattle.std.specs.Prelude.{◌≡◌, ℕ, ◌<◌, List, Some}
+use Rattle.std.specs.Prelude.{◌≡◌, ℕ, ◌+◌, ◌*◌, ◌<◌, ◌≤◌, List, Some, length}
 use Rattle.fib_addr.specs.Prefixes.{Prefix}
 use Rattle.fib_core.specs.declared.word.Word.TheVariants as words
 use Rattle.fib_pool.specs.declared.object.AdjacencyRecord.{AdjacencyRecord}
@@ -18,3 +18,6 @@ pub record IsStarted (p : Promise) (t : Table) (u : View) (named : List Prefix) 
   pub drops : (e : Prefix) (o k : ℕ) → object_in t e ≡ Some o → k < 16 → u.cell o k ≡ words.Drop
   pub owned : (o : ℕ) → IsBalance u o → (e : Prefix) × (object_in t e ≡ Some o)
   pub users : (m : AdjacencyRecord) → u.users m ≡ 0
+  -- each prefix took a balance and at most seven plies of the 63 objects that there are beside the root
+  pub few : t.plies ≤ 7 * length named
+  pub roomy : 70 ≤ u.free + 8 * length named

@@ -5,15 +5,19 @@ use Rattle.fib_control.proofs.beginning.begin.Goals as goal
 
 pub ready-requires-clause-blank : goal.ready-requires-clause-blank
 ready-requires-clause-blank g c =
-    let take = c.in_ok-object.ensures.some in
-    blank_of (g.P.Objects.promise c.balance.new.on) (g.P.Objects.view c.balance.new.on)
-    (empty_taken (g.P.Objects.promise c.args.on.now) (g.P.Objects.promise c.balance.new.on) (g.P.Objects.view c.args.on.now) (g.P.Objects.view c.balance.new.on) c.in_ok-object.object
-    (bare_empty (g.P.Objects.promise c.args.on.now) (g.P.Objects.view c.args.on.now) c.requires) c.in_ok-object.ensures.promise take)
-    c.in_ok-object.object (dropping_taken (g.P.Objects.view c.args.on.now) (g.P.Objects.view c.balance.new.on) c.in_ok-object.object take)
+    let take = c.balance-object.ensures.taken in
+    blank_of (g.P.Objects.promise c.balance-object.new.on) (g.P.Objects.view c.balance-object.new.on)
+    (empty_taken (g.P.Objects.promise c.args.on.now) (g.P.Objects.promise c.balance-object.new.on) (g.P.Objects.view c.args.on.now) (g.P.Objects.view c.balance-object.new.on) c.balance-object.result
+    (bare_empty (g.P.Objects.promise c.args.on.now) (g.P.Objects.view c.args.on.now) c.requires.bare) c.balance-object.ensures.promise take)
+    c.balance-object.result (dropping_taken (g.P.Objects.view c.args.on.now) (g.P.Objects.view c.balance-object.new.on) c.balance-object.result take)
 
 pub returns-clause-started : goal.returns-clause-started
 returns-clause-started g c =
-    started_first (g.P.Objects.promise c.args.on.now) (g.P.Objects.promise c.ready.new.on) c.ready.new.self (g.P.Objects.view c.args.on.now) (g.P.Objects.view c.ready.new.on) c.in_ok-object.object c.requires
-    (c.ready.ensures.promise ∙ c.in_ok-object.ensures.promise) c.ready.ensures.stands c.ready.ensures.object
-    (went (g.P.Objects.view c.args.on.now) (g.P.Objects.view c.balance.new.on) (g.P.Objects.view c.balance.new.on) (g.P.Objects.view c.ready.new.on) c.in_ok-object.object c.in_ok-object.ensures.some (record { more = omega arith; same = refl }) c.ready.ensures.beside)
-    (bare_empty (g.P.Objects.promise c.args.on.now) (g.P.Objects.view c.args.on.now) c.requires).early
+    let free = c.requires.free in
+    let t = c.balance-object.ensures.taken.free in
+    let r = c.ready.ensures.free in
+    started_first (g.P.Objects.promise c.args.on.now) (g.P.Objects.promise c.ready.new.on) c.ready.new.self (g.P.Objects.view c.args.on.now) (g.P.Objects.view c.ready.new.on) c.balance-object.result c.requires.bare
+    (c.ready.ensures.promise ∙ c.balance-object.ensures.promise) c.ready.ensures.stands c.ready.ensures.object
+    (went (g.P.Objects.view c.args.on.now) (g.P.Objects.view c.balance-object.new.on) (g.P.Objects.view c.balance-object.new.on) (g.P.Objects.view c.ready.new.on) c.balance-object.result c.balance-object.ensures.taken (record { more = omega arith; same = refl }) c.ready.ensures.beside)
+    (bare_empty (g.P.Objects.promise c.args.on.now) (g.P.Objects.view c.args.on.now) c.requires.bare).early
+    c.ready.ensures.plies (omega (arith, free, t, r))

@@ -1,8 +1,9 @@
-use Rattle.std.proofs.Common.{◌∷◌, ◌∙◌, ap, map, take, List, subst, sym}
+use Rattle.std.proofs.Common.{◌∷◌, ◌∙◌, ◌<◌, ap, map, take, length, List, arith, refl, subst, sym}
 use Rattle.fib_addr.specs.Longest.{everything}
 use Rattle.fib_addr.specs.Prefixes.{Prefix}
 use Rattle.fib_entries.specs.Known.{prefix_of}
 use Rattle.fib_control.specs.inner.Starting.{IsStarted}
+use Rattle.fib_control.proofs.Few.{few_named}
 use Rattle.fib_control.proofs.Started.{take_next}
 use Rattle.fib_control.proofs.beginning.first_table.Goals as goal
 
@@ -14,3 +15,7 @@ loop-row-preserved g c =
           (c.in_ok-place.ensures.started (everything ∷ take c.loop-row.row xs) c.loop-row.invariant.started);
       promise = c.in_ok-place.ensures.promise ∙ c.loop-row.invariant.promise;
     }
+
+pub place-requires : goal.place-requires
+place-requires g c = (everything ∷ take c.loop-row.row (map prefix_of c.args.entries.now.rows), c.loop-row.invariant.started, refl,
+    few_named c.args.entries.now c.loop-row.row c.requires.entries)

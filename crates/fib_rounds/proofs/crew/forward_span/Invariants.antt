@@ -1,5 +1,6 @@
 use Rattle.std.proofs.Common.{◌≡◌, ◌++◌}
-use Rattle.fib_rounds.specs.Packets.{span, answers}
+use Rattle.fib_crew.specs.Packets.{span}
+use Rattle.fib_rounds.specs.Packets.{answers}
 use Rattle.fib_rounds.proofs.crew.forward_span.Given as goal
 
 -- the results so far, and then those of the packets that are left

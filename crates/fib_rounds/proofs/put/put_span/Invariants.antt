@@ -1,5 +1,6 @@
 use Rattle.std.proofs.Common.{◌≡◌, ◌++◌}
-use Rattle.fib_rounds.specs.Packets.{span, packets_text}
+use Rattle.fib_crew.specs.Packets.{span}
+use Rattle.fib_rounds.specs.Packets.{packets_text}
 use Rattle.fib_rounds.proofs.put.put_span.Given as goal
 
 -- what was printed, and then the lines that are left

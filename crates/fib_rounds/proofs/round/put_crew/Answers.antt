@@ -1,6 +1,7 @@
 use Rattle.std.proofs.Common.{arith, ◌≡◌, ◌+◌, ◌++◌, sym, ◌∙◌, ap, drop}
 use Rattle.std.proofs.lemmas.List.{append-nil}
-use Rattle.fib_rounds.specs.Packets.{span, packets_text}
+use Rattle.fib_crew.specs.Packets.{span}
+use Rattle.fib_rounds.specs.Packets.{packets_text}
 use Rattle.fib_rounds.specs.Crew.{crew_text}
 use Rattle.fib_rounds.proofs.Spans.{append_step}
 use Rattle.fib_rounds.proofs.Crews.{crew_text_head, crew_text_end}

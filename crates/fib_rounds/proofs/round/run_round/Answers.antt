@@ -3,9 +3,11 @@ use Rattle.std.specs.Prelude.{All}
 use Rattle.std.specs.List.{list_any}
 use Rattle.fib_resolve.specs.declared.types.Tables.{Tables}
 use Rattle.fib_rounds.specs.Crew.{MayForward, NoneFailed, crew_text, crew_results}
-use Rattle.fib_rounds.specs.Packets.{span, answers, packets_text}
+use Rattle.fib_crew.specs.Packets.{span}
+use Rattle.fib_rounds.specs.Packets.{answers, packets_text}
 use Rattle.fib_rounds.proofs.Crews.{back_may, results_all, text_all}
-use Rattle.fib_rounds.proofs.Spans.{answers_few, length_span}
+use Rattle.fib_crew.proofs.Spans.{length_span}
+use Rattle.fib_rounds.proofs.Spans.{answers_few}
 use Rattle.fib_rounds.proofs.Closing.{closed_keeps, text_of_round, counts_of_round}
 use Rattle.fib_rounds.proofs.round.run_round.Goals as goal
 

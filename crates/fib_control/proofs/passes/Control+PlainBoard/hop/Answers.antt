@@ -11,4 +11,4 @@ pub invariant_of-self : goal.invariant_of-self
 invariant_of-self c =
     let old : Control = record { setup = c.self.inside.config; entries = c.self.inside.entries; plane = c.self.inside.shared.plane; rows = c.self.inside.table.rows.members; plies = c.self.inside.table.plies; known = c.self.inside.stack.ledger.rows; late = c.self.inside.stack.late.members; queue = c.self.inside.queue.members; done = c.self.inside.done.items } in
     let b : Board = hopped_on c.self.inside.shared.plane.board c.args.worker in
-    (subst (λ (p : Plane). IsStanding (record old { plane = p })) (sym c.hop.ensures.pass) (passed_standing old b.out b.rests b.passes c.self.invariant.0), c.self.invariant.1)
+    (subst (λ (p : Plane). IsStanding (record old { plane = p })) (sym c.hop.ensures.pass) (passed_standing old b.out b.rests b.passes b.trails b.gathered c.self.invariant.0), c.self.invariant.1)

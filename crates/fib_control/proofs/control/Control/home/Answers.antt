@@ -1,0 +1,14 @@
+use Rattle.std.proofs.Common.{sym, subst}
+use Rattle.fib_board.specs.Boards.{Board}
+use Rattle.fib_board.specs.Crews.{board_joined}
+use Rattle.fib_plane.specs.Planes.{Plane}
+use Rattle.fib_control.specs.Controls.{Control}
+use Rattle.fib_control.specs.inner.Standing.{IsStanding}
+use Rattle.fib_control.proofs.Kept.{passed_standing}
+use Rattle.fib_control.proofs.control.Control.home.Goals as goal
+
+pub invariant_of-self : goal.invariant_of-self
+invariant_of-self g c =
+    let old : Control = record { setup = c.self.inside.config; entries = c.self.inside.entries; plane = c.self.inside.shared.plane; rows = c.self.inside.table.rows.members; plies = c.self.inside.table.plies; known = c.self.inside.stack.ledger.rows; late = c.self.inside.stack.late.members; queue = c.self.inside.queue.members; done = c.self.inside.done.items } in
+    let b : Board = board_joined c.self.inside.shared.plane.board (g.B.Crew.seated c.args.seat).worker in
+    (subst (λ (p : Plane). IsStanding (record old { plane = p })) (sym c.home.ensures) (passed_standing old b.out b.rests b.passes b.trails b.gathered c.self.invariant.0), c.self.invariant.1)

@@ -1,0 +1,4 @@
+pub mod Spans
+pub mod Matching
+pub mod Forwards
+pub mod Works

@@ -1,0 +1,6 @@
+use Rattle.fib_crew.specs.Packets.{span}
+use Rattle.fib_crew.specs.Work.{HasWorked, steps_so_far}
+use Rattle.fib_crew.proofs.claims.work.Given as goal
+
+abbrev pub invariant-loop-made : goal.invariant-loop-made
+invariant-loop-made g l = HasWorked l.fn.taken.opened l.fn.taken.first l.fn.taken.base l.made (span l.packets.packets l.fn.taken.first l.fn.taken.to) l.fn.worker l.worker (steps_so_far l.list.items)
