@@ -246,14 +246,13 @@ impl<B: Board> Control<B> {
             edits,
             limits,
         ) {
-            Ok(()) => {
-                self.shared.begin_version(self.config.tables());
-                self.done.clear();
-                let version = self.shared.version();
-                Ok(version.applied)
-            }
-            Err(error) => Err(error),
+            Ok(()) => {}
+            Err(error) => return Err(error),
         }
+        self.shared.begin_version(self.config.tables());
+        self.done.clear();
+        let version = self.shared.version();
+        Ok(version.applied)
     }
 
     /// How many prefixes wait for their turn.

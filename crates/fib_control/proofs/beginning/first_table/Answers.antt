@@ -17,5 +17,9 @@ loop-row-preserved g c =
     }
 
 pub place-requires : goal.place-requires
-place-requires g c = (everything ∷ take c.loop-row.row (map prefix_of c.args.entries.now.rows), c.loop-row.invariant.started, refl,
-    few_named c.args.entries.now c.loop-row.row c.requires.entries)
+place-requires g c = (
+  everything ∷ take c.loop-row.row (map prefix_of c.args.entries.now.rows),
+  c.loop-row.invariant.started,
+  refl,
+  few_named c.args.entries.now c.loop-row.row c.requires.entries,
+)

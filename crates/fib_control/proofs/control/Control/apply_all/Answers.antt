@@ -16,8 +16,8 @@ begin_version-requires g c =
     c.tables.result.now c.tables.ensures.sound
     (subst (λ (x : Control). x.plane.board.log.version.applied < 2 ^ 32 - 1) (sym c.self.view_is) c.requires.version)
 
-pub invariant_of-self : goal.invariant_of-self
-invariant_of-self g c =
+pub invariant_of-self-2 : goal.invariant_of-self-2
+invariant_of-self-2 g c =
     let old : Control = record { setup = c.self.inside.config; entries = c.self.inside.entries; plane = c.self.inside.shared.plane; rows = c.self.inside.table.rows.members; plies = c.self.inside.table.plies; known = c.self.inside.stack.ledger.rows; late = c.self.inside.stack.late.members; queue = c.self.inside.queue.members; done = c.self.inside.done.items } in
     let told : Tells old = record { plane = c.self.inside.shared.sound; told = c.tells.ensures.told; seen = c.tells.ensures.seen; rows = c.tells-2.ensures; used = c.tells-3.ensures } in
     let e = c.in-Ok.ensures in
