@@ -264,7 +264,10 @@ pub fn drive_script(alloc: Global, bytes: &[u8]) -> Result<Option<Difference>, S
         }
     }
     match settled_difference(alloc, &mut control, &mut dice)? {
-        Some(part) => Ok(Some(Difference { line: script.lines(), part })),
+        Some(part) => Ok(Some(Difference {
+            line: script.lines(),
+            part,
+        })),
         None => Ok(None),
     }
 }

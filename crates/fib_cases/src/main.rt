@@ -12,10 +12,10 @@ mod compared;
 mod driven;
 mod followed;
 
-use fib_outside::{FileShelf, FreeGate, StandardOut};
-use fib_run::fib_main;
 use driven::drive_script;
 use fib_commands::ScriptError;
+use fib_outside::{FileShelf, FreeGate, StandardOut};
+use fib_run::fib_main;
 use followed::{Difference, follow_script};
 use std::alloc::{AllocError, Global};
 use std::io::Print;

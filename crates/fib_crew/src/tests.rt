@@ -51,10 +51,12 @@ fn is_dropped(frames: &[Frame], number: usize, place: usize, packet: u32) -> Res
         return Err("no such frame".into());
     };
     match frame.results.list().get(place) {
-        Some((at, answer)) => Ok(*at == packet
-            && answer.hash == packet
-            && answer.end == End::Drop
-            && answer.lo == Version::settled_at(0)),
+        Some((at, answer)) => Ok(
+            *at == packet
+                && answer.hash == packet
+                && answer.end == End::Drop
+                && answer.lo == Version::settled_at(0),
+        ),
         None => Err("no such result".into()),
     }
 }
