@@ -1,8 +1,8 @@
 -- Why an edit that is made at first is taken back.
-use Rattle.std.proofs.Common.{◌≡◌, ◌∷◌, [], ℕ, ◌+◌, ◌<◌, ◌≤◌, ap, ◌∙◌, subst, sym, arith}
-use Rattle.std.specs.Prelude.{Option, Some, None}
+use Rattle.std.proofs.Common.{◌≡◌, List, ◌∷◌, [], ℕ, ◌+◌, ◌<◌, ◌≤◌, ap, ◌∙◌, subst, sym, refl, arith}
+use Rattle.std.specs.Prelude.{Option, Some, None, Result, Ok, Err}
 use Rattle.fib_resolve.specs.Edits.{edited}
-use Rattle.fib_resolve.specs.Refusals.{first_reason, reasons, refused}
+use Rattle.fib_resolve.specs.Refusals.{FirstRefused, edited_from, edited_in_turn, first_reason, reasons, refused, unless_refused}
 use Rattle.fib_resolve.specs.Sizes.{size}
 use Rattle.fib_resolve.specs.declared.types.Edit.{Edit}
 use Rattle.fib_resolve.specs.declared.types.Refusal.{Refusal}
@@ -14,10 +14,18 @@ use Rattle.fib_changes.proofs.Differing.{edit_differs}
 use Rattle.fib_config.proofs.Made.{made_fits, made_large}
 use Rattle.fib_resolve.specs.declared.types.Refusal.TheVariants as refusals
 use Rattle.fib_resolve.proofs.Refused.{none_own, refused_size}
-use Rattle.fib_control.specs.Controls.{IsNotCrowded, IsTooMuch, TellsEdit}
+use Rattle.fib_control.specs.Controls.{IsBatchNotCrowded, IsNotCrowded, IsTooMuch, TellsBatch, TellsEdit, WantsMore}
 use Rattle.fib_control.specs.declared.errors.ApplyError.{ApplyError}
 use Rattle.fib_control.specs.declared.errors.ApplyError.TheVariants as errors
+use Rattle.fib_control.specs.declared.errors.BatchApplyError.{BatchApplyError}
+use Rattle.fib_control.specs.declared.errors.BatchApplyError.TheVariants as batch_errors
 use Rattle.fib_control.specs.declared.following.Limits.{Limits}
+
+abbrev the_ok : Tables → Result Tables FirstRefused
+the_ok S = Ok S
+
+abbrev the_err : ℕ → Refusal → Result Tables FirstRefused
+the_err i r = Err (record { place = i; refusal = r })
 
 pub tells_too_much : (S T : Tables) (l : Limits) (e : Edit) (x : ApplyError) → T ≡ edited S e → first_reason (reasons S e) ≡ None → IsTooMuch l (size T) x → TellsEdit S l e x
 tells_too_much S T l e (errors.Refused r) is none h = made_large S T l.room e is h.1 none ∙ ap (λ (q : Refusal). Some q) (sym h.0)
@@ -39,3 +47,41 @@ pub not_crowded : (S : Tables) (l : Limits) (e : Edit) (x : ApplyError) → Tell
 not_crowded S l e (errors.Refused r) h never = tt
 not_crowded S l e (errors.Crowded free wanted) h never = never wanted (let f = fits_room S l.room e h.0 in let w = h.2 in omega (arith, f, w)) (let a = h.1 in let b = h.3 in omega (arith, a, b))
 not_crowded S l e errors.Memory h never = tt
+
+next_fits : (o : Option Refusal) (i room : ℕ) (S T : Tables) (e : Edit) (more : Result Tables FirstRefused) → refused S room e ≡ o
+    → (more ≡ the_ok T → size (edited S e) ≤ room → size T ≤ room) → unless_refused o i more ≡ the_ok T → size T ≤ room
+next_fits None i room S T e more none later is = later is (fits_room S room e none)
+next_fits (Some r) i room S T e more why later is = absurd (let bad : the_err i r ≡ the_ok T = is in cc)
+
+-- so do the tables after edits in turn of which none is refused
+pub turns_fit : (es : List Edit) (i room : ℕ) (S T : Tables) → size S ≤ room → edited_from i S room es ≡ Ok T → size T ≤ room
+unfolding edited_from
+turns_fit [] i room S T fits is = subst (λ (V : Tables). size V ≤ room) (let same : the_ok S ≡ the_ok T = is in cc) fits
+turns_fit (e ∷ es) i room S T fits is =
+    next_fits (refused S room e) i room S T e (edited_from (i + 1) (edited S e) room es) refl (λ made below. turns_fit es (i + 1) room (edited S e) T below made) is
+
+pub batch_crowded : (S T : Tables) (l : Limits) (es : List Edit) (free wanted : ℕ) → edited_in_turn S l.room es ≡ Ok T → IsTooMuch l (size T) (errors.Crowded free wanted)
+    → TellsBatch S l es (batch_errors.Crowded free wanted)
+batch_crowded S T l es free wanted made h =
+    let f = h.1 in
+    let w = h.2 in
+    let lt = h.3 in
+    let less : free < wanted = omega (arith, f, w, lt) in
+    (T, made, f, w, less)
+
+-- edits none of which is refused want objects or memory alone
+pub wants_more : (T : Tables) (l : Limits) (x : ApplyError) → size T ≤ l.room → IsTooMuch l (size T) x → WantsMore x
+wants_more T l (errors.Refused r) fits h = absurd (let more = h.1 in omega (arith, fits, more))
+wants_more T l (errors.Crowded free wanted) fits h = tt
+wants_more T l errors.Memory fits h = tt
+
+pub not_crowded_batch : (S : Tables) (l : Limits) (es : List Edit) (x : BatchApplyError) → size S ≤ l.room → TellsBatch S l es x → ((n : ℕ) → n ≤ l.room → l.free < n → ⊥)
+    → IsBatchNotCrowded x
+not_crowded_batch S l es (batch_errors.Refused place r) fits h never = tt
+not_crowded_batch S l es (batch_errors.Crowded free wanted) fits h never =
+    let after = turns_fit es 0 l.room S h.0 fits h.1 in
+    let f = h.2 in
+    let w = h.3 in
+    let lt = h.4 in
+    never wanted (omega (arith, after, w)) (omega (arith, f, lt))
+not_crowded_batch S l es batch_errors.Memory fits h never = tt

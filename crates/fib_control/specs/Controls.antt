@@ -1,9 +1,9 @@
 -- What contracts see of a control plane, and what its calls do.
-use Rattle.std.specs.Prelude.{◌≡◌, ℕ, ◌+◌, ◌<◌, ◌≤◌, ◌||◌, Bool, false, List, [], ◌∷◌, ◌++◌, Option, Some, None, length}
+use Rattle.std.specs.Prelude.{◌≡◌, ℕ, ◌+◌, ◌<◌, ◌≤◌, ◌||◌, Bool, false, List, [], ◌∷◌, ◌++◌, Option, Some, None, Ok, Err, length}
 use Rattle.std.specs.List.{list_any}
 use Rattle.fib_addr.specs.Prefixes.{Prefix, same_prefix}
 use Rattle.fib_resolve.specs.Edits.{edited}
-use Rattle.fib_resolve.specs.Refusals.{refused}
+use Rattle.fib_resolve.specs.Refusals.{edited_in_turn, refused}
 use Rattle.fib_resolve.specs.Sizes.{size}
 use Rattle.fib_resolve.specs.Touched.{is_touched}
 use Rattle.fib_resolve.specs.declared.types.Edit.{Edit}
@@ -31,6 +31,8 @@ use Rattle.fib_stack.specs.declared.turn.Turn.{Turn}
 use Rattle.fib_stack.specs.declared.turn.Turn.TheVariants as turns
 use Rattle.fib_control.specs.declared.errors.ApplyError.{ApplyError}
 use Rattle.fib_control.specs.declared.errors.ApplyError.TheVariants as errors
+use Rattle.fib_control.specs.declared.errors.BatchApplyError.{BatchApplyError}
+use Rattle.fib_control.specs.declared.errors.BatchApplyError.TheVariants as batch_errors
 use Rattle.fib_control.specs.declared.errors.Busy.{Busy}
 use Rattle.fib_control.specs.declared.following.Limits.{Limits}
 
@@ -112,11 +114,32 @@ TellsEdit S l e errors.Memory = Unit {0}
 abbrev pub TellsApply : Control → Edit → ApplyError → Type 0
 TellsApply c e = TellsEdit (tables_in c) (record { room = c.setup.room; free = free_in c.plane.objects }) e
 
+-- a fault of several edits says why: the first that is refused, and its reason; or that none is, but fewer objects are free than the tables after all take
+abbrev pub TellsBatch : Tables → Limits → List Edit → BatchApplyError → Type 0
+TellsBatch S l es (batch_errors.Refused place r) = edited_in_turn S l.room es ≡ Err (record { place = place; refusal = r })
+TellsBatch S l es (batch_errors.Crowded free wanted) =
+    (T : Tables) × (edited_in_turn S l.room es ≡ Ok T) × (free ≡ l.free) × (wanted ≡ size T) × (free < wanted)
+TellsBatch S l es batch_errors.Memory = Unit {0}
+
+abbrev pub TellsApplyAll : Control → List Edit → BatchApplyError → Type 0
+TellsApplyAll c es = TellsBatch (tables_in c) (record { room = c.setup.room; free = free_in c.plane.objects }) es
+
 -- it is no want of objects
 abbrev pub IsNotCrowded : ApplyError → Type 0
 IsNotCrowded (errors.Refused r) = Unit {0}
 IsNotCrowded (errors.Crowded free wanted) = ⊥
 IsNotCrowded errors.Memory = Unit {0}
+
+abbrev pub IsBatchNotCrowded : BatchApplyError → Type 0
+IsBatchNotCrowded (batch_errors.Refused place r) = Unit {0}
+IsBatchNotCrowded (batch_errors.Crowded free wanted) = ⊥
+IsBatchNotCrowded batch_errors.Memory = Unit {0}
+
+-- it is a want of objects or of memory
+abbrev pub WantsMore : ApplyError → Type 0
+WantsMore (errors.Refused r) = ⊥
+WantsMore (errors.Crowded free wanted) = Unit {0}
+WantsMore errors.Memory = Unit {0}
 
 -- a size that is above a limit
 abbrev pub IsTooMuch : Limits → ℕ → ApplyError → Type 0

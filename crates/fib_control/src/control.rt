@@ -1,11 +1,12 @@
 // The control plane as one value.
-ghost use Rattle.std.specs.Prelude.{◌≡◌, ◌+◌, ◌-◌, ◌/◌, ◌^◌, ◌<◌, ◌≤◌, [], ℕ, IfErr, IfOk, IsErrOf, IsTrue, None, OnErr, OnOk, Some, length, false, true, vec_capacity, ◌↔◌};
+ghost use Rattle.std.specs.Prelude.{◌≡◌, ◌+◌, ◌-◌, ◌/◌, ◌^◌, ◌<◌, ◌≤◌, [], ℕ, IfErr, IfOk, IsErrOf, IsTrue, None, Ok, OnErr, OnOk, Some, length, false, true, vec_capacity, ◌↔◌};
+ghost use Rattle.std.specs.List.{AllByRecursion};
 ghost use Rattle.fib_addr.specs.Prefixes.{Prefix as PrefixValue};
 ghost use Rattle.fib_reach.specs.Walks.{AllDiffer};
 ghost use Rattle.fib_changes.specs.Ranks.{IsRanked};
 ghost use Rattle.fib_resolve.specs.Edits.{edited};
 ghost use Rattle.fib_resolve.specs.Reachable.{IsWritten};
-ghost use Rattle.fib_resolve.specs.Refusals.{refused};
+ghost use Rattle.fib_resolve.specs.Refusals.{edited_in_turn, refused};
 ghost use Rattle.fib_resolve.specs.Sizes.{size};
 ghost use Rattle.fib_resolve.specs.Resolution.{resolve};
 ghost use Rattle.fib_resolve.specs.Tables.{IsSound, fresh};
@@ -23,10 +24,11 @@ ghost use Rattle.fib_stack.specs.Room.{HasRoomLeft};
 ghost use Rattle.fib_stack.specs.Turns.{parts_of};
 ghost use Rattle.fib_stack.specs.Records.{SamePlane};
 ghost use Rattle.fib_stack.specs.Steps.{Retried};
-ghost use Rattle.fib_control.specs.Controls.{IsBeneath, IsBusy, IsChanged, IsDoneAfter, IsNotCrowded, IsQuiet, IsSettled, TellsApply, but_settled, noted, parts_in, promise_in, rank_by, state_now, tables_in, view_in};
+ghost use Rattle.fib_control.specs.Controls.{IsBatchNotCrowded, IsBeneath, IsBusy, IsChanged, IsDoneAfter, IsNotCrowded, IsQuiet, IsSettled, TellsApply, TellsApplyAll, but_settled, noted, parts_in, promise_in, rank_by, state_now, tables_in, view_in};
 
+use crate::batches::change_all;
 use crate::beginning::first_table;
-use crate::errors::{ApplyError, Busy};
+use crate::errors::{ApplyError, BatchApplyError, Busy};
 use crate::following::{Limits, change};
 use crate::looking::{is_flow, look_up};
 use fib_addr::{Addr, Prefix};
@@ -209,6 +211,48 @@ impl<B: Board> Control<B> {
             }
             Err(error) => Err(error),
         }
+    }
+
+    /// Makes one change of several edits: each is made on the tables that those before it give, one version begins, and what they touch together is
+    /// queued. Answers the number of the version.
+    ///
+    /// Refused comes exactly where `Config::edit_all` refuses, and says the same. Crowded comes exactly where it doesn't but fewer objects are free
+    /// than the tables after all edits take; a quiet control is never crowded. After a fault nothing has changed. Each edit is one that a line can
+    /// write, and there are fewer than 2^32 edits and versions.
+    pub fn apply_all(&mut self, edits: &[Edit]) -> Result<u32, BatchApplyError>
+        requires written { AllByRecursion IsWritten edits.now }
+        requires few { length edits.now < 2 ^ 32 }
+        requires version { self.old.plane.board.log.version.applied < 2 ^ 32 - 1 }
+        ensures made { OnOk result (edited_in_turn (tables_in self.old) self.old.setup.room edits.now ≡ Ok (tables_in self.new)) }
+        ensures changed { OnOk result (IsChanged self.old self.new (tables_in self.new)) }
+        ensures fits { OnOk result (size (tables_in self.new) ≤ free_in self.old.plane.objects) }
+        ensures version { IfOk result (λ a. a ≡ self.old.plane.board.log.version.applied + 1) }
+        ensures why { IfErr result (TellsApplyAll self.old edits.now) }
+        ensures quiet { IsQuiet self.old → IfErr result IsBatchNotCrowded }
+        ensures err { OnErr result (self.new ≡ self.old) }
+    {
+        self.shared.tells();
+        self.table.tells();
+        self.stack.tells();
+        let limits = Limits {
+            room: self.room,
+            free: self.shared.free(),
+        };
+        match change_all(
+            self.alloc,
+            &mut self.config,
+            &mut self.entries,
+            &mut self.queue,
+            edits,
+            limits,
+        ) {
+            Ok(()) => {}
+            Err(error) => return Err(error),
+        }
+        self.shared.begin_version(self.config.tables());
+        self.done.clear();
+        let version = self.shared.version();
+        Ok(version.applied)
     }
 
     /// How many prefixes wait for their turn.

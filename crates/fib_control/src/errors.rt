@@ -18,6 +18,25 @@ pub enum ApplyError {
     Memory,
 }
 
+/// Why several edits were not made as one change.
+#[derive(Clone, Copy, Debug, PartialEq, Eq)]
+pub enum BatchApplyError {
+    /// The edit at that place, counted from 0, is the first that is refused on the tables that those before it give.
+    Refused {
+        place: u32,
+        refusal: Refusal,
+    },
+    /// None is refused, but fewer objects are free than the tables after all of them take.
+    Crowded {
+        /// How many objects are free.
+        free: u32,
+        /// How many those tables take.
+        wanted: u32,
+    },
+    /// There was no memory.
+    Memory,
+}
+
 /// What keeps the last version from being settled. One of the three isn't 0.
 #[derive(Clone, Copy, Debug, PartialEq, Eq)]
 pub struct Busy {

@@ -1,4 +1,4 @@
-// The entries follow a change, once the queue has room for all that it may touch.
+// The entries follow changes, once the queue has room for all that they may touch.
 ghost use Rattle.std.specs.Prelude.{◌≡◌, ◌∷◌, ◌*◌, ◌+◌, ◌<◌, ◌≤◌, ◌^◌, ◌-◌, ◌||◌, [], IfErr, IfOk, None, OnErr, OnOk, min};
 ghost use Rattle.fib_addr.specs.Prefixes.{Prefix as PrefixValue};
 ghost use Rattle.fib_resolve.specs.Edits.{edited};
@@ -48,19 +48,19 @@ fn too_many(limits: Limits, size: u32) -> ApplyError
     }
 }
 
-// Makes the entries stand for tables after a change, where their size is within the limits.
+// Makes the entries stand for tables after changes, where their size is within the limits.
 fn follow_within(
     config: &Config,
     entries: &mut Entries,
-    change: Change,
+    changes: &[Change],
     limits: Limits,
 ) -> Result<Followed, ApplyError>
     requires room { limits.room < 2 ^ 32 - 1 }
-    ensures stands { OnOk result ((S : TablesValue) → StandsFor entries.old S → Differ (change ∷ []) S config.now.tables → StandsFor entries.new config.now.tables) }
-    ensures touched { IfOk result (λ f. (S : TablesValue) → StandsFor entries.old S → Differ (change ∷ []) S config.now.tables → AreTouched S config.now.tables f.touched) }
-    ensures moved { IfOk result (λ f. (S : TablesValue) → StandsFor entries.old S → Differ (change ∷ []) S config.now.tables → AreMoved entries.old.rows entries.new.rows f.moved) }
-    ensures fits { OnOk result ((S : TablesValue) → StandsFor entries.old S → Differ (change ∷ []) S config.now.tables → (size config.now.tables ≤ limits.room) × (size config.now.tables ≤ limits.free)) }
-    ensures why { IfErr result (λ e. (S : TablesValue) → StandsFor entries.old S → Differ (change ∷ []) S config.now.tables → IsTooMuch limits (size config.now.tables) e) }
+    ensures stands { OnOk result ((S : TablesValue) → StandsFor entries.old S → Differ changes.now S config.now.tables → StandsFor entries.new config.now.tables) }
+    ensures touched { IfOk result (λ f. (S : TablesValue) → StandsFor entries.old S → Differ changes.now S config.now.tables → AreTouched S config.now.tables f.touched) }
+    ensures moved { IfOk result (λ f. (S : TablesValue) → StandsFor entries.old S → Differ changes.now S config.now.tables → AreMoved entries.old.rows entries.new.rows f.moved) }
+    ensures fits { OnOk result ((S : TablesValue) → StandsFor entries.old S → Differ changes.now S config.now.tables → (size config.now.tables ≤ limits.room) × (size config.now.tables ≤ limits.free)) }
+    ensures why { IfErr result (λ e. (S : TablesValue) → StandsFor entries.old S → Differ changes.now S config.now.tables → IsTooMuch limits (size config.now.tables) e) }
     ensures err { OnErr result (entries.new ≡ entries.old) }
 {
     let most = if limits.room < limits.free {
@@ -68,60 +68,60 @@ fn follow_within(
     } else {
         limits.free
     };
-    match entries.follow_changes(config, &[change], most) {
+    match entries.follow_changes(config, changes, most) {
         Ok(followed) => Ok(followed),
         Err(FollowError::TooMany(size)) => Err(too_many(limits, size)),
         Err(FollowError::Memory) => Err(ApplyError::Memory),
     }
 }
 
-// Makes the entries stand for tables after a change, where their size is within the limits and the queue can be given room for what is touched.
+// Makes the entries stand for tables after changes, where their size is within the limits and the queue can be given room for what is touched.
 // After a fault all but the queue's room is as before.
 fn follow(
     alloc: Global,
     config: &Config,
     entries: &mut Entries,
     queue: &mut Queue,
-    change: Change,
+    changes: &[Change],
     limits: Limits,
 ) -> Result<Followed, ApplyError>
     requires room { limits.room < 2 ^ 32 - 1 }
-    ensures stands { OnOk result ((S : TablesValue) → StandsFor entries.old S → Differ (change ∷ []) S config.now.tables → StandsFor entries.new config.now.tables) }
-    ensures touched { IfOk result (λ f. (S : TablesValue) → StandsFor entries.old S → Differ (change ∷ []) S config.now.tables → AreTouched S config.now.tables f.touched) }
-    ensures moved { IfOk result (λ f. (S : TablesValue) → StandsFor entries.old S → Differ (change ∷ []) S config.now.tables → AreMoved entries.old.rows entries.new.rows f.moved) }
-    ensures fits { OnOk result ((S : TablesValue) → StandsFor entries.old S → Differ (change ∷ []) S config.now.tables → (size config.now.tables ≤ limits.room) × (size config.now.tables ≤ limits.free)) }
+    ensures stands { OnOk result ((S : TablesValue) → StandsFor entries.old S → Differ changes.now S config.now.tables → StandsFor entries.new config.now.tables) }
+    ensures touched { IfOk result (λ f. (S : TablesValue) → StandsFor entries.old S → Differ changes.now S config.now.tables → AreTouched S config.now.tables f.touched) }
+    ensures moved { IfOk result (λ f. (S : TablesValue) → StandsFor entries.old S → Differ changes.now S config.now.tables → AreMoved entries.old.rows entries.new.rows f.moved) }
+    ensures fits { OnOk result ((S : TablesValue) → StandsFor entries.old S → Differ changes.now S config.now.tables → (size config.now.tables ≤ limits.room) × (size config.now.tables ≤ limits.free)) }
     ensures space { OnOk result (4 * limits.room ≤ queue.new.spare) }
-    ensures why { IfErr result (λ e. (S : TablesValue) → StandsFor entries.old S → Differ (change ∷ []) S config.now.tables → IsTooMuch limits (size config.now.tables) e) }
+    ensures why { IfErr result (λ e. (S : TablesValue) → StandsFor entries.old S → Differ changes.now S config.now.tables → IsTooMuch limits (size config.now.tables) e) }
     ensures queue { queue.new.members ≡ queue.old.members }
     ensures err { OnErr result (entries.new ≡ entries.old) }
 {
     let Ok(()) = queue.reserve(alloc, 4 * limits.room as usize) else {
         return Err(ApplyError::Memory);
     };
-    follow_within(config, entries, change, limits)
+    follow_within(config, entries, changes, limits)
 }
 
-// Makes the entries stand for tables after a change, and queues what it touches, where their size is within the limits. After a fault all but the
-// queue's room is as before.
-fn follow_all(
+/// Makes the entries stand for tables after changes, and queues what they touch, where their size is within the limits. After a fault all but the
+/// queue's room is as before.
+pub fn follow_all(
     alloc: Global,
     config: &Config,
     entries: &mut Entries,
     queue: &mut Queue,
-    change: Change,
+    changes: &[Change],
     limits: Limits,
 ) -> Result<(), ApplyError>
     requires room { limits.room < 2 ^ 32 - 1 }
-    requires before { (S : TablesValue) × StandsFor entries.old S × Differ (change ∷ []) S config.now.tables × (size S ≤ limits.room) }
+    requires before { (S : TablesValue) × StandsFor entries.old S × Differ changes.now S config.now.tables × (size S ≤ limits.room) }
     ensures stands { OnOk result (StandsFor entries.new config.now.tables) }
-    ensures queued { OnOk result ((S : TablesValue) → StandsFor entries.old S → Differ (change ∷ []) S config.now.tables → (d : PrefixValue) → is_some (rank_in queue.new.members d) ≡ is_some (rank_in queue.old.members d) || is_touched S config.now.tables d) }
+    ensures queued { OnOk result ((S : TablesValue) → StandsFor entries.old S → Differ changes.now S config.now.tables → (d : PrefixValue) → is_some (rank_in queue.new.members d) ≡ is_some (rank_in queue.old.members d) || is_touched S config.now.tables d) }
     ensures ranks { OnOk result (AreRanked entries.old.rows queue.old.members → AreRanked entries.new.rows queue.new.members) }
     ensures fits { OnOk result ((size config.now.tables ≤ limits.room) × (size config.now.tables ≤ limits.free)) }
     ensures why { IfErr result (IsTooMuch limits (size config.now.tables)) }
     ensures queue { OnErr result (queue.new.members ≡ queue.old.members) }
     ensures entries { OnErr result (entries.new ≡ entries.old) }
 {
-    let followed = follow(alloc, config, entries, queue, change, limits)?;
+    let followed = follow(alloc, config, entries, queue, changes, limits)?;
     queue_all(queue, entries, &followed);
     Ok(())
 }
@@ -168,7 +168,7 @@ pub fn change(
         Ok(edited) => edited,
         Err(error) => return Err(fault_of(error)),
     };
-    match follow_all(alloc, config, entries, queue, change, limits) {
+    match follow_all(alloc, config, entries, queue, &[change], limits) {
         Ok(()) => {
             forget(undo);
             Ok(())

@@ -4,6 +4,7 @@
 //! carries proofs.
 #![tactic(auto)]
 
+mod batches;
 mod beginning;
 mod control;
 mod crew;
@@ -15,7 +16,7 @@ mod queueing;
 mod settling;
 
 pub use control::Control;
-pub use errors::{ApplyError, Busy};
+pub use errors::{ApplyError, BatchApplyError, Busy};
 
 #[cfg(test)]
 mod tests;

@@ -1,5 +1,6 @@
 // A control plane over a plain board, by its calls.
-ghost use Rattle.std.specs.Prelude.{IfOk};
+ghost use Rattle.std.specs.Prelude.{IfOk, ◌<◌, ◌^◌, length};
+ghost use Rattle.std.specs.List.{AllByRecursion};
 ghost use Rattle.fib_resolve.specs.Reachable.{IsWritten};
 ghost use Rattle.fib_control.specs.inner.Rested.{IsRested};
 
@@ -137,6 +138,51 @@ fn three_lines_and_a_route(rt: HostRuntime) -> Result<(), Fail> {
     assert_eq!(rt; control.mark_settled(), Ok(4));
     assert!(rt; control.is_quiet());
     assert_eq!(rt; control.tables().routes.len(), 1);
+    Ok(())
+}
+
+// Why they aren't made, if they aren't.
+fn apply_all(control: &mut Control<PlainBoard>, edits: &[Edit]) -> Result<u32, BatchApplyError>
+    requires written { AllByRecursion IsWritten edits.now }
+    requires few { length edits.now < 2 ^ 32 }
+{
+    if control.version().applied == u32::MAX {
+        return Err(BatchApplyError::Memory);
+    }
+    control.apply_all(edits)
+}
+
+#[test]
+fn four_edits_as_one_change(rt: HostRuntime) -> Result<(), Fail> {
+    let alloc = rt.alloc();
+    let mut control = fresh(alloc)?;
+    let edits = [
+        edit_of(alloc, 0)?,
+        edit_of(alloc, 1)?,
+        edit_of(alloc, 2)?,
+        edit_of(alloc, 3)?,
+    ];
+    assert_eq!(rt; apply_all(&mut control, &edits), Ok(1));
+    assert_eq!(rt; turns(&mut control, 10)?, 6);
+    assert_eq!(rt; control.scan(), 0);
+    assert_eq!(rt; control.retry(), 0);
+    assert_eq!(rt; control.mark_settled(), Ok(1));
+    Ok(())
+}
+
+#[test]
+fn a_refused_edit_of_a_batch(rt: HostRuntime) -> Result<(), Fail> {
+    let alloc = rt.alloc();
+    let mut control = fresh(alloc)?;
+    let edits = [edit_of(alloc, 0)?, edit_of(alloc, 2)?, edit_of(alloc, 0)?];
+    let refusal = Refusal::InterfaceExists;
+    assert_eq!(rt;
+        apply_all(&mut control, &edits),
+        Err(BatchApplyError::Refused { place: 2, refusal })
+    );
+    assert!(rt; control.is_quiet());
+    assert_eq!(rt; control.tables().interfaces.len(), 0);
+    assert_eq!(rt; control.version().applied, 0);
     Ok(())
 }
 
