@@ -1,4 +1,4 @@
-# Read by the scripts here and by tests/driven.sh. `beside CRATE..` makes a temporary folder, which goes at the end, with copies of these crates and
+# Read by the scripts here. `beside CRATE..` makes a temporary folder, which goes at the end, with copies of these crates and
 # of those that they stand on, and a crate `measure` over them, whose src/ is still to be written. The folder is $work, the repository $top.
 # Libraries that stand built are copied too: rt takes them where they are of the same text.
 beside() {
