@@ -6,7 +6,7 @@ beside() {
     work=$(mktemp -d)
     trap 'rm -rf "$work"' EXIT
     mkdir -p "$work/crates/measure/src"
-    names=$(for crate in "$@"; do sed -n "s/^$crate: / $crate /p" "$top/crates.txt"; done)
+    names=$(for crate in "$@"; do sed -n "s/^$crate\( [^:]*\)\{0,1\}: / $crate /p" "$top/crates.txt"; done)
     names=$(echo "$names" | tr ' ' '\n' | sort -u | tr '\n' ' ')
     for crate in $names; do
         if [ -d "$top/crates/$crate" ]; then
@@ -20,7 +20,7 @@ beside() {
                 mkdir "$work/crates/$crate/out"
                 cp -r "$top/crates/$crate/out/rlib" "$work/crates/$crate/out/"
             fi
-            grep "^$crate:" "$top/crates.txt" >> "$work/crates.txt"
+            grep "^$crate[ :]" "$top/crates.txt" >> "$work/crates.txt"
         fi
     done
     echo "measure: $names" >> "$work/crates.txt"
