@@ -1,17 +1,19 @@
 // What the trials answer.
 use crate::alone::three_lines;
 use crate::changes::eight;
-use crate::held::{Found, deleted_while_held, held_after};
+use crate::held::{Deleted, Found, deleted_while_held, held_after};
 use crate::prefixes::{add_new, first_balance, fresh, remove_both, started};
 use crate::records::{first_user, let_go, listed_users, user_goes};
 use crate::sets::{Numbers, is_right};
 use crate::steps::Answers;
+use crate::trouble::Trouble;
 use fib_addr::{Addr, Prefix};
 use fib_control::Busy;
 use fib_core::{Record, Version};
 use fib_joined::Objects;
 use fib_resolve::End;
 use fib_stack::Turn;
+use std::alloc::Global;
 use std::test::Fail;
 
 #[test]
@@ -135,30 +137,50 @@ fn spans(record: &Record) -> bool {
             }
 }
 
-#[test]
-fn sixteen_buckets_wait_for_a_held_pass(rt: HostRuntime) -> Result<(), Fail> {
+// Whether that is what is found of a pass that was held after so many hops.
+fn is_found(found: &Found, hops: u32) -> bool {
     let turn = Turn::Restacked {
         entry: eight(60),
         stores: 16,
         dropped: 16,
     };
+    found.turn == turn
+        && waits(found)
+        && spans(&found.record)
+        && found.record.end == end_after(hops)
+        && is_calm(&found.ended, 9)
+        && found.end == hop_to(0x0a00_0008)
+}
+
+fn finds(alloc: Global, hops: u32) -> Result<bool, Trouble> {
+    match held_after(alloc, hops) {
+        Ok(found) => Ok(is_found(&found, hops)),
+        Err(trouble) => Err(trouble),
+    }
+}
+
+#[test]
+fn sixteen_buckets_wait_for_a_held_pass(rt: HostRuntime) -> Result<(), Fail> {
     for hops in 0..8 {
-        let found = held_after(rt.alloc(), hops)?;
-        assert_eq!(rt; found.turn, turn);
-        assert!(rt; waits(&found), "{hops} hops: {found:?}");
-        assert!(rt; spans(&found.record), "{hops} hops: {found:?}");
-        assert_eq!(rt; found.record.end, end_after(hops), "{hops} hops");
-        assert!(rt; is_calm(&found.ended, 9), "{hops} hops: {found:?}");
-        assert_eq!(rt; found.end, hop_to(0x0a00_0008));
+        assert!(rt; finds(rt.alloc(), hops)?, "{hops} hops");
     }
     Ok(())
 }
 
+// Whether that is what is found where the route is deleted.
+fn is_deleted(deleted: &Deleted) -> bool {
+    deleted.record.end == End::Drop && is_calm(&deleted.ended, 10) && deleted.end == End::Drop
+}
+
+fn deletes(alloc: Global) -> Result<bool, Trouble> {
+    match deleted_while_held(alloc) {
+        Ok(deleted) => Ok(is_deleted(&deleted)),
+        Err(trouble) => Err(trouble),
+    }
+}
+
 #[test]
 fn a_route_is_deleted_while_its_buckets_wait(rt: HostRuntime) -> Result<(), Fail> {
-    let deleted = deleted_while_held(rt.alloc())?;
-    assert_eq!(rt; deleted.record.end, End::Drop);
-    assert!(rt; is_calm(&deleted.ended, 10));
-    assert_eq!(rt; deleted.end, End::Drop);
+    assert!(rt; deletes(rt.alloc())?);
     Ok(())
 }

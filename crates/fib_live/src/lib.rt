@@ -1,0 +1,9 @@
+//! A control plane over live cells, beside workers that forward: trials of both together, as library functions.
+//!
+//! `specs/Crewed.antt` says who of a board's workers is out.
+#![tactic(auto)]
+
+pub mod alone;
+pub mod live;
+#[cfg(test)]
+mod tests;
