@@ -1,0 +1,96 @@
+//! Steps of a control plane over live cells with four workers.
+ghost use Rattle.std.specs.Prelude.{IfOk, IfSome, ◌≡◌};
+ghost use Rattle.fib_resolve.specs.Reachable.{IsWritten};
+ghost use Rattle.fib_cells.specs.Seats.{id_in};
+ghost use Rattle.fib_live.specs.Crewed.{IsManned, SameCrew};
+
+use fib_addr::Addr;
+use fib_cells::{Cells, ControlSeat, LiveBoard};
+use fib_commands::{Line, read_line};
+use fib_control::Control;
+use fib_core::Record;
+use fib_resolve::Edit;
+use fib_stack::Want;
+use fib_worker::{Finished, Worker};
+use std::alloc::Global;
+
+/// A control over fresh words, whose four workers are at home.
+pub fn live<'a>(
+    alloc: Global,
+    cells: &'a Cells,
+    seat: ControlSeat,
+) -> Result<Control<LiveBoard<'a>>, Want>
+    requires words { seat.id ≡ id_in cells.now }
+    requires manned { IsManned seat }
+    ensures { IfOk result (λ c. IsManned c.plane.board) }
+{
+    Control::new(alloc, LiveBoard::new(cells, seat))
+}
+
+/// The edit of a line. None where the line asks for none, or there is no memory.
+pub fn edit_of(alloc: Global, line: &str) -> Option<Edit>
+    ensures { IfSome result IsWritten }
+{
+    match read_line(alloc, line.as_bytes()) {
+        Ok(Line::Change(edit)) => Some(edit),
+        _ => None,
+    }
+}
+
+/// Makes a change, and answers its version. None where it isn't made.
+pub fn change(control: &mut Control<LiveBoard<'_>>, edit: &Edit) -> Option<u32>
+    requires { IsWritten edit.now }
+    ensures { SameCrew control.old.plane.board control.new.plane.board }
+{
+    if control.version().applied == u32::MAX {
+        return None;
+    }
+    match control.apply(edit) {
+        Ok(version) => Some(version),
+        Err(_) => None,
+    }
+}
+
+/// Makes the change of a line, and answers its version. None where it isn't made.
+pub fn change_by(alloc: Global, control: &mut Control<LiveBoard<'_>>, line: &str) -> Option<u32>
+    ensures { SameCrew control.old.plane.board control.new.plane.board }
+{
+    match edit_of(alloc, line) {
+        Some(edit) => change(control, &edit),
+        None => None,
+    }
+}
+
+/// Settles the last version, all workers being at home, and answers its number. None where there is no memory.
+pub fn settle_home(control: &mut Control<LiveBoard<'_>>) -> Option<u32>
+    requires { IsManned control.old.plane.board }
+    ensures { SameCrew control.old.plane.board control.new.plane.board }
+{
+    match control.settle_alone() {
+        Ok(version) => Some(version),
+        Err(_) => None,
+    }
+}
+
+/// A change with all its turns. How many copies of edges a scan leaves then; None where it isn't made.
+pub fn restack(control: &mut Control<LiveBoard<'_>>, edit: &Edit) -> Option<u32>
+    requires { IsWritten edit.now }
+    ensures { SameCrew control.old.plane.board control.new.plane.board }
+{
+    change(control, edit)?;
+    match control.walk() {
+        Ok(()) => Some(control.scan()),
+        Err(_) => None,
+    }
+}
+
+/// What a worker answers for a packet to `addr` with that flow hash. None where it has no pass left.
+pub fn pass<'a>(worker: Worker<'a>, addr: Addr, hash: u32) -> Option<(Worker<'a>, Record)>
+    ensures { IfSome result (λ r. r.0.id ≡ worker.entry.id) }
+{
+    if worker.passes_left() == 0 {
+        return None;
+    }
+    let Finished { worker, result } = worker.forward(addr, hash);
+    Some((worker, result))
+}
