@@ -18,7 +18,10 @@ fn fresh(alloc: Global) -> Result<Control<PlainBoard>, Fail>
     ensures { IfOk result (λ c. IsRested c.plane.board) }
 {
     let board = PlainBoard::new(alloc, 200, 1)?;
-    Ok(Control::new(alloc, board)?)
+    match Control::new(alloc, board) {
+        Ok(control) => Ok(control),
+        Err(_) => Err("no memory".into()),
+    }
 }
 
 fn name(alloc: Global) -> Result<Name, Fail> {
@@ -93,51 +96,127 @@ fn turns(control: &mut Control<PlainBoard>, most: u32) -> Result<u32, Fail> {
     Err("no end".into())
 }
 
+// What a control answers at any time, and where it sends a packet to 50.1.1.1.
+#[derive(Clone, Copy, Debug, PartialEq, Eq)]
+struct Seen {
+    used: u32,
+    version: Version,
+    queued: usize,
+    deferred: u32,
+    retired: u32,
+    entries: usize,
+    routes: usize,
+    end: End,
+}
+
+fn look_at(control: &Control<PlainBoard>) -> Seen {
+    Seen {
+        used: control.used(),
+        version: control.version(),
+        queued: control.queued(),
+        deferred: control.deferred(),
+        retired: control.retired(),
+        entries: control.entries().len(),
+        routes: control.tables().routes.len(),
+        end: control.lookup(Addr(0x3201_0101), 5),
+    }
+}
+
+// What a scan, a retry and settling answer.
+#[derive(Clone, Copy, Debug, PartialEq, Eq)]
+struct Rest {
+    left: u32,
+    late: u32,
+    settled: Option<u32>,
+    quiet: bool,
+}
+
+fn wind_up(control: &mut Control<PlainBoard>) -> Rest {
+    Rest {
+        left: control.scan(),
+        late: control.retry(),
+        settled: control.mark_settled().ok(),
+        quiet: control.is_quiet(),
+    }
+}
+
+// Nothing waited, and this version is settled.
+fn settled(version: u32) -> Rest {
+    Rest {
+        left: 0,
+        late: 0,
+        settled: Some(version),
+        quiet: true,
+    }
+}
+
+// A control before its first change.
+fn is_fresh(control: &mut Control<PlainBoard>) -> bool {
+    let found = look_at(control);
+    found.used == 20
+        && found.version == Version::settled_at(0)
+        && found.entries == 5
+        && found.end == End::Drop
+        && wind_up(control) == settled(0)
+}
+
 #[test]
 fn a_fresh_control_is_quiet(rt: HostRuntime) -> Result<(), Fail> {
     let mut control = fresh(rt.alloc())?;
-    assert_eq!(rt; control.used(), 20);
-    assert!(rt; control.is_quiet());
-    assert_eq!(rt;
-        control.version(),
-        Version {
-            settled: 0,
-            applied: 0
-        }
-    );
-    assert_eq!(rt; control.turn(), Ok(Turn::Idle));
-    assert_eq!(rt; control.scan(), 0);
-    assert_eq!(rt; control.retry(), 0);
-    assert_eq!(rt; control.mark_settled(), Ok(0));
-    assert_eq!(rt; control.entries().len(), 5);
-    assert!(rt; control.object_of(Prefix::masked(Addr(0), 0)).is_some());
+    let right = is_fresh(&mut control);
+    assert!(rt; right);
     Ok(())
+}
+
+// Whether a first line again is refused, and 0.0.0.0/0 has its object all the while.
+fn refuses_again(alloc: Global, control: &mut Control<PlainBoard>) -> Result<bool, Fail> {
+    let again = edit_of(alloc, 0)?;
+    let refused = Err(ApplyError::Refused(Refusal::InterfaceExists));
+    Ok(apply(control, &again) == refused && control.object_of(Prefix::masked(Addr(0), 0)).is_some())
+}
+
+// What is queued, how many turns it makes, and what is left then.
+fn turned(control: &mut Control<PlainBoard>) -> Result<(usize, u32, Rest), Fail> {
+    let queued = control.queued();
+    let count = turns(control, 10)?;
+    Ok((queued, count, wind_up(control)))
+}
+
+// Three lines without a turn.
+fn base(alloc: Global, control: &mut Control<PlainBoard>) -> Result<u32, Fail> {
+    applied(alloc, control, 0)?;
+    applied(alloc, control, 1)?;
+    applied(alloc, control, 2)
+}
+
+fn three_lines(
+    alloc: Global,
+    control: &mut Control<PlainBoard>,
+) -> Result<(usize, u32, Rest), Fail> {
+    base(alloc, control)?;
+    turned(control)
+}
+
+fn and_a_route(
+    alloc: Global,
+    control: &mut Control<PlainBoard>,
+) -> Result<(usize, u32, Rest), Fail> {
+    applied(alloc, control, 3)?;
+    turned(control)
+}
+
+fn are_right(alloc: Global, control: &mut Control<PlainBoard>) -> Result<bool, Fail> {
+    let first = three_lines(alloc, control)?;
+    let second = and_a_route(alloc, control)?;
+    let refused = refuses_again(alloc, control)?;
+    Ok(first == (4, 4, settled(3)) && second == (2, 2, settled(4)) && refused)
 }
 
 #[test]
 fn three_lines_and_a_route(rt: HostRuntime) -> Result<(), Fail> {
-    let alloc = rt.alloc();
-    let mut control = fresh(alloc)?;
-    assert_eq!(rt; applied(alloc, &mut control, 0)?, 1);
-    assert_eq!(rt; applied(alloc, &mut control, 1)?, 2);
-    assert_eq!(rt; applied(alloc, &mut control, 2)?, 3);
-    assert_eq!(rt; control.queued(), 4);
-    let again = edit_of(alloc, 0)?;
-    assert_eq!(rt;
-        apply(&mut control, &again),
-        Err(ApplyError::Refused(Refusal::InterfaceExists))
-    );
-    assert!(rt; control.mark_settled().is_err());
-    assert_eq!(rt; turns(&mut control, 10)?, 4);
-    assert_eq!(rt; control.scan(), 0);
-    assert_eq!(rt; control.retry(), 0);
-    assert_eq!(rt; control.mark_settled(), Ok(3));
-    assert_eq!(rt; applied(alloc, &mut control, 3)?, 4);
-    assert_eq!(rt; turns(&mut control, 10)?, 2);
-    assert_eq!(rt; control.scan(), 0);
-    assert_eq!(rt; control.mark_settled(), Ok(4));
-    assert!(rt; control.is_quiet());
-    assert_eq!(rt; control.tables().routes.len(), 1);
+    let mut control = fresh(rt.alloc())?;
+    let right = are_right(rt.alloc(), &mut control)?;
+    assert!(rt; right);
     Ok(())
 }
 
@@ -152,37 +231,71 @@ fn apply_all(control: &mut Control<PlainBoard>, edits: &[Edit]) -> Result<u32, B
     control.apply_all(edits)
 }
 
+// The edits of these numbers.
+fn edits_of(alloc: Global, numbers: &[u32]) -> Result<Vec<Edit>, Fail>
+    requires { length numbers.now < 100 }
+    ensures written { IfOk result (λ v. AllByRecursion IsWritten v.items) }
+    ensures few { IfOk result (λ v. length v.items < 2 ^ 32) }
+{
+    let mut edits = Vec::new(alloc);
+    for place in 0..numbers.len() {
+        edits.push(edit_of(alloc, numbers[place])?)?;
+    }
+    Ok(edits)
+}
+
+fn batch(
+    alloc: Global,
+    control: &mut Control<PlainBoard>,
+    numbers: &[u32],
+) -> Result<Result<u32, BatchApplyError>, Fail>
+    requires { length numbers.now < 100 }
+{
+    let edits = edits_of(alloc, numbers)?;
+    Ok(apply_all(control, edits.as_slice()))
+}
+
+// A batch, its turns, and what is left.
+fn batch_done(
+    alloc: Global,
+    control: &mut Control<PlainBoard>,
+    numbers: &[u32],
+) -> Result<(Option<u32>, u32, Rest), Fail>
+    requires { length numbers.now < 100 }
+{
+    let made = batch(alloc, control, numbers)?.ok();
+    Ok((made, turns(control, 10)?, wind_up(control)))
+}
+
+fn is_one_change(alloc: Global, control: &mut Control<PlainBoard>) -> Result<bool, Fail> {
+    let found = batch_done(alloc, control, &[0, 1, 2, 3])?;
+    Ok(found == (Some(1), 6, settled(1)))
+}
+
 #[test]
 fn four_edits_as_one_change(rt: HostRuntime) -> Result<(), Fail> {
-    let alloc = rt.alloc();
-    let mut control = fresh(alloc)?;
-    let edits = [
-        edit_of(alloc, 0)?,
-        edit_of(alloc, 1)?,
-        edit_of(alloc, 2)?,
-        edit_of(alloc, 3)?,
-    ];
-    assert_eq!(rt; apply_all(&mut control, &edits), Ok(1));
-    assert_eq!(rt; turns(&mut control, 10)?, 6);
-    assert_eq!(rt; control.scan(), 0);
-    assert_eq!(rt; control.retry(), 0);
-    assert_eq!(rt; control.mark_settled(), Ok(1));
+    let mut control = fresh(rt.alloc())?;
+    let right = is_one_change(rt.alloc(), &mut control)?;
+    assert!(rt; right);
     Ok(())
+}
+
+// Whether a batch is refused for its third edit.
+fn is_refused(alloc: Global, control: &mut Control<PlainBoard>) -> Result<bool, Fail> {
+    let refusal = Refusal::InterfaceExists;
+    Ok(batch(alloc, control, &[0, 2, 0])? == Err(BatchApplyError::Refused { place: 2, refusal }))
+}
+
+fn is_taken_back(alloc: Global, control: &mut Control<PlainBoard>) -> Result<bool, Fail> {
+    let refused = is_refused(alloc, control)?;
+    Ok(refused && control.tables().interfaces.len() == 0 && wind_up(control) == settled(0))
 }
 
 #[test]
 fn a_refused_edit_of_a_batch(rt: HostRuntime) -> Result<(), Fail> {
-    let alloc = rt.alloc();
-    let mut control = fresh(alloc)?;
-    let edits = [edit_of(alloc, 0)?, edit_of(alloc, 2)?, edit_of(alloc, 0)?];
-    let refusal = Refusal::InterfaceExists;
-    assert_eq!(rt;
-        apply_all(&mut control, &edits),
-        Err(BatchApplyError::Refused { place: 2, refusal })
-    );
-    assert!(rt; control.is_quiet());
-    assert_eq!(rt; control.tables().interfaces.len(), 0);
-    assert_eq!(rt; control.version().applied, 0);
+    let mut control = fresh(rt.alloc())?;
+    let right = is_taken_back(rt.alloc(), &mut control)?;
+    assert!(rt; right);
     Ok(())
 }
 
@@ -190,6 +303,9 @@ fn a_refused_edit_of_a_batch(rt: HostRuntime) -> Result<(), Fail> {
 fn passed(control: &mut Control<PlainBoard>) -> Result<End, Fail>
     requires { IsRested control.old.plane.board }
 {
+    if control.running(0) {
+        return Err("a pass runs".into());
+    }
     control.begin(0, Addr(0x3201_0101), 5);
     if control.hop(0).is_some() {
         return Err("the first hop ends".into());
@@ -203,7 +319,7 @@ fn passed(control: &mut Control<PlainBoard>) -> Result<End, Fail>
 #[test]
 fn a_pass_beneath_a_fresh_control(rt: HostRuntime) -> Result<(), Fail> {
     let mut control = fresh(rt.alloc())?;
-    assert!(rt; !control.running(0));
-    assert_eq!(rt; passed(&mut control)?, End::Drop);
+    let end = passed(&mut control)?;
+    assert_eq!(rt; end, End::Drop);
     Ok(())
 }
