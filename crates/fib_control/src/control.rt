@@ -16,6 +16,7 @@ ghost use Rattle.fib_pool.specs.Objects.{free_in};
 ghost use Rattle.fib_ply.specs.Rows.{held};
 ghost use Rattle.fib_core.specs.declared.word.Word.{Word};
 ghost use Rattle.fib_ledger.specs.Deferred.{late_at};
+ghost use Rattle.fib_quiet.specs.Rest.{IsAccounted};
 ghost use Rattle.fib_stack.specs.Done.{IsCounted, IsStored, StaysLate, TurnDone};
 ghost use Rattle.fib_entries.specs.Known.{StandsFor, rank_of};
 ghost use Rattle.fib_shared.specs.Shares.{promise_of, view_of};
@@ -128,10 +129,12 @@ impl<B: Board> Control<B> {
         self.shared.version()
     }
 
-    /// How many objects aren't free. On a quiet control as many as the size of the tables says.
+    /// How many objects aren't free. On a quiet control as many as the size of the tables says; and already where nothing is queued each of them is
+    /// one that the size counts, or an edge of the union leads to it, current or retired.
     pub fn used(&self) -> u32
         ensures used { result ≡ length self.now.plane.objects - free_in self.now.plane.objects }
         ensures quiet { IsQuiet self.now → result ≡ size (tables_in self.now) }
+        ensures counted { self.now.queue ≡ [] → IsAccounted (tables_in self.now) self.now.plane }
     {
         self.shared.tells();
         self.table.tells();
