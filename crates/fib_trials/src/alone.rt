@@ -4,7 +4,7 @@ ghost use Rattle.fib_trials.specs.Seats.{IsHome, first_seats, seats_in};
 
 use crate::held::base;
 use crate::steps::{fresh, settle};
-use crate::trouble::{Trouble, of_want};
+use crate::trouble::Trouble;
 use fib_control::{Busy, Control};
 use fib_plainboard::PlainBoard;
 use std::alloc::Global;
@@ -14,7 +14,7 @@ fn settle_alone(control: &mut Control<PlainBoard>) -> Result<u32, Trouble>
 {
     match control.settle_alone() {
         Ok(version) => Ok(version),
-        Err(want) => Err(of_want(want)),
+        Err(_) => Err(Trouble::Memory),
     }
 }
 

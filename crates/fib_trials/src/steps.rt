@@ -6,7 +6,7 @@ ghost use Rattle.fib_trials.specs.Calm.{AreCalm};
 ghost use Rattle.fib_trials.specs.Seats.{IsHome, first_seats, seats_in};
 
 use crate::changes::change;
-use crate::trouble::{Trouble, of_apply, of_want};
+use crate::trouble::{Trouble, of_apply};
 use fib_addr::Prefix;
 use fib_control::{Busy, Control};
 use fib_plainboard::PlainBoard;
@@ -56,7 +56,7 @@ fn turn(control: &mut Control<PlainBoard>) -> Result<Turn, Trouble>
 {
     match control.turn() {
         Ok(turn) => Ok(turn),
-        Err(want) => Err(of_want(want)),
+        Err(_) => Err(Trouble::Memory),
     }
 }
 
@@ -124,7 +124,7 @@ pub fn walk(control: &mut Control<PlainBoard>) -> Result<(), Trouble>
 {
     match control.walk() {
         Ok(()) => Ok(()),
-        Err(want) => Err(of_want(want)),
+        Err(_) => Err(Trouble::Memory),
     }
 }
 
