@@ -7,8 +7,6 @@ pub mod Moves
 pub mod Spans
 pub mod Lining
 pub mod Writing
-pub mod Shares
-pub mod Crews
 pub mod Closing
 pub mod Quiet
 pub mod Tallies
