@@ -8,5 +8,9 @@ pub mod Spans
 pub mod Lining
 pub mod Writing
 pub mod Closing
+pub mod Laid
+pub mod Forwarding
+pub mod Rounding
+pub mod Running
 pub mod Quiet
 pub mod Tallies

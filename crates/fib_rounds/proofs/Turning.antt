@@ -102,3 +102,12 @@ left_keeps r (Some b) = refl
 pub end_keeps : (r : Router) → (end_turn r).0.config.tables ≡ r.config.tables
 unfolding end_turn
 end_keeps r = left_keeps r r.batch
+
+left_counts : (r : Router) (o : Option Batch) → (left_turn r o).0.changes ≡ r.changes
+left_counts r None = refl
+left_counts r (Some b) = refl
+
+-- and is none
+pub end_counts : (r : Router) → (end_turn r).0.changes ≡ r.changes
+unfolding end_turn
+end_counts r = left_counts r r.batch

@@ -9,3 +9,4 @@ pub mod Runs
 pub mod Rounds
 pub mod Writes
 pub mod Quiet
+pub mod inner

@@ -91,6 +91,11 @@ abbrev pub closed_text : Router → Option ℕ → List ℕ
 closed_text r None = (end_turn r).1
 closed_text r (Some k) = []
 
+-- where a run stands once a round is closed, which one opens next
+abbrev pub closed_by : Stage → Option Opening → Stage
+closed_by at None = record { router = closed_router at.router None; history = at.history }
+closed_by at (Some o) = at
+
 -- a round was run: what it prints and with which results
 pub record HasRun (script : List (List ℕ)) (packets : Capture) (before : Stage) (round : Opening) (after : Stage) (next : Option Opening) (results : List Record) (out : List ℕ) : Type 0 where
   pub prints : (later : List Record) (rest : List ℕ)

@@ -5,13 +5,16 @@
 #![tactic(auto)]
 
 mod counts;
+mod fault;
 pub mod laws;
 mod lines;
 mod opening;
 mod put;
+mod round;
+mod rounds;
 mod summary;
 
-pub use lines::{Stop, run_lines};
-pub use opening::{Opening, next_round};
+pub use fault::RunFault;
 pub use put::put_all;
+pub use rounds::{run, run_on};
 pub use summary::Summary;

@@ -1,0 +1,131 @@
+// The rounds of a script.
+ghost use Rattle.std.specs.Prelude.{◌≡◌, ◌≤◌, ◌/◌, length, OnOk, OnErr, IfOk, IsErrOf};
+ghost use Rattle.fib_outside.specs.Outside.{HasRisen};
+ghost use Rattle.fib_settings.specs.Ranges.{InRange};
+ghost use Rattle.fib_homing.specs.Homes.{NoneOut};
+ghost use Rattle.fib_rounds.specs.Output.{FirstOutput, Output};
+ghost use Rattle.fib_rounds.specs.Runs.{GainsRun, IsNew};
+ghost use Rattle.fib_rounds.specs.Summaries.{summary_of};
+ghost use Rattle.fib_rounds.specs.Writes.{Gains};
+
+use crate::fault::RunFault;
+use crate::opening::Opening;
+use crate::put::{put_all, put_last, write_frames};
+use crate::round::{Ran, run_round};
+use crate::summary::Summary;
+use fib_capture::Capture;
+use fib_cells::{Cells, LiveBoard};
+use fib_commands::Script;
+use fib_control::Control;
+use fib_outside::{Gate, Sink};
+use fib_settings::Settings;
+use fib_turns::Progress;
+use std::alloc::Global;
+use std::sync::Wait;
+use std::thread::Threads;
+
+/// Runs a script over a capture's packets on a control plane before its first change, and answers the run's counts.
+///
+/// The lines of each round are run in one thread while its packets are forwarded on the control plane's workers in others, which claim them by frames of
+/// 256; where no thread can be made, the caller does that work. After a fault, as after Ok, no worker is out.
+pub fn run_on<'a, R: Threads + Wait + Sync, K: Sink, G: Gate>(
+    rt: &R,
+    alloc: Global,
+    settings: Settings,
+    script: &Script,
+    packets: &Capture,
+    control: &mut Control<LiveBoard<'a>>,
+    out: &mut K,
+    gate: &G,
+) -> Result<Summary, RunFault>
+    requires settings { InRange settings }
+    requires fresh { IsNew settings.workers (settings.objects / 2) control.old }
+    requires few { length script.now ≤ 65535 }
+    ensures ok { OnOk result (GainsRun settings.workers (settings.objects / 2) script.now packets.now control.new (K.written out.old) (K.written out.new)) }
+    ensures summary { IfOk result (λ s. s ≡ summary_of (settings.objects / 2) script.now packets.now) }
+    ensures some { OnErr result (Gains (FirstOutput (settings.objects / 2) script.now packets.now) (K.written out.old) (K.written out.new)) }
+    ensures write { IsErrOf result RunFault.Write → HasRisen (K.faults out.old) (K.faults out.new) }
+    ensures counted { K.faults out.old ≤ K.faults out.new }
+    ensures none { NoneOut control.new.plane.board }
+{
+    let mut progress = Progress::new();
+    let mut counts = Summary::zero();
+    let mut text = Vec::new(alloc);
+    let mut refused_lines = 0;
+    let mut next = Some(Opening {
+        place: 0,
+        first: 0,
+        to: 0,
+    });
+    'rounds: while let Some(round) = next {
+        text.clear();
+        let Ran {
+            next: later,
+            places,
+            refused,
+        } = run_round(
+            rt,
+            alloc,
+            gate,
+            settings,
+            control,
+            &mut progress,
+            &mut text,
+            &mut counts,
+            script,
+            packets,
+            round,
+        )?;
+        put_all(out, &text)?;
+        write_frames(
+            out,
+            &mut text,
+            control.tables(),
+            packets,
+            round.first,
+            round.to,
+            places.as_slice(),
+        )?;
+        refused_lines = refused;
+        next = later;
+    }
+    text.clear();
+    put_last(&mut text, packets)?;
+    put_all(out, &text)?;
+    counts.accepted = control.version().applied;
+    counts.refused = refused_lines;
+    Ok(counts)
+}
+
+/// Runs a script over a capture's packets with these settings, and answers the run's counts: makes the cells, the board and the control plane, and calls
+/// [`run_on`].
+pub fn run<R: Threads + Wait + Sync, K: Sink, G: Gate>(
+    rt: &R,
+    alloc: Global,
+    settings: Settings,
+    script: &Script,
+    packets: &Capture,
+    out: &mut K,
+    gate: &G,
+) -> Result<Summary, RunFault>
+    requires settings { InRange settings }
+    requires few { length script.now ≤ 65535 }
+    ensures ok { OnOk result (Gains (Output (settings.objects / 2) script.now packets.now) (K.written out.old) (K.written out.new)) }
+    ensures summary { IfOk result (λ s. s ≡ summary_of (settings.objects / 2) script.now packets.now) }
+    ensures some { OnErr result (Gains (FirstOutput (settings.objects / 2) script.now packets.now) (K.written out.old) (K.written out.new)) }
+    ensures write { IsErrOf result RunFault.Write → HasRisen (K.faults out.old) (K.faults out.new) }
+    ensures counted { K.faults out.old ≤ K.faults out.new }
+{
+    let (cells, seat) = Cells::new(alloc, settings.objects, settings.workers)?;
+    let mut control = Control::new(alloc, LiveBoard::new(&cells, seat))?;
+    run_on(
+        rt,
+        alloc,
+        settings,
+        script,
+        packets,
+        &mut control,
+        out,
+        gate,
+    )
+}
