@@ -160,14 +160,6 @@ fn is_fresh(control: &mut Control<PlainBoard>) -> bool {
         && wind_up(control) == settled(0)
 }
 
-#[test]
-fn a_fresh_control_is_quiet(rt: HostRuntime) -> Result<(), Fail> {
-    let mut control = fresh(rt.alloc())?;
-    let right = is_fresh(&mut control);
-    assert!(rt; right);
-    Ok(())
-}
-
 // Whether a first line again is refused, and 0.0.0.0/0 has its object all the while.
 fn refuses_again(alloc: Global, control: &mut Control<PlainBoard>) -> Result<bool, Fail> {
     let again = edit_of(alloc, 0)?;
@@ -210,14 +202,6 @@ fn are_right(alloc: Global, control: &mut Control<PlainBoard>) -> Result<bool, F
     let second = and_a_route(alloc, control)?;
     let refused = refuses_again(alloc, control)?;
     Ok(first == (4, 4, settled(3)) && second == (2, 2, settled(4)) && refused)
-}
-
-#[test]
-fn three_lines_and_a_route(rt: HostRuntime) -> Result<(), Fail> {
-    let mut control = fresh(rt.alloc())?;
-    let right = are_right(rt.alloc(), &mut control)?;
-    assert!(rt; right);
-    Ok(())
 }
 
 // Why they aren't made, if they aren't.
@@ -272,14 +256,6 @@ fn is_one_change(alloc: Global, control: &mut Control<PlainBoard>) -> Result<boo
     Ok(found == (Some(1), 6, settled(1)))
 }
 
-#[test]
-fn four_edits_as_one_change(rt: HostRuntime) -> Result<(), Fail> {
-    let mut control = fresh(rt.alloc())?;
-    let right = is_one_change(rt.alloc(), &mut control)?;
-    assert!(rt; right);
-    Ok(())
-}
-
 // Whether a batch is refused for its third edit.
 fn is_refused(alloc: Global, control: &mut Control<PlainBoard>) -> Result<bool, Fail> {
     let refusal = Refusal::InterfaceExists;
@@ -289,14 +265,6 @@ fn is_refused(alloc: Global, control: &mut Control<PlainBoard>) -> Result<bool, 
 fn is_taken_back(alloc: Global, control: &mut Control<PlainBoard>) -> Result<bool, Fail> {
     let refused = is_refused(alloc, control)?;
     Ok(refused && control.tables().interfaces.len() == 0 && wind_up(control) == settled(0))
-}
-
-#[test]
-fn a_refused_edit_of_a_batch(rt: HostRuntime) -> Result<(), Fail> {
-    let mut control = fresh(rt.alloc())?;
-    let right = is_taken_back(rt.alloc(), &mut control)?;
-    assert!(rt; right);
-    Ok(())
 }
 
 // Where a packet to 50.1.1.1 ends, by two hops.
@@ -316,10 +284,41 @@ fn passed(control: &mut Control<PlainBoard>) -> Result<End, Fail>
     }
 }
 
+// Where that packet ends is where nothing leads.
+fn drops(control: &mut Control<PlainBoard>) -> Result<bool, Fail>
+    requires { IsRested control.old.plane.board }
+{
+    Ok(passed(control)? == End::Drop)
+}
+
+// How many things there are to do on a control of their own.
+const SCENES: u32 = 5;
+
+fn is_right(alloc: Global, control: &mut Control<PlainBoard>, scene: u32) -> Result<bool, Fail>
+    requires { IsRested control.old.plane.board }
+{
+    match scene {
+        0 => Ok(is_fresh(control)),
+        1 => are_right(alloc, control),
+        2 => is_one_change(alloc, control),
+        3 => is_taken_back(alloc, control),
+        _ => drops(control),
+    }
+}
+
+// The one owner of a control: the prover follows every way out past it.
+fn plays(alloc: Global, scene: u32) -> Result<bool, Fail> {
+    let mut control = fresh(alloc)?;
+    is_right(alloc, &mut control, scene)
+}
+
+// A fresh control; three lines and a route; a batch as one change; a refused batch; a pass beneath a fresh control.
 #[test]
-fn a_pass_beneath_a_fresh_control(rt: HostRuntime) -> Result<(), Fail> {
-    let mut control = fresh(rt.alloc())?;
-    let end = passed(&mut control)?;
-    assert_eq!(rt; end, End::Drop);
+fn what_a_control_does(rt: HostRuntime) -> Result<(), Fail> {
+    for scene in 0..SCENES {
+        if !plays(rt.alloc(), scene)? {
+            return Err("a scene went otherwise".into());
+        }
+    }
     Ok(())
 }
