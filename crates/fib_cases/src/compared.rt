@@ -20,6 +20,9 @@ pub enum Part {
     Size,
     Touched,
     Lookup,
+    Window,
+    Right,
+    Steady,
 }
 
 // Whether the plain programs' pairs have that list from that source for the prefix.

@@ -1,20 +1,27 @@
-// A control over a plain board that is driven by a script's edits, with turns, scans and retries mixed in between. Once
+// A control over a plain board that is driven by a script's changes, with turns, scans and retries mixed in between. Once
 // it is quiet, what it looks up is compared with the plain program's resolution over its tables.
-ghost use Rattle.std.specs.Prelude.{◌≡◌, ◌<◌, true, IfOk, OnOk};
-ghost use Rattle.fib_resolve.specs.Reachable.{IsWritten};
+ghost use Rattle.std.specs.Prelude.{◌≡◌, ◌<◌, IfOk, OnOk};
 ghost use Rattle.fib_resolve.specs.Tables.{IsSound};
-ghost use Rattle.fib_control.specs.Controls.{IsQuiet, promise_in};
+ghost use Rattle.fib_control.specs.Controls.{IsQuiet};
+ghost use Rattle.fib_trials.specs.Seats.{IsHome, IsRested, seats_in};
+ghost use Rattle.fib_cases.specs.Changes.{AreWritten};
 
+use crate::changing::{Change, Cursor};
 use crate::compared::Part;
-use crate::followed::{Difference, edit_of};
+use crate::dice::Dice;
+use crate::followed::Difference;
+use crate::passing::{drive_beneath, may_pass};
 use fib_addr::{Addr, Prefix};
 use fib_commands::{Script, ScriptError};
-use fib_control::{ApplyError, Control};
+use fib_control::Control;
 use fib_list::Duplicate;
 use fib_plain::{Snapshot, touched};
 use fib_plainboard::PlainBoard;
-use fib_resolve::{Edit, End, Tables};
+use fib_resolve::{End, Tables};
 use fib_stack::Turn;
+use fib_trials::alone::settle_alone;
+use fib_trials::steps::{fresh_over, make, make_all, retry, scan, turn};
+use fib_trials::trouble::Trouble;
 use std::alloc::{AllocError, Global};
 use std::collections::HashSet;
 
@@ -24,102 +31,79 @@ const OBJECTS: u32 = 16384;
 // How many entries a comparison looks at.
 const SAMPLES: u32 = 64;
 
-// Numbers that look random: 32 bits that are shifted and xored.
-#[derive(Clone, Copy)]
-struct Dice {
-    bits: u32,
-}
-
-impl Dice {
-    fn next(&mut self) -> u32 {
-        self.bits ^= self.bits << 13;
-        self.bits ^= self.bits >> 17;
-        self.bits ^= self.bits << 5;
-        self.bits
-    }
-
-    // A number below that many sides.
-    fn roll(&mut self, sides: u32) -> u32
-        requires { 0 < sides }
-        ensures { result < sides }
-    {
-        self.next() % sides
-    }
-
-    // A place in a list of that length.
-    fn place(&mut self, length: usize) -> usize
-        requires { 0 < length }
-        ensures { result < length }
-    {
-        self.next() as usize % length
-    }
-}
-
 // Nobody is out.
 fn fresh(alloc: Global) -> Result<Control<PlainBoard>, AllocError>
-    ensures { IfOk result (λ c. (promise_in c).alone ≡ true) }
+    ensures { IfOk result (λ c. IsRested 0 (seats_in c)) }
 {
-    let board = PlainBoard::new(alloc, OBJECTS, 1)?;
-    match Control::new(alloc, board) {
+    match fresh_over(alloc, OBJECTS) {
         Ok(control) => Ok(control),
         Err(_) => Err(AllocError),
     }
 }
 
-// Some turns, perhaps a scan, and perhaps a retry.
-fn work(control: &mut Control<PlainBoard>, dice: &mut Dice) -> Result<(), AllocError>
-    ensures { promise_in control.new ≡ promise_in control.old }
+// A turn, if one is queued.
+fn take_turn(control: &mut Control<PlainBoard>) -> Result<(), AllocError>
+    ensures { OnOk result (seats_in control.new ≡ seats_in control.old) }
 {
-    for _turn in 0..dice.roll(6) {
-        if control.turn().is_err() {
-            return Err(AllocError);
-        }
-    }
-    if dice.roll(2) == 0 {
-        control.scan();
-    }
-    if dice.roll(2) == 0 {
-        control.retry();
-    }
-    Ok(())
-}
-
-// Settles the last version.
-fn settle(control: &mut Control<PlainBoard>) -> Result<(), AllocError>
-    requires { (promise_in control.old).alone ≡ true }
-    ensures alone { (promise_in control.new).alone ≡ true }
-    ensures quiet { OnOk result (IsQuiet control.new) }
-{
-    match control.settle_alone() {
+    match turn(control) {
         Ok(_) => Ok(()),
         Err(_) => Err(AllocError),
     }
 }
 
-fn apply(control: &mut Control<PlainBoard>, edit: &Edit) -> Result<u32, ApplyError>
-    requires { IsWritten edit.now }
-    ensures { (promise_in control.new).alone ≡ (promise_in control.old).alone }
+// Some turns, perhaps a scan, and perhaps a retry.
+pub fn work(control: &mut Control<PlainBoard>, dice: &mut Dice) -> Result<(), AllocError>
+    ensures { OnOk result (seats_in control.new ≡ seats_in control.old) }
 {
-    if control.version().applied == u32::MAX {
-        return Err(ApplyError::Memory);
+    for _turn in 0..dice.roll(6) {
+        take_turn(control)?;
     }
-    control.apply(edit)
+    if dice.roll(2) == 0 {
+        scan(control);
+    }
+    if dice.roll(2) == 0 {
+        retry(control);
+    }
+    Ok(())
 }
 
-// Makes the edit, where it isn't refused; settles before where the control is crowded.
-fn make(control: &mut Control<PlainBoard>, edit: &Edit) -> Result<bool, AllocError>
-    requires written { IsWritten edit.now }
-    requires alone { (promise_in control.old).alone ≡ true }
-    ensures alone { (promise_in control.new).alone ≡ true }
+// Settles the last version.
+pub fn settle(control: &mut Control<PlainBoard>) -> Result<(), AllocError>
+    requires { IsHome (seats_in control.old) }
+    ensures seats { seats_in control.new ≡ seats_in control.old }
+    ensures quiet { OnOk result (IsQuiet control.new) }
 {
-    match apply(control, edit) {
+    match settle_alone(control) {
+        Ok(_) => Ok(()),
+        Err(_) => Err(AllocError),
+    }
+}
+
+// Makes the change, and answers the version.
+pub fn apply(control: &mut Control<PlainBoard>, change: &Change) -> Result<u32, Trouble>
+    requires { AreWritten change.now }
+    ensures { seats_in control.new ≡ seats_in control.old }
+{
+    match change {
+        Change::One(edit) => make(control, edit),
+        Change::Batch(edits) => make_all(control, edits.as_slice()),
+    }
+}
+
+// Makes the change, where it isn't refused; settles before where the control is crowded.
+fn change_to(control: &mut Control<PlainBoard>, change: &Change) -> Result<bool, AllocError>
+    requires written { AreWritten change.now }
+    requires home { IsHome (seats_in control.old) }
+    ensures { seats_in control.new ≡ seats_in control.old }
+{
+    match apply(control, change) {
         Ok(_) => return Ok(true),
-        Err(ApplyError::Refused(_)) => return Ok(false),
-        Err(ApplyError::Crowded { .. }) => {}
-        Err(ApplyError::Memory) => return Err(AllocError),
+        Err(Trouble::Refused) => return Ok(false),
+        Err(Trouble::Object) => {}
+        Err(_) => return Err(AllocError),
     }
     settle(control)?;
-    match apply(control, edit) {
+    match apply(control, change) {
         Ok(_) => Ok(true),
         Err(_) => Err(AllocError),
     }
@@ -188,8 +172,8 @@ fn settled_difference(
     control: &mut Control<PlainBoard>,
     dice: &mut Dice,
 ) -> Result<Option<Part>, AllocError>
-    requires { (promise_in control.old).alone ≡ true }
-    ensures { (promise_in control.new).alone ≡ true }
+    requires { IsHome (seats_in control.old) }
+    ensures { seats_in control.new ≡ seats_in control.old }
 {
     settle(control)?;
     difference(alloc, control, dice)
@@ -208,9 +192,9 @@ fn note(had: &mut Vec<Prefix>, turn: &Turn) -> Result<bool, AllocError> {
 
 // A turn, noted.
 fn turn_noted(control: &mut Control<PlainBoard>, had: &mut Vec<Prefix>) -> Result<bool, AllocError>
-    ensures { promise_in control.new ≡ promise_in control.old }
+    ensures { OnOk result (seats_in control.new ≡ seats_in control.old) }
 {
-    match control.turn() {
+    match turn(control) {
         Ok(turn) => note(had, &turn),
         Err(_) => Err(AllocError),
     }
@@ -218,7 +202,7 @@ fn turn_noted(control: &mut Control<PlainBoard>, had: &mut Vec<Prefix>) -> Resul
 
 // Turns until nothing is queued. The prefixes that had one, in order.
 fn restacked(alloc: Global, control: &mut Control<PlainBoard>) -> Result<Vec<Prefix>, AllocError>
-    ensures { promise_in control.new ≡ promise_in control.old }
+    ensures { OnOk result (seats_in control.new ≡ seats_in control.old) }
 {
     let mut had = Vec::new(alloc);
     for _turn in 0..u32::MAX {
@@ -240,19 +224,19 @@ fn has_all_once(alloc: Global, had: &[Prefix], wanted: &[Prefix]) -> Result<bool
     Ok(wanted.iter().all(|p| seen.contains(p)))
 }
 
-// An edit of these tables, and all turns that it makes: each prefix that it touches has one, and none has two.
+// A change of these tables, and all turns that it makes: each prefix that it touches has one, and none has two.
 fn drive_from(
     alloc: Global,
     control: &mut Control<PlainBoard>,
     before: &Tables,
-    edit: &Edit,
+    change: &Change,
 ) -> Result<Option<Part>, AllocError>
     requires sound { IsSound before.now }
-    requires written { IsWritten edit.now }
-    requires alone { (promise_in control.old).alone ≡ true }
-    ensures alone { (promise_in control.new).alone ≡ true }
+    requires written { AreWritten change.now }
+    requires home { IsHome (seats_in control.old) }
+    ensures { OnOk result (seats_in control.new ≡ seats_in control.old) }
 {
-    if !make(control, edit)? {
+    if !change_to(control, change)? {
         return Ok(None);
     }
     let wanted = touched(alloc, before, control.tables())?;
@@ -267,76 +251,119 @@ fn drive_from(
 fn drive_whole(
     alloc: Global,
     control: &mut Control<PlainBoard>,
-    edit: &Edit,
+    change: &Change,
 ) -> Result<Option<Part>, AllocError>
-    requires written { IsWritten edit.now }
-    requires alone { (promise_in control.old).alone ≡ true }
-    ensures alone { (promise_in control.new).alone ≡ true }
+    requires written { AreWritten change.now }
+    requires home { IsHome (seats_in control.old) }
+    ensures { OnOk result (seats_in control.new ≡ seats_in control.old) }
 {
     settle(control)?;
     let before = control.tables().duplicate(alloc)?;
-    drive_from(alloc, control, &before, edit)
+    drive_from(alloc, control, &before, change)
 }
 
-// An edit, and some of the work that it makes; once in so many times all of it.
+// A change and settling.
+fn drive_settled(
+    alloc: Global,
+    control: &mut Control<PlainBoard>,
+    dice: &mut Dice,
+    change: &Change,
+) -> Result<Option<Part>, AllocError>
+    requires written { AreWritten change.now }
+    requires home { IsHome (seats_in control.old) }
+    ensures { OnOk result (seats_in control.new ≡ seats_in control.old) }
+{
+    change_to(control, change)?;
+    settled_difference(alloc, control, dice)
+}
+
+// A change, and some of the work that it makes.
+fn drive_some(
+    control: &mut Control<PlainBoard>,
+    dice: &mut Dice,
+    change: &Change,
+) -> Result<Option<Part>, AllocError>
+    requires written { AreWritten change.now }
+    requires home { IsHome (seats_in control.old) }
+    ensures { OnOk result (seats_in control.new ≡ seats_in control.old) }
+{
+    change_to(control, change)?;
+    work(control, dice)?;
+    Ok(None)
+}
+
+// A change, and some of the work that it makes; once in so many times all of it.
 fn drive(
     alloc: Global,
     control: &mut Control<PlainBoard>,
     dice: &mut Dice,
     often: u32,
-    edit: &Edit,
+    change: &Change,
 ) -> Result<Option<Part>, AllocError>
-    requires written { IsWritten edit.now }
+    requires written { AreWritten change.now }
     requires often { 0 < often }
-    requires alone { (promise_in control.old).alone ≡ true }
-    ensures alone { (promise_in control.new).alone ≡ true }
+    requires home { IsHome (seats_in control.old) }
+    ensures { OnOk result (seats_in control.new ≡ seats_in control.old) }
 {
     match dice.roll(often) {
-        0 => drive_whole(alloc, control, edit),
-        1 => {
-            make(control, edit)?;
-            settled_difference(alloc, control, dice)
-        }
-        _ => {
-            make(control, edit)?;
-            work(control, dice)?;
-            Ok(None)
-        }
+        0 => drive_whole(alloc, control, change),
+        1 => drive_settled(alloc, control, dice, change),
+        _ => drive_some(control, dice, change),
     }
 }
 
-// A line's edit, where it is one.
-fn drive_line(
+// The next change of the script, where there is one.
+fn drive_next(
     alloc: Global,
     control: &mut Control<PlainBoard>,
     dice: &mut Dice,
     often: u32,
-    line: &[u8],
+    cursor: &mut Cursor<'_>,
 ) -> Result<Option<Part>, AllocError>
     requires often { 0 < often }
-    requires alone { (promise_in control.old).alone ≡ true }
-    ensures alone { (promise_in control.new).alone ≡ true }
+    requires rested { IsRested 0 (seats_in control.old) }
+    ensures { OnOk result (IsRested 0 (seats_in control.new)) }
 {
-    match edit_of(alloc, line)? {
-        Some(edit) => drive(alloc, control, dice, often, &edit),
+    match cursor.change(alloc)? {
+        Some(change) => drive(alloc, control, dice, often, &change),
         None => Ok(None),
     }
 }
 
-// The first difference in what the control answers on the way through a script's edits.
+// One change, or once in so many times some beneath a pass.
+fn drive_on(
+    alloc: Global,
+    control: &mut Control<PlainBoard>,
+    dice: &mut Dice,
+    often: u32,
+    cursor: &mut Cursor<'_>,
+) -> Result<Option<Part>, AllocError>
+    requires often { 0 < often }
+    requires rested { IsRested 0 (seats_in control.old) }
+    ensures { OnOk result (IsRested 0 (seats_in control.new)) }
+{
+    if dice.roll(often) == 0 && may_pass(control) {
+        return drive_beneath(alloc, control, dice, cursor);
+    }
+    drive_next(alloc, control, dice, often, cursor)
+}
+
+// The first difference in what the control answers on the way through a script's changes.
 fn drive_lines(
     alloc: Global,
     control: &mut Control<PlainBoard>,
     dice: &mut Dice,
     script: &Script,
 ) -> Result<Option<Difference>, AllocError>
-    requires { (promise_in control.old).alone ≡ true }
-    ensures { (promise_in control.new).alone ≡ true }
+    requires { IsRested 0 (seats_in control.old) }
+    ensures { OnOk result (IsRested 0 (seats_in control.new)) }
 {
     // The plain programs take long over long scripts.
     let often = 4 + script.lines() / 16;
-    for line in 1..script.lines() + 1 {
-        if let Some(part) = drive_line(alloc, control, dice, often, script.line(line))? {
+    let mut cursor = Cursor::new(script);
+    for _change in 0..script.lines() {
+        if let Some(part) = drive_on(alloc, control, dice, often, &mut cursor)? {
+            let line = cursor.line();
             return Ok(Some(Difference { line, part }));
         }
     }
@@ -349,7 +376,7 @@ fn drive_all(
     control: &mut Control<PlainBoard>,
     script: &Script,
 ) -> Result<Option<Difference>, AllocError>
-    requires { (promise_in control.old).alone ≡ true }
+    requires { IsRested 0 (seats_in control.old) }
 {
     let mut dice = Dice { bits: 2463534242 };
     if let Some(found) = drive_lines(alloc, control, &mut dice, script)? {
@@ -368,7 +395,7 @@ fn drive_fresh(alloc: Global, script: &Script) -> Result<Option<Difference>, All
     drive_all(alloc, &mut control, script)
 }
 
-// The first difference in what the control answers; None where there is none. A batch's edits are made one by one.
+// The first difference in what the control answers; None where there is none.
 pub fn drive_script(alloc: Global, bytes: &[u8]) -> Result<Option<Difference>, ScriptError> {
     let script = Script::read(alloc, bytes)?;
     Ok(drive_fresh(alloc, &script)?)

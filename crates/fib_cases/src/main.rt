@@ -4,13 +4,18 @@
 //! shares nothing with this repository (`tests/tables.py` writes the generated ones).
 //!
 //! A run of the words `follow` and a file follows the file's edits with entries, and compares them with the plain
-//! programs after each; a run of `drive` and a file drives a control over a plain board by them, and compares what it
-//! looks up. Both print nothing, and end with 9 where something differs.
+//! programs after each; a run of `drive` and a file drives a control over a plain board by them, a batch as one change,
+//! with passes beneath some, and compares what it looks up and what the passes answer. Both print nothing, and end with 9
+//! where something differs.
 #![tactic(auto)]
 
+mod changing;
 mod compared;
+mod dice;
 mod driven;
 mod followed;
+mod passing;
+mod watched;
 
 use driven::drive_script;
 use fib_commands::ScriptError;

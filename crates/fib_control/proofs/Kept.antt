@@ -28,13 +28,14 @@ use Rattle.fib_shared.specs.Shares.{promise_of, view_of}
 use Rattle.fib_stack.specs.Joined.{Joined, queued_in}
 use Rattle.fib_stack.proofs.Ordering.{begun_in_order}
 use Rattle.fib_stack.proofs.Rooming.{room_at_change}
-use Rattle.fib_quiet.specs.Rest.{IsAtRest, IsSeen}
+use Rattle.fib_quiet.specs.Rest.{IsAccounted, IsAtRest, IsSeen}
 use Rattle.fib_quiet.proofs.Versions.{joined_begun, joined_first, joined_settled}
 use Rattle.fib_quiet.proofs.Planed.{stands_at_rest, used_at_rest, walks_at_rest}
+use Rattle.fib_quiet.proofs.Using.{accounted}
 use Rattle.fib_quiet.proofs.Workers.{same_versions}
 use Rattle.fib_control.specs.Controls.{Control, IsQuiet, is_queued, parts_in, promise_in, rank_by, state_now, tables_in, view_in}
 use Rattle.fib_control.specs.inner.Standing.{IsStanding}
-use Rattle.fib_control.proofs.Resting.{AreUsed, first_rests, quiet_rests}
+use Rattle.fib_control.proofs.Resting.{AreUsed, drained, first_rests, quiet_rests}
 
 -- what the parts of a control tell
 pub record Tells (c : Control) : Type 0 where
@@ -110,6 +111,10 @@ module _ (c : Control) (i : IsStanding c) (t : Tells c) where
 
   pub used_quiet : IsQuiet c → length c.plane.objects - free_in c.plane.objects ≡ size (tables_in c)
   used_quiet q = used_at_rest (tables_in c) (rank_by c) (promise_in c) c.plane (parts_in c) t.told t.seen (quiet_rests c i t.plane t.rows t.used q)
+
+  -- already where nothing is queued each object that is used is counted, or an edge leads to it
+  pub used_drained : c.queue ≡ [] → IsAccounted (tables_in c) c.plane
+  used_drained empty = accounted (tables_in c) (rank_by c) (promise_in c) c.plane (parts_in c) t.told t.seen (drained c i t.plane t.rows t.used empty)
 
   pub may_settle : IsQuiet c → MaySettle c.plane.board
   may_settle q = record {

@@ -1,4 +1,4 @@
--- A control of which nothing is queued, deferred or retired has its plane at rest.
+-- A control of which nothing is queued is drained; where nothing is deferred or retired either, its plane is at rest.
 use Rattle.std.proofs.Common.{◌≡◌, ℕ, ◌<◌, ◌≤◌, Bool, false, List, [], map, refl, sym, ap, ◌∙◌, subst, arith}
 use Rattle.std.specs.Prelude.{Contains, Option, Some, None}
 use Rattle.fib_addr.specs.Prefixes.{Prefix, IsPrefix}
@@ -20,9 +20,8 @@ use Rattle.fib_board.specs.Told.{IsHistory}
 use Rattle.fib_joined.specs.View.{IsPlane}
 use Rattle.fib_serving.specs.Stack.{is_some}
 use Rattle.fib_shared.specs.Shares.{copy_seen}
-use Rattle.fib_stack.specs.States.{IsQuiet as IsStill}
-use Rattle.fib_quiet.specs.Rest.{IsAtRest}
-use Rattle.fib_control.specs.Controls.{Control, IsQuiet, parts_in, promise_in, rank_by, state_now, tables_in, view_in}
+use Rattle.fib_quiet.specs.Rest.{IsAtRest, IsDrained}
+use Rattle.fib_control.specs.Controls.{Control, IsQuiet, is_queued, parts_in, promise_in, rank_by, tables_in, view_in}
 use Rattle.fib_control.specs.inner.Standing.{IsStanding}
 
 abbrev pub AreUsed : Control → Type 0
@@ -37,8 +36,8 @@ entries_are c i q k =
     subst IsPrefix r.2 (i.stands.rows r.0 r.1).prefix
 
 module _ (c : Control) (i : IsStanding c) (plane : IsPlane (view_in c)) (rows : ArePrefixes c.rows) (used : AreUsed c) where
-  pub resting : IsStill (state_now c) → c.plane.board.union.retired ≡ [] → IsAtRest (tables_in c) (rank_by c) (promise_in c) (view_in c) (parts_in c)
-  resting still calm = record {
+  draining : ((e : Prefix) → is_queued c e ≡ false) → IsDrained (tables_in c) (rank_by c) (promise_in c) (view_in c) (parts_in c)
+  draining none = record {
     sound = i.stands.sound;
     ranked = is_ranked c i;
     entries_are = entries_are c i;
@@ -46,14 +45,24 @@ module _ (c : Control) (i : IsStanding c) (plane : IsPlane (view_in c)) (rows : 
     plane = plane;
     joined = i.joined;
     used = used;
-    quiet = still;
-    calm = ap (λ (xs : List Retired). map copy_seen xs) calm;
+    none = none;
   }
 
+  no_rank : c.queue ≡ [] → (e : Prefix) → is_queued c e ≡ false
+  no_rank empty e = ap (λ (xs : List Queued). is_some (rank_in xs e)) empty
+
+  pub drained : c.queue ≡ [] → IsDrained (tables_in c) (rank_by c) (promise_in c) (view_in c) (parts_in c)
+  drained empty = draining (no_rank empty)
+
+  no_copies : c.plane.board.union.retired ≡ [] → (view_in c).retired ≡ []
+  no_copies calm = ap (λ (xs : List Retired). map copy_seen xs) calm
+
   pub quiet_rests : IsQuiet c → IsAtRest (tables_in c) (rank_by c) (promise_in c) (view_in c) (parts_in c)
-  quiet_rests q = resting
-      ((λ e. ap (λ (xs : List Queued). is_some (rank_in xs e)) q.queued), (λ e k. ap (λ (xs : List Late). late_at xs e k) q.deferred))
-      q.retired
+  quiet_rests q = record {
+    drained = drained q.queued;
+    prompt = λ e k. ap (λ (xs : List Late). late_at xs e k) q.deferred;
+    calm = no_copies q.retired;
+  }
 
   -- before the first change nothing waits
   module _ (early : c.plane.board.log.version.applied ≡ 0) (h : IsHistory c.plane.board) where
@@ -66,6 +75,8 @@ module _ (c : Control) (i : IsStanding c) (plane : IsPlane (view_in c)) (rows : 
     none_late e k (Some w) at = absurd (let lt = i.joined.deferred e k w at in omega (arith, lt, early))
 
     pub first_rests : IsAtRest (tables_in c) (rank_by c) (promise_in c) (view_in c) (parts_in c)
-    first_rests = resting
-        ((λ e. none_queued e (rank_in c.queue e) refl), (λ e k. none_late e k (late_at c.late e k) refl))
-        (i.calm (let o = h.order in omega (arith, o, early)))
+    first_rests = record {
+      drained = draining (λ e. none_queued e (rank_in c.queue e) refl);
+      prompt = λ e k. none_late e k (late_at c.late e k) refl;
+      calm = no_copies (i.calm (let o = h.order in omega (arith, o, early)));
+    }

@@ -16,6 +16,7 @@ ghost use Rattle.fib_pool.specs.Objects.{free_in};
 ghost use Rattle.fib_ply.specs.Rows.{held};
 ghost use Rattle.fib_core.specs.declared.word.Word.{Word};
 ghost use Rattle.fib_ledger.specs.Deferred.{late_at};
+ghost use Rattle.fib_quiet.specs.Rest.{IsAccounted};
 ghost use Rattle.fib_stack.specs.Done.{IsCounted, IsStored, StaysLate, TurnDone};
 ghost use Rattle.fib_entries.specs.Known.{StandsFor, rank_of};
 ghost use Rattle.fib_shared.specs.Shares.{promise_of, view_of};
@@ -128,10 +129,12 @@ impl<B: Board> Control<B> {
         self.shared.version()
     }
 
-    /// How many objects aren't free. On a quiet control as many as the size of the tables says.
+    /// How many objects aren't free. On a quiet control as many as the size of the tables says; and already where nothing is queued each of them is
+    /// one that the size counts, or an edge of the union leads to it, current or retired.
     pub fn used(&self) -> u32
         ensures used { result ≡ length self.now.plane.objects - free_in self.now.plane.objects }
         ensures quiet { IsQuiet self.now → result ≡ size (tables_in self.now) }
+        ensures counted { self.now.queue ≡ [] → IsAccounted (tables_in self.now) self.now.plane }
     {
         self.shared.tells();
         self.table.tells();
@@ -273,13 +276,12 @@ impl<B: Board> Control<B> {
     /// isn't there; a prefix that left the entries leaves the table. Idle exactly where nothing is queued.
     ///
     /// After want of memory the prefix is still queued and all is as before, but for room and the count of stores. An object is always found.
-    pub fn turn(&mut self) -> Result<Turn, Want>
+    pub fn turn(&mut self) -> Result<Turn, AllocError>
         ensures turn { IfOk result (λ t. TurnDone (tables_in self.old) (rank_by self.old) t (state_now self.old) (state_now self.new)) }
         ensures dropped { IfOk result (λ t. IsCounted t self.new.late) }
         ensures stores { IfOk result (λ t. IsStored t self.old.plane.board.stored self.new.plane.board.stored) }
         ensures done { IfOk result (λ t. IsDoneAfter t self.old.done self.new.done) }
         ensures same { IsBeneath self.old self.new }
-        ensures finds { IsErrOf result Want.Object → ⊥ }
         ensures err { OnErr result (SamePlane (view_in self.old) (view_in self.new)) }
         ensures parts { OnErr result ((parts_in self.new ≡ parts_in self.old) × (self.new.done ≡ self.old.done)) }
     {
@@ -287,7 +289,7 @@ impl<B: Board> Control<B> {
             return Ok(Turn::Idle);
         }
         if self.done.reserve(1).is_err() {
-            return Err(Want::Memory);
+            return Err(AllocError);
         }
         match restack(
             &mut self.stack,
@@ -301,7 +303,7 @@ impl<B: Board> Control<B> {
                 note(&mut self.done, &turn);
                 Ok(turn)
             }
-            Err(want) => Err(want),
+            Err(want) => Err(memory_of(want)),
         }
     }
 
@@ -343,10 +345,9 @@ impl<B: Board> Control<B> {
     }
 
     /// Turns until nothing is queued. After want of memory the turns that were done stand.
-    pub fn walk(&mut self) -> Result<(), Want>
+    pub fn walk(&mut self) -> Result<(), AllocError>
         ensures none { OnOk result (self.new.queue ≡ []) }
         ensures same { IsBeneath self.old self.new }
-        ensures finds { IsErrOf result Want.Object → ⊥ }
     {
         'turns: loop {
             if self.queued() == 0 {
@@ -360,14 +361,13 @@ impl<B: Board> Control<B> {
 
     /// Settles the last version where no worker is out, and answers its number: turns until nothing is queued, a scan and a retry leave nothing that
     /// waits. After want of memory the turns that were done stand.
-    pub fn settle_alone(&mut self) -> Result<u32, Want>
+    pub fn settle_alone(&mut self) -> Result<u32, AllocError>
         requires { (promise_in self.old).alone ≡ true }
         ensures quiet { OnOk result (IsQuiet self.new) }
         ensures version { IfOk result (λ n. (n ≡ self.old.plane.board.log.version.applied) × (self.new.plane.board.log.version.settled ≡ n)) }
         ensures tables { self.new.setup ≡ self.old.setup }
         ensures entries { self.new.entries ≡ self.old.entries }
         ensures board { but_settled self.new.plane.board ≡ but_settled self.old.plane.board }
-        ensures finds { IsErrOf result Want.Object → ⊥ }
     {
         self.walk()?;
         self.scan();
@@ -433,6 +433,16 @@ fn restack<B: Board>(
 {
     let tables = config.tables();
     stack.turn(shared, tables, entries, table, queue)
+}
+
+// A turn that wants no object wants memory.
+fn memory_of(want: Want) -> AllocError
+    requires { want ≡ Want.Object → ⊥ }
+{
+    match want {
+        Want::Memory => AllocError,
+        Want::Object => unreachable!(),
+    }
 }
 
 // Notes which prefix had a turn. There must be room.

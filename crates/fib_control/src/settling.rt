@@ -1,23 +1,22 @@
 // Settling beside workers that are out.
-ghost use Rattle.std.specs.Prelude.{IfOk, IsErrOf, OnOk, ◌≡◌};
+ghost use Rattle.std.specs.Prelude.{IfOk, OnOk, ◌≡◌};
 ghost use Rattle.fib_control.specs.Controls.{IsQuiet, but_settled};
 
 use crate::control::Control;
 use fib_board::Board;
-use fib_stack::Want;
+use std::alloc::AllocError;
 use std::sync::Wait;
 
 impl<B: Board> Control<B> {
     /// Settles the last version beside whatever passes run, and answers its number: turns until nothing is queued, then scans and retries until
     /// nothing waits any more. A pass that doesn't end may keep a copy of an edge, and then this doesn't return. After want of memory the turns
     /// that were done stand.
-    pub fn settle<R: Wait>(&mut self, rt: &R) -> Result<u32, Want>
+    pub fn settle<R: Wait>(&mut self, rt: &R) -> Result<u32, AllocError>
         ensures quiet { OnOk result (IsQuiet self.new) }
         ensures version { IfOk result (λ n. (n ≡ self.old.plane.board.log.version.applied) × (self.new.plane.board.log.version.settled ≡ n)) }
         ensures tables { self.new.setup ≡ self.old.setup }
         ensures entries { self.new.entries ≡ self.old.entries }
         ensures board { but_settled self.new.plane.board ≡ but_settled self.old.plane.board }
-        ensures finds { IsErrOf result Want.Object → ⊥ }
     {
         self.walk()?;
         'tries: for _ in rt.forever() {

@@ -267,8 +267,8 @@ fn is_taken_back(alloc: Global, control: &mut Control<PlainBoard>) -> Result<boo
     Ok(refused && control.tables().interfaces.len() == 0 && wind_up(control) == settled(0))
 }
 
-// Where a packet to 50.1.1.1 ends, by two hops.
-fn passed(control: &mut Control<PlainBoard>) -> Result<End, Fail>
+// Whether a packet to 50.1.1.1 is dropped, after two hops.
+fn drops(control: &mut Control<PlainBoard>) -> Result<bool, Fail>
     requires { IsRested control.old.plane.board }
 {
     if control.running(0) {
@@ -279,16 +279,9 @@ fn passed(control: &mut Control<PlainBoard>) -> Result<End, Fail>
         return Err("the first hop ends".into());
     }
     match control.hop(0) {
-        Some(_) => Ok(control.end(0).end),
+        Some(_) => Ok(control.end(0).end == End::Drop),
         None => Err("the second hop doesn't end".into()),
     }
-}
-
-// Where that packet ends is where nothing leads.
-fn drops(control: &mut Control<PlainBoard>) -> Result<bool, Fail>
-    requires { IsRested control.old.plane.board }
-{
-    Ok(passed(control)? == End::Drop)
 }
 
 // How many things there are to do on a control of their own.

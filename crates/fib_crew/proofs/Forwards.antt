@@ -10,7 +10,8 @@ use Rattle.fib_lawful.specs.State.{left_of}
 use Rattle.fib_board.specs.Crews.{Seated}
 use Rattle.fib_worker.specs.Passes.{HasForwarded as HasPassed}
 use Rattle.fib_crew.specs.Packets.{Matched, IsAsked, IsOf, span}
-use Rattle.fib_crew.specs.Results.{numbered, Told, IsResultOf, HasForwarded, HasForwardedOne}
+use Rattle.fib_crew.specs.Results.{numbered, Told, IsResultOf, HasForwarded}
+use Rattle.fib_crew.specs.inner.Single.{HasForwardedOne}
 use Rattle.fib_crew.proofs.Spans.{span_none, span_more, length_span}
 use Rattle.fib_crew.proofs.Matching.{matched_append, told_append, numbered_append, at_least_trans}
 

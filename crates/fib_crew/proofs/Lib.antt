@@ -2,3 +2,4 @@ pub mod Spans
 pub mod Matching
 pub mod Forwards
 pub mod Works
+pub mod Drawn

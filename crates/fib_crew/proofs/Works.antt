@@ -1,5 +1,5 @@
 -- One frame more.
-use Rattle.std.proofs.Common.{◌≡◌, ◌<◌, ◌≤◌, ◌+◌, ◌*◌, ◌++◌, ◌∷◌, [], ℕ, List, drop, arith, refl, ap, ◌∙◌, sym, subst, Option, Some, None}
+use Rattle.std.proofs.Common.{◌≡◌, ◌<◌, ◌≤◌, ◌+◌, ◌*◌, ◌++◌, ◌∷◌, [], ℕ, List, length, drop, arith, refl, ap, ◌∙◌, sym, subst, Option, Some, None, inl, inr}
 use Rattle.std.specs.List.{AllByRecursion}
 use Rattle.std.proofs.lemmas.List.{append_assoc, append-nil, length-append, length-take}
 use Rattle.fib_list.proofs.Lists.{each-append}
@@ -10,7 +10,7 @@ use Rattle.fib_cells.specs.Seats.{seat_claimed}
 use Rattle.fib_crew.specs.Packets.{Matched, IsAsked}
 use Rattle.fib_crew.specs.Frames.{frame, frames}
 use Rattle.fib_crew.specs.Results.{numbered, results_of, Told, HasForwarded}
-use Rattle.fib_crew.specs.Work.{IsForwarded, frames_in, results_in, Named, HasWorked, steps_of, steps_so_far}
+use Rattle.fib_crew.specs.Work.{IsForwarded, frames_in, results_in, Named, HasStopped, HasWorked, steps_of, steps_so_far}
 use Rattle.fib_crew.specs.declared.claims.Frame.{Frame}
 use Rattle.fib_crew.proofs.Matching.{asked_lower, told_append, results_numbered, at_least_trans}
 
@@ -113,3 +113,36 @@ worked_last k first base n m taken v w x fs claim h claimed none le =
       each = subst (AllByRecursion (IsForwarded k first taken)) (sym inner) h.each;
     } in
     subst (HasWorked k first base m taken v x) (sym (steps_end fs)) whole
+
+-- more claims than it made
+pub worked_within : (k first base n m : ℕ) (taken : List Packet) (v w : Seated) (ss : List (Option Frame)) → HasWorked k first base n taken v w ss → n ≤ m → HasWorked k first base m taken v w ss
+worked_within k first base n m taken v w ss h le = record {
+  id = h.id;
+  number = h.number;
+  knows = h.knows;
+  left = (let l = h.left in omega (arith, l, le));
+  trails = h.trails;
+  past = h.past;
+  told = h.told;
+  claims = h.claims;
+  claimed = h.claimed;
+  few = (let l = h.few in omega (arith, l, le));
+  named = h.named;
+  each = h.each;
+}
+
+pub stopped_missed : (k first base n : ℕ) (taken : List Packet) (v w x : Seated) (fs : List Frame) (claim f : ℕ) → HasWorked k first base n taken v w (steps_so_far fs) → n ≤ frames taken + 1
+    → x ≡ seat_claimed w claim → claim ≡ base + f → f < frames taken → HasStopped k first base taken v x fs
+stopped_missed k first base n taken v w x fs claim f h le claimed is lt = record {
+  between = w;
+  worked = worked_within k first base n (frames taken + 1) taken v w (steps_so_far fs) h le;
+  last = inl (record { frame = f; inside = lt; claimed = claimed ∙ ap (seat_claimed w) is });
+}
+
+pub stopped_full : (k first base n : ℕ) (taken : List Packet) (v w : Seated) (fs : List Frame) → HasWorked k first base n taken v w (steps_so_far fs) → n ≡ frames taken + 1 → length fs ≡ n
+    → HasStopped k first base taken v w fs
+stopped_full k first base n taken v w fs h all long = record {
+  between = w;
+  worked = subst (λ m. HasWorked k first base m taken v w (steps_so_far fs)) all h;
+  last = inr (refl, long ∙ all);
+}

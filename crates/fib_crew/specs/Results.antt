@@ -7,7 +7,6 @@ use Rattle.fib_capture.specs.declared.packet.Packet.TheVariants.{Flow, NotIpv4, 
 use Rattle.fib_core.specs.Trails.{Trail, Follows, result_of}
 use Rattle.fib_lawful.specs.State.{left_of}
 use Rattle.fib_board.specs.Crews.{Seated}
-use Rattle.fib_worker.specs.Passes.{HasForwarded as HasPassed}
 use Rattle.fib_crew.specs.Packets.{Matched, IsAsked}
 
 -- results with their packets' numbers, and the room for more
@@ -53,9 +52,3 @@ pub record HasForwarded (before after : Seated) (n : ℕ) (packets : List Packet
   pub claims : after.worker.claims ≡ before.worker.claims
   pub knows : AtLeast before.worker.knows after.worker.knows
   pub left : left_of before.worker.pass ≤ left_of after.worker.pass + length packets
-
--- it forwarded one packet, of that number, where that is a flow
-abbrev pub HasForwardedOne : Seated → Seated → ℕ → Packet → List (ℕ × Record) → List (ℕ × Record) → Type 0
-HasForwardedOne before after n (Flow a h) old new = (r : Record) × HasPassed a h before after r × (new ≡ old ++ (n, r) ∷ [])
-HasForwardedOne before after n NotIpv4 old new = (after ≡ before) × (new ≡ old)
-HasForwardedOne before after n BadHeader old new = (after ≡ before) × (new ≡ old)

@@ -1,5 +1,5 @@
 -- What a worker makes of a round's frames, each of which is named by a claim.
-use Rattle.std.specs.Prelude.{ℕ, ◌≡◌, ◌<◌, ◌≤◌, ◌+◌, ◌*◌, ◌^◌, ◌++◌, ◌∷◌, [], List, Option, Some, None, length}
+use Rattle.std.specs.Prelude.{ℕ, ◌≡◌, ◌<◌, ◌≤◌, ◌+◌, ◌*◌, ◌^◌, ◌++◌, ◌∷◌, [], List, Option, Some, None, length, ◌⊎◌}
 use Rattle.std.specs.List.{AllByRecursion}
 use Rattle.fib_results.specs.declared.record.Record.{Record}
 use Rattle.fib_results.specs.Trails.{AtLeast, version_at}
@@ -7,6 +7,7 @@ use Rattle.fib_capture.specs.declared.packet.Packet.{Packet}
 use Rattle.fib_core.specs.Trails.{Trail}
 use Rattle.fib_lawful.specs.State.{left_of}
 use Rattle.fib_board.specs.Crews.{Seated}
+use Rattle.fib_cells.specs.Seats.{seat_claimed}
 use Rattle.fib_crew.specs.Packets.{Matched, IsAsked}
 use Rattle.fib_crew.specs.Frames.{frame, frames}
 use Rattle.fib_crew.specs.Results.{numbered, results_of, Told}
@@ -61,6 +62,19 @@ steps_so_far (f ∷ list) = Some f ∷ steps_so_far list
 abbrev pub steps_of : List Frame → List (Option Frame)
 steps_of [] = None ∷ []
 steps_of (f ∷ list) = Some f ∷ steps_of list
+
+-- the worker claimed a frame of so many, and did nothing with it
+pub record HasMissed (base count : ℕ) (before after : Seated) : Type 0 where
+  pub frame : ℕ
+  pub inside : frame < count
+  pub claimed : after ≡ seat_claimed before (base + frame)
+
+-- A worker that didn't come to the round's end forwarded these frames, each named by its claim, and then claimed one frame more, which it missed. Or each of its
+-- claims was a frame, and there was one more of them than the round has frames; that can't be where each claim is drawn once.
+pub record HasStopped (k first base : ℕ) (taken : List Packet) (before after : Seated) (list : List Frame) : Type 0 where
+  pub between : Seated
+  pub worked : HasWorked k first base (frames taken + 1) taken before between (steps_so_far list)
+  pub last : HasMissed base (frames taken) between after ⊎ ((after ≡ between) × (length list ≡ frames taken + 1))
 
 -- a worker may work at a round of so many frames that opened at version k
 pub record MayWork (k count : ℕ) (w : Seated) : Type 0 where

@@ -1,8 +1,8 @@
 // A worker's way through a round: it claims frames until there is none left.
-ghost use Rattle.std.specs.Prelude.{◌≡◌, ◌<◌, ◌≤◌, ◌+◌, ◌-◌, ◌/◌, ◌^◌, [], None, IfSome, OnOk, IfOk, length, true, vec_len, vec_capacity};
+ghost use Rattle.std.specs.Prelude.{◌≡◌, ◌<◌, ◌≤◌, ◌+◌, ◌-◌, ◌/◌, ◌^◌, [], None, IfSome, OnOk, IfOk, length, true, false, vec_len, vec_capacity};
 ghost use Rattle.fib_crew.specs.Packets.{span};
 ghost use Rattle.fib_crew.specs.Frames.{frames};
-ghost use Rattle.fib_crew.specs.Work.{HasWorked, MayWork, steps_of};
+ghost use Rattle.fib_crew.specs.Work.{HasStopped, HasWorked, MayWork, steps_of};
 
 use crate::results::Results;
 use crate::span::forward_span;
@@ -70,12 +70,13 @@ fn room_for(alloc: Global, list: &mut Vec<Frame>, size: u32) -> Result<Results, 
 pub struct Worked<'a> {
     pub worker: Worker<'a>,
     pub frames: Vec<Frame>,
-    /// False where memory was wanted for a frame's results: that frame was not forwarded.
+    /// False where memory was wanted for a frame's results: that frame was claimed last, and not forwarded.
     pub done: bool,
 }
 
 /// Claims frames and forwards them, until a claim names none. A frame's results get their room before it is forwarded; where there is none the worker
-/// stops undone.
+/// stops undone. Nothing tells whether there is memory, so of a worker that stopped only this is said: it forwarded each frame that it claimed but the
+/// last, and the last one is of the round.
 ///
 /// The worker must know the version at which the round opened, and have passes and claims left for all of its frames and one more.
 pub fn work<'a, G: Gate>(
@@ -91,6 +92,7 @@ pub fn work<'a, G: Gate>(
     ensures id { result.worker.id ≡ worker.entry.id }
     ensures number { result.worker.worker.number ≡ worker.entry.worker.number }
     ensures worked { result.done ≡ true → HasWorked taken.opened taken.first taken.base (frames (span packets.now.packets taken.first taken.to) + 1) (span packets.now.packets taken.first taken.to) worker.entry result.worker (steps_of result.frames.items) }
+    ensures stopped { result.done ≡ false → HasStopped taken.opened taken.first taken.base (span packets.now.packets taken.first taken.to) worker.entry result.worker result.frames.items }
 {
     let count = taken.frames();
     let mut worker = worker;

@@ -2,7 +2,8 @@
 ghost use Rattle.std.specs.Prelude.{◌<◌, ◌≤◌, ◌+◌, length};
 ghost use Rattle.fib_lawful.specs.State.{left_of};
 ghost use Rattle.fib_crew.specs.Packets.{span};
-ghost use Rattle.fib_crew.specs.Results.{HasForwarded, HasForwardedOne};
+ghost use Rattle.fib_crew.specs.Results.{HasForwarded};
+ghost use Rattle.fib_crew.specs.inner.Single.{HasForwardedOne};
 
 use crate::results::Results;
 use fib_capture::{Capture, Packet};

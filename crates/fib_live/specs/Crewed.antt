@@ -1,9 +1,6 @@
 -- What tests know of a control plane over live cells and of its workers.
-use Rattle.std.specs.Prelude.{◌≡◌, ℕ, Bool, false, List, [], Option, Some, None, replicate}
+use Rattle.std.specs.Prelude.{◌≡◌, ℕ, Bool, false, List, [], replicate}
 use Rattle.fib_board.specs.Boards.{Board}
-use Rattle.fib_board.specs.Crews.{Seated}
-use Rattle.fib_worker.specs.inner.Homes.{IsOf}
-use Rattle.fib_control.specs.Controls.{Control}
 
 -- a board's workers: whose words they share, and who is out
 pub record Crew : Type 0 where
@@ -25,12 +22,3 @@ IsManned b = crew_of b ≡ manned b.id
 -- the same words, and the same workers out
 abbrev pub SameCrew : Board → Board → Type 0
 SameCrew b c = crew_of c ≡ crew_of b
-
--- the control plane, if there is one, is over these words
-abbrev pub IsOver : List ℕ → Option Control → Type 0
-IsOver id None = Unit {0}
-IsOver id (Some c) = c.plane.board.id ≡ id
-
--- who works in a thread is of these words
-abbrev pub IsIn : List ℕ → Option Seated → Option Control → Type 0
-IsIn id worker control = IsOf id worker × IsOver id control

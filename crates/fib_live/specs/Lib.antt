@@ -1,1 +1,2 @@
 pub mod Crewed
+pub mod Stays

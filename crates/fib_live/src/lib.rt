@@ -4,6 +4,12 @@
 #![tactic(auto)]
 
 pub mod alone;
+#[cfg(test)]
+mod beside;
+#[cfg(test)]
+mod judge;
 pub mod live;
+#[cfg(test)]
+mod pace;
 #[cfg(test)]
 mod tests;

@@ -1,5 +1,6 @@
 //! Steps of a control plane over live cells with four workers.
-ghost use Rattle.std.specs.Prelude.{IfOk, IfSome, ◌≡◌};
+ghost use Rattle.std.specs.Prelude.{IfOk, IfSome, length, true, ◌<◌, ◌-◌, ◌^◌, ◌≡◌};
+ghost use Rattle.std.specs.List.{AllByRecursion};
 ghost use Rattle.fib_resolve.specs.Reachable.{IsWritten};
 ghost use Rattle.fib_cells.specs.Seats.{id_in};
 ghost use Rattle.fib_live.specs.Crewed.{IsManned, SameCrew};
@@ -36,12 +37,19 @@ pub fn edit_of(alloc: Global, line: &str) -> Option<Edit>
     }
 }
 
+// Whether one more version may begin.
+fn has_version_left(control: &Control<LiveBoard<'_>>) -> bool
+    ensures { result ≡ true → control.now.plane.board.log.version.applied < 2 ^ 32 - 1 }
+{
+    control.version().applied != u32::MAX
+}
+
 /// Makes a change, and answers its version. None where it isn't made.
 pub fn change(control: &mut Control<LiveBoard<'_>>, edit: &Edit) -> Option<u32>
     requires { IsWritten edit.now }
     ensures { SameCrew control.old.plane.board control.new.plane.board }
 {
-    if control.version().applied == u32::MAX {
+    if !has_version_left(control) {
         return None;
     }
     match control.apply(edit) {
@@ -57,6 +65,21 @@ pub fn change_by(alloc: Global, control: &mut Control<LiveBoard<'_>>, line: &str
     match edit_of(alloc, line) {
         Some(edit) => change(control, &edit),
         None => None,
+    }
+}
+
+/// Makes these changes as one, and answers its version. None where it isn't made.
+pub fn change_all(control: &mut Control<LiveBoard<'_>>, edits: &[Edit]) -> Option<u32>
+    requires written { AllByRecursion IsWritten edits.now }
+    requires few { length edits.now < 2 ^ 32 }
+    ensures { SameCrew control.old.plane.board control.new.plane.board }
+{
+    if !has_version_left(control) {
+        return None;
+    }
+    match control.apply_all(edits) {
+        Ok(version) => Some(version),
+        Err(_) => None,
     }
 }
 

@@ -38,18 +38,12 @@ use Rattle.fib_stack.proofs.Keeping.{quiet_stands, some_there}
 use Rattle.fib_stack.proofs.Listing.{record_self}
 use Rattle.fib_stack.proofs.Settling.{aims_hop, aims_on}
 use Rattle.fib_quiet.specs.Rest.{IsAtRest}
+use Rattle.fib_quiet.proofs.Drained.{IsRecorded, hop_kept, placed, record_of_end}
 use Rattle.fib_quiet.proofs.Numbers.{number, or_zero}
-
--- the record of a Hop end of the tables
-abbrev pub record_of_end : Tables → Adjacency → AdjacencyRecord
-record_of_end S x = record { interface = x.interface; next_hop = x.next_hop; mac = mac_of S x.interface x.next_hop }
 
 module _ (S : Tables) (rank : Prefix → ℕ) (p : Promise) (v : View) (s : Parts) (rest : IsAtRest S rank p v s) (n : Paths) where
   pub stands : StandsFor S (state_in v s)
-  stands = quiet_stands S rank (state_in v s) rest.ranked rest.joined.kept rest.quiet
-
-  pub placed : (e : Prefix) → is_some (balance_in s e) ≡ has_entry S e
-  placed e = stands.placed e
+  stands = quiet_stands S rank (state_in v s) rest.drained.ranked rest.drained.joined.kept (rest.drained.none, rest.prompt)
 
   abbrev names : Thing → ℕ
   names = number n (balance_in s) v S
@@ -57,21 +51,15 @@ module _ (S : Tables) (rank : Prefix → ℕ) (p : Promise) (v : View) (s : Part
   abbrev pub objects : Objects
   objects = record { balance = balance_in s; record_of = recorded v }
 
-  -- a Hop end of a marked list has a record
-  pub hop_kept : (e : Prefix) (i a : ℕ) (x : Option ℕ) → has_hop (marked_list S e) (answers.Hop i a x) ≡ true → (o : ℕ) × (v.record_of (record { interface = i; next_hop = a; mac = x }) ≡ Some o)
-  hop_kept e i a x has =
-      let held : holds_by s e (answers.Hop i a x) ≡ true = stands.holding e (answers.Hop i a x) ∙ has in
-      some_there (recorded v (answers.Hop i a x)) ((rest.joined.kept.placed e).recorded (answers.Hop i a x) held)
-
   module _ (e : Prefix) (k : ℕ) where
     hop_word : (i a : ℕ) → aims.Ends (hop_end S i a) ≡ aim S e k → to_adjacency (recorded v (hop_end S i a)) ≡ words.ToAdjacency (names (adjacency_of (record { interface = i; next_hop = a })))
     hop_word i a is =
-        let o = hop_kept e i a (mac_of S i a) (aims_hop S e k i a (mac_of S i a) (sym is)) in
+        let o = hop_kept S rank p v s rest.drained e i a (mac_of S i a) (aims_hop S e k i a (mac_of S i a) (sym is)) in
         ap to_adjacency o.1 ∙ ap (λ x. words.ToAdjacency (or_zero x)) (sym o.1)
 
     on_word : (t : Prefix) → aims.On t ≡ aim S e k → to_balance (balance_in s t) ≡ words.ToBalance (names (balance_of t))
     on_word t is =
-        let some = some_there (balance_in s t) (placed t ∙ (rest.ranked.falls e t (rest.ranked.woken e t (aims_on S e t k (sym is)))).0) in
+        let some = some_there (balance_in s t) (placed S rank p v s rest.drained t ∙ (rest.drained.ranked.falls e t (rest.drained.ranked.woken e t (aims_on S e t k (sym is)))).0) in
         ap to_balance some.1 ∙ ap (λ x. words.ToBalance (or_zero x)) (sym some.1)
 
     by_length : (i : ℕ) (b : Bool) → aims.Ends (if b then hop_end S i e.bits else answers.Glean i) ≡ aim S e k
@@ -99,39 +87,7 @@ module _ (S : Tables) (rank : Prefix → ℕ) (p : Promise) (v : View) (s : Part
     balance_cell o at lt =
         ap (λ x. v.cell (or_zero x) k) at ∙ stands.filled e o k at lt ∙ ap (aim_word objects) aim_said ∙ by_path (slice_get (wanted S e) k) (sym aim_said)
 
-  -- each Hop end that is counted has a record
-  abbrev pub IsRecorded : Adjacency → Type 0
-  IsRecorded x = (o : ℕ) × (v.record_of (record_of_end S x) ≡ Some o)
-
-  in_marks : (e : Prefix) (q : Path) (i a : ℕ) → Contains (chosen S e) q → kind_aim S e q.kind ≡ aims.Ends (hop_end S i a) → has_hop (marked_list S e) (hop_end S i a) ≡ true
-  unfolding marked_list
-  in_marks e q i a c is = any_in (λ m. ends_there (hop_end S i a) m.aim) (map (marked S e) (chosen S e)) (marked S e q) (map_at (marked S e) (chosen S e) q c)
-      (ap (ends_there (hop_end S i a)) is ∙ record_self (record_of_end S (record { interface = i; next_hop = a })))
-
-  of_length : (e : Prefix) (q : Path) (i : ℕ) (b : Bool) → Contains (chosen S e) q → kind_aim S e q.kind ≡ aims.Ends (if b then hop_end S i e.bits else answers.Glean i)
-      → AllByRecursion IsRecorded (if b then record { interface = i; next_hop = e.bits } ∷ [] else [])
-  of_length e q i true c is = (hop_kept e i e.bits (mac_of S i e.bits) (in_marks e q i e.bits c is), tt)
-  of_length e q i false c is = tt
-
-  of_kind : (e : Prefix) (q : Path) (x : PathKind) → x ≡ q.kind → Contains (chosen S e) q → AllByRecursion IsRecorded (kind_adjacency e x)
-  of_kind e q (kinds.Hop a i) is c = (hop_kept e i a (mac_of S i a) (in_marks e q i a c (ap (kind_aim S e) (sym is))), tt)
-  of_kind e q (kinds.Attached i) is c = of_length e q i (e.len == 32) c (ap (kind_aim S e) (sym is))
-  of_kind e q kinds.Drop is c = tt
-  of_kind e q kinds.Local is c = tt
-  of_kind e q (kinds.Recursive a) is c = tt
-  of_kind e q kinds.Cover is c = tt
-
-  all_recorded : AllByRecursion IsRecorded (adjacencies S)
-  unfolding adjacencies
-  all_recorded = each-unique IsRecorded same_adjacency (flat_map (adjacencies_of S) (entries S)) (each-flat_map IsRecorded (adjacencies_of S) (entries S)
-      (each-weaker (Contains (entries S)) (λ e. AllByRecursion IsRecorded (adjacencies_of S e)) (λ e c. each-flat_map IsRecorded (λ q. kind_adjacency e q.kind) (chosen S e)
-      (each-weaker (Contains (chosen S e)) (λ q. AllByRecursion IsRecorded (kind_adjacency e q.kind)) (λ q c'. of_kind e q q.kind refl c') (chosen S e) (each-itself (chosen S e))))
-      (entries S) (each-itself (entries S))))
-
-  pub counted_adjacency : (x : Adjacency) → Contains (adjacencies S) x → IsRecorded x
-  counted_adjacency x c = All-contains IsRecorded (adjacencies S) x (All-from_recursion IsRecorded (adjacencies S) all_recorded) c
-
-  pub adjacency_cell : (x : Adjacency) (k : ℕ) → IsRecorded x → ((r : AdjacencyRecord) (o : ℕ) → v.record_of r ≡ Some o → v.cell o k ≡ record_word r k) → v.cell (names (adjacency_of x)) k ≡ adjacency_word S x k
+  pub adjacency_cell : (x : Adjacency) (k : ℕ) → IsRecorded S v x → ((r : AdjacencyRecord) (o : ℕ) → v.record_of r ≡ Some o → v.cell o k ≡ record_word r k) → v.cell (names (adjacency_of x)) k ≡ adjacency_word S x k
   adjacency_cell x k o written = ap (λ y. v.cell (or_zero y) k) o.1 ∙ written (record_of_end S x) o.0 o.1 ∙ same_words k
     where
       same_words : (k : ℕ) → record_word (record_of_end S x) k ≡ adjacency_word S x k

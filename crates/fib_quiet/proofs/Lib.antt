@@ -1,9 +1,11 @@
 pub mod Numbers
 pub mod Reaching
 pub mod Plying
+pub mod Drained
 pub mod Ends
 pub mod Owning
 pub mod Standing
+pub mod Using
 pub mod Counting
 pub mod Planed
 pub mod Settled

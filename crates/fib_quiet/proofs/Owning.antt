@@ -24,16 +24,13 @@ use Rattle.fib_serving.specs.Matches.{look_of}
 use Rattle.fib_stack.specs.Buckets.{recorded}
 use Rattle.fib_stack.specs.Joined.{Parts, balance_in, in_change, table_of}
 use Rattle.fib_quiet.specs.Rest.{IsAtRest}
-use Rattle.fib_quiet.proofs.Ends.{placed, stands}
+use Rattle.fib_quiet.proofs.Drained.{IsOwned, paths, placed}
+use Rattle.fib_quiet.proofs.Ends.{stands}
 use Rattle.fib_quiet.proofs.Plying.{leaf_balance}
 
--- root, held, or a kept record's
-abbrev pub IsOwned : View → ℕ → Type 0
-IsOwned v x = (x ≡ 0) ⊎ ((v.is_held x ≡ true) ⊎ IsRecord v x)
-
 module _ (S : Tables) (rank : Prefix → ℕ) (p : Promise) (v : View) (s : Parts) (rest : IsAtRest S rank p v s) where
-  abbrev pub paths : Paths
-  paths = rest.joined.table.1
+  abbrev n : Paths
+  n = paths S rank p v s rest.drained
 
   current : (y k : ℕ) (w : Word) → Goes v y k w → v.cell y k ≡ w
   current y k w (inl c) = c
@@ -41,20 +38,20 @@ module _ (S : Tables) (rank : Prefix → ℕ) (p : Promise) (v : View) (s : Part
 
   -- a ply of the table
   abbrev InTable : ℕ → Type 0
-  InTable y = (paths.is_in y ≡ true) × ((y ≡ 0) ⊎ (0 < paths.depth y))
+  InTable y = (n.is_in y ≡ true) × ((y ≡ 0) ⊎ (0 < n.depth y))
 
   held_owned : (x : ℕ) → (x ≡ 0) ⊎ (v.is_held x ≡ true) → IsOwned v x
   held_owned x (inl e) = inl e
   held_owned x (inr h) = inr (inl h)
 
   from_ply : (y k x : ℕ) (w : Word) → InTable y → k < 16 → v.cell y k ≡ w → leads w x → IsOwned v x
-  from_ply y k x w is lt at lead = by_word w at (subst (λ (z : Word). IsFilled (Mixed (look_of (balance_in s)) (look_of (balance_in s)) 0) (Has rest.joined.table.0) paths y k z) at (rest.joined.table.2.at.fits.cells y k is.0 lt)) lead
+  from_ply y k x w is lt at lead = by_word w at (subst (λ (z : Word). IsFilled (Mixed (look_of (balance_in s)) (look_of (balance_in s)) 0) (Has rest.drained.joined.table.0) n y k z) at (rest.drained.joined.table.2.at.fits.cells y k is.0 lt)) lead
     where
-      by_word : (z : Word) → v.cell y k ≡ z → IsFilled (Mixed (look_of (balance_in s)) (look_of (balance_in s)) 0) (Has rest.joined.table.0) paths y k z → leads z x → IsOwned v x
-      by_word (words.ToPly c) at f l = subst (λ (i : ℕ). IsOwned v i) l (held_owned c (rest.joined.table.2.at.fits.held c f.0).1)
+      by_word : (z : Word) → v.cell y k ≡ z → IsFilled (Mixed (look_of (balance_in s)) (look_of (balance_in s)) 0) (Has rest.drained.joined.table.0) n y k z → leads z x → IsOwned v x
+      by_word (words.ToPly c) at f l = subst (λ (i : ℕ). IsOwned v i) l (held_owned c (rest.drained.joined.table.2.at.fits.held c f.0).1)
       by_word (words.ToBalance o) at f l =
-          let e = leaf_balance S (in_change p) (table_of s) v rest.joined.table rest.rows_are rest.entries_are (held_prefix s.rows rest.rows_are) (placed S rank p v s rest paths) y k o is.0 is.1 lt at in
-          subst (λ (i : ℕ). IsOwned v i) l (inr (inl (rest.joined.laid.balances e.0 o e.1).0))
+          let e = leaf_balance S (in_change p) (table_of s) v rest.drained.joined.table rest.drained.rows_are rest.drained.entries_are (held_prefix s.rows rest.drained.rows_are) (placed S rank p v s rest.drained) y k o is.0 is.1 lt at in
+          subst (λ (i : ℕ). IsOwned v i) l (inr (inl (rest.drained.joined.laid.balances e.0 o e.1).0))
       by_word words.Drop at f l = absurd l
       by_word words.Receive at f l = absurd l
       by_word (words.Glean i) at f l = absurd l
@@ -66,7 +63,7 @@ module _ (S : Tables) (rank : Prefix → ℕ) (p : Promise) (v : View) (s : Part
 
   to_held : (t : Prefix) (x : ℕ) (o : Option ℕ) → balance_in s t ≡ o → leads (to_balance o) x → IsOwned v x
   to_held t x None at l = absurd l
-  to_held t x (Some o) at l = subst (λ (i : ℕ). IsOwned v i) l (inr (inl (rest.joined.laid.balances t o at).0))
+  to_held t x (Some o) at l = subst (λ (i : ℕ). IsOwned v i) l (inr (inl (rest.drained.joined.laid.balances t o at).0))
 
   to_record : (i a : ℕ) (m : Option ℕ) (x : ℕ) (o : Option ℕ) → recorded v (answers.Hop i a m) ≡ o → leads (to_adjacency o) x → IsOwned v x
   to_record i a m x None at l = absurd l
@@ -80,16 +77,16 @@ module _ (S : Tables) (rank : Prefix → ℕ) (p : Promise) (v : View) (s : Part
   aim_owned (aims.On t) x l = to_held t x (balance_in s t) refl l
 
   from_balance : (e : Prefix) (y k x : ℕ) (w : Word) → balance_in s e ≡ Some y → k < 16 → v.cell y k ≡ w → leads w x → IsOwned v x
-  from_balance e y k x w at lt is lead = aim_owned (aim S e k) x (subst (λ (z : Word). leads z x) (sym is ∙ (stands S rank p v s rest paths).filled e y k at lt) lead)
+  from_balance e y k x w at lt is lead = aim_owned (aim S e k) x (subst (λ (z : Word). leads z x) (sym is ∙ (stands S rank p v s rest n).filled e y k at lt) lead)
 
   edge_owned : (y x : ℕ) → IsOwned v y → Edge v y x → IsOwned v x
-  edge_owned y x (inl e) g = from_ply y g.0 x g.1 (subst (λ (i : ℕ). paths.is_in i ≡ true) (sym e) rest.joined.table.2.at.fits.root.0, inl e) (rest.plane.slots y g.0 x g.1 g.2 g.3) (current y g.0 g.1 g.3) g.2
+  edge_owned y x (inl e) g = from_ply y g.0 x g.1 (subst (λ (i : ℕ). n.is_in i ≡ true) (sym e) rest.drained.joined.table.2.at.fits.root.0, inl e) (rest.drained.plane.slots y g.0 x g.1 g.2 g.3) (current y g.0 g.1 g.3) g.2
   edge_owned y x (inr (inl h)) g = by_kind (v.is_ply y) refl
     where
       by_kind : (b : Bool) → v.is_ply y ≡ b → IsOwned v x
-      by_kind true is = let m = rest.joined.table.4 y is h in from_ply y g.0 x g.1 (m.0, inr m.1) (rest.plane.slots y g.0 x g.1 g.2 g.3) (current y g.0 g.1 g.3) g.2
-      by_kind false is = let b = rest.joined.laid.owned y (h, is) in from_balance b.0 y g.0 x g.1 b.1 (rest.plane.slots y g.0 x g.1 g.2 g.3) (current y g.0 g.1 g.3) g.2
-  edge_owned y x (inr (inr r)) g = absurd (rest.plane.plain r.0 y g.0 x r.1 (subst (λ (w : Word). leads w x) (sym (current y g.0 g.1 g.3)) g.2))
+      by_kind true is = let m = rest.drained.joined.table.4 y is h in from_ply y g.0 x g.1 (m.0, inr m.1) (rest.drained.plane.slots y g.0 x g.1 g.2 g.3) (current y g.0 g.1 g.3) g.2
+      by_kind false is = let b = rest.drained.joined.laid.owned y (h, is) in from_balance b.0 y g.0 x g.1 b.1 (rest.drained.plane.slots y g.0 x g.1 g.2 g.3) (current y g.0 g.1 g.3) g.2
+  edge_owned y x (inr (inr r)) g = absurd (rest.drained.plane.plain r.0 y g.0 x r.1 (subst (λ (w : Word). leads w x) (sym (current y g.0 g.1 g.3)) g.2))
 
   -- in use, and nobody's: an edge leads there from another such one, and so on without end
   module _ (acyclic : IsAcyclic (Edge v)) (most : ℕ) (few : (x : ℕ) → IsLive v x → x < most) (empty : (y k x : ℕ) (w : Word) → leads w x → Goes v y k w → IsLive v y) where

@@ -25,7 +25,7 @@ use Rattle.fib_stands.proofs.Standing.{walk_resolved}
 use Rattle.fib_resolve.specs.Resolution.{resolve}
 use Rattle.fib_pool.specs.declared.object.AdjacencyRecord.{AdjacencyRecord}
 use Rattle.fib_pool.specs.declared.object.Object.{Object}
-use Rattle.fib_pool.specs.Objects.{at, count_in, count_of, free_in}
+use Rattle.fib_pool.specs.Objects.{at, free_in}
 use Rattle.fib_pool.proofs.Pools.{live_at, live_in}
 use Rattle.fib_board.specs.Boards.{union_of, word_in}
 use Rattle.fib_plane.specs.Planes.{Plane}
@@ -40,7 +40,9 @@ use Rattle.fib_stack.specs.Joined.{Parts, balance_in}
 use Rattle.fib_quiet.specs.Rest.{IsAtRest, IsSeen}
 use Rattle.fib_quiet.proofs.Counting.{same_number}
 use Rattle.fib_quiet.proofs.Numbers.{number}
-use Rattle.fib_quiet.proofs.Owning.{IsOwned, owned_by, paths}
+use Rattle.fib_quiet.proofs.Drained.{IsOwned, paths}
+use Rattle.fib_quiet.proofs.Owning.{owned_by}
+use Rattle.fib_quiet.proofs.Using.{used_live}
 use Rattle.fib_quiet.proofs.Standing.{found, ply_at_root, seen_apart, seen_live, seen_word}
 
 none_mapped : {A B : Type 0} (f : A → B) (xs : List A) → map f xs ≡ [] → xs ≡ []
@@ -65,7 +67,7 @@ module _ (S : Tables) (rank : Prefix → ℕ) (p : Promise) (q : Plane) (s : Par
   full y k x w l (inl e) = by_object (at q.objects y) refl
     where
       by_object : (o : Option Object) → at q.objects y ≡ o → IsLive v y
-      by_object (Some o) is = seen y (let c = told.taken y o is in let n : count_of q.objects y ≡ o.count = ap count_in is in omega (arith, c, n))
+      by_object (Some o) is = used_live q told seen y o is
       by_object None is = absurd (
           let d = cell_down q.board y k w x l e in
           let drop : word_in q.board (16 * y + k) ≡ words.Drop = told.free (16 * y + k) (ap (at q.objects) (owner_of y k d.0) ∙ is) in
@@ -91,32 +93,32 @@ module _ (S : Tables) (rank : Prefix → ℕ) (p : Promise) (q : Plane) (s : Par
   owned x live = ⊎_elim (λ (o : IsOwned v x). o) (λ (none : IsOwned v x → ⊥). absurd (owned_by S rank p v s rest acyclic q.board.objects below full x live none)) (owned_or_not x)
 
   abbrev names : Thing → ℕ
-  names = number (paths S rank p v s rest) (balance_in s) v S
+  names = number (paths S rank p v s rest.drained) (balance_in s) v S
 
   objects_are : length q.board.union.cells / 16 ≡ q.board.objects
   objects_are = let l = told.board.long in omega (arith, l)
 
   stands_for : StandsFor q.board.union.cells names S
   stands_for = record {
-    root = ply_at_root S rank p v s rest;
-    there = λ t c. (let lt = below (names t) (seen_live S rank p v s rest t c) in let e = objects_are in omega (arith, lt, e));
-    apart = seen_apart S rank p v s rest;
+    root = ply_at_root S rank p v s rest.drained;
+    there = λ t c. (let lt = below (names t) (seen_live S rank p v s rest.drained t c) in let e = objects_are in omega (arith, lt, e));
+    apart = seen_apart S rank p v s rest.drained;
     holds = λ t k c lt. sym (cell_is q.board (names t) k lt) ∙ seen_word S rank p v s rest written t k c lt;
     others = λ o lt. by_object o (at q.objects o) refl;
   }
     where
       by_object : (o : ℕ) (x : Option Object) → at q.objects o ≡ x → ((t : Thing) × IsCounted S t × (names t ≡ o)) ⊎ ((k : ℕ) → k < 16 → word_at q.board.union.cells o k ≡ words.Drop)
       by_object o None is = inr (λ k lt. told.free (16 * o + k) (ap (at q.objects) (owner_of o k lt) ∙ is))
-      by_object o (Some x) is = inl (found S rank p v s rest o (owned o (seen o (let c = told.taken o x is in let n : count_of q.objects o ≡ x.count = ap count_in is in omega (arith, c, n)))))
+      by_object o (Some x) is = inl (found S rank p v s rest.drained o (owned o (used_live q told seen o x is)))
 
   pub stands_at_rest : Stands q.board.union S
-  stands_at_rest = record { names = names; prefixes = rest.entries_are; quiet = none_mapped copy_seen q.board.union.retired rest.calm; stands = stands_for }
+  stands_at_rest = record { names = names; prefixes = rest.drained.entries_are; quiet = none_mapped copy_seen q.board.union.retired rest.calm; stands = stands_for }
 
   -- as many are used as the size says
   pub used_at_rest : length q.objects - free_in q.objects ≡ size S
-  used_at_rest = same_number S names q.objects (seen_apart S rank p v s rest)
-      (λ t c. live_at q.objects (names t) (live_down q told (names t) (seen_live S rank p v s rest t c)))
-      (λ o x is. found S rank p v s rest o (owned o (seen o (let c = told.taken o x is in let n : count_of q.objects o ≡ x.count = ap count_in is in omega (arith, c, n)))))
+  used_at_rest = same_number S names q.objects (seen_apart S rank p v s rest.drained)
+      (λ t c. live_at q.objects (names t) (live_down q told (names t) (seen_live S rank p v s rest.drained t c)))
+      (λ o x is. found S rank p v s rest.drained o (owned o (used_live q told seen o x is)))
 
   -- edges of words are edges of the union of objects
   edge_seen : (x y : ℕ) → core.Edge q.board.union x y → edges.Edge (union_of q.board) x y
@@ -131,5 +133,5 @@ module _ (S : Tables) (rank : Prefix → ℕ) (p : Promise) (q : Plane) (s : Par
 
   -- each walk over the cells is resolution
   pub walks_at_rest : (a h : ℕ) → IsFlow a h → walk q.board.union.cells a h ≡ resolve S a h
-  walks_at_rest = walk_resolved q.board.union q.board.objects names S stands_for rest.sound rest.entries_are
+  walks_at_rest = walk_resolved q.board.union q.board.objects names S stands_for rest.drained.sound rest.drained.entries_are
       (let l = told.board.limits.least in omega (arith, l)) told.board.long within (acyclic_part (core.Edge q.board.union) (edges.Edge (union_of q.board)) edge_seen told.acyclic)

@@ -18,7 +18,7 @@ ghost use Rattle.fib_joined.specs.Promise.{Promise};
 ghost use Rattle.fib_joined.specs.View.{View};
 ghost use Rattle.fib_shared.specs.Shares.{promise_of, view_of};
 ghost use Rattle.fib_stack.specs.Joined.{Joined, Parts, queued_in};
-ghost use Rattle.fib_quiet.specs.Rest.{IsAtRest, IsBeginning, IsSeen};
+ghost use Rattle.fib_quiet.specs.Rest.{IsAccounted, IsAtRest, IsBeginning, IsDrained, IsSeen};
 
 /// Once nothing is queued, deferred or retired, the plane's words stand for the tables: each ply, balance and adjacency that their size counts
 /// has a number and its words, and every other object is free.
@@ -37,6 +37,13 @@ pub fn walks_at_rest_are_resolution()
 pub fn as_many_are_used_as_the_size_says()
     ensures { (S : Tables) (rank : Prefix → ℕ) (p : Promise) (q : Plane) (s : Parts) → IsPlane q → IsSeen q
         → IsAtRest S rank p (view_of q) s → length q.objects - free_in q.objects ≡ size S }
+{}
+
+/// Already once nothing is queued, whatever is deferred or retired, each object in use is one that the size counts, or an edge of the union leads to
+/// it. What is counted is in use, under numbers that differ.
+pub fn what_is_used_is_counted_or_led_to()
+    ensures { (S : Tables) (rank : Prefix → ℕ) (p : Promise) (q : Plane) (s : Parts) → IsPlane q → IsSeen q
+        → IsDrained S rank p (view_of q) s → IsAccounted S q }
 {}
 
 /// At rest the last version may be settled: what stands between the plane, the prefix table, the stack and the queue stands then too.

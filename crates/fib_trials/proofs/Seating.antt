@@ -10,11 +10,11 @@ use Rattle.fib_plainboard.specs.Passes.{HasEnd, IsOnItsWay, fresh_plain, hopped_
 use Rattle.fib_plane.specs.Planes.{Plane}
 use Rattle.fib_joined.specs.Promise.{Promise}
 use Rattle.fib_shared.specs.Shares.{promise_of}
-use Rattle.fib_control.specs.Controls.{Control, IsBeneath, IsChanged, IsSettled, promise_in, with_board}
-use Rattle.fib_trials.specs.Seats.{HasCome, IsElseHome, IsHeld, IsHome, IsRested, Seats, first_seats, seats_in, seats_of}
+use Rattle.fib_control.specs.Controls.{Control, IsBeneath, IsChanged, IsSettled, but_settled, promise_in, with_board}
+use Rattle.fib_trials.specs.Seats.{HasCome, IsElseHome, IsHeld, IsHome, IsKept, IsRested, Seats, first_seats, seats_in, seats_of}
 
-pub seats_first : (c : Control) (b : Board) → promise_in c ≡ promise_of b → b ≡ fresh_plain 200 1 → seats_in c ≡ first_seats
-seats_first c b same is = ap (λ (p : Promise). seats_of p.rest) same ∙ ap seats_of is
+pub seats_first : (n : ℕ) (c : Control) (b : Board) → promise_in c ≡ promise_of b → b ≡ fresh_plain n 1 → seats_in c ≡ first_seats
+seats_first n c b same is = ap (λ (p : Promise). seats_of p.rest) same ∙ ap seats_of is
 
 pub seats_beneath : (c d : Control) → IsBeneath c d → seats_in d ≡ seats_in c
 seats_beneath c d i = ap (λ (p : Promise). seats_of p.rest) i.promise
@@ -29,17 +29,34 @@ pub seats_tried : {A E : Type 0} (r : Result A E) (c d : Control) → OnOk r (Is
 seats_tried (Ok a) c d settled same = seats_settled c d settled
 seats_tried (Err e) c d settled same = ap seats_in same
 
+pub seats_alone : (c d : Control) → but_settled d.plane.board ≡ but_settled c.plane.board → seats_in d ≡ seats_in c
+seats_alone c d same = ap seats_of same
+
 pub home_by : (s : Seats) → s ≡ first_seats → IsHome s
 home_by s is = subst IsHome (sym is) refl
 
-pub rested_by : (s : Seats) → s ≡ first_seats → IsRested 2 s
-rested_by s is = subst (IsRested 2) (sym is) (record { some = omega arith; home = refl; rests = refl; left = omega arith })
+pub rested_by : (n : ℕ) (s : Seats) → n ≤ left_of 0 → s ≡ first_seats → IsRested n s
+rested_by n s few is = subst (IsRested n) (sym is) (record { some = omega arith; home = refl; rests = refl; left = few })
 
 pub held_still : (e : Option End) (s t : Seats) → t ≡ s → IsHeld 2 e s → IsHeld 0 e t
 held_still e s t same h = subst (IsHeld 0 e) (sym same) (record { some = h.some; home = h.home; left = omega arith; come = h.come })
 
 pub rested_left : (s : Seats) → IsRested 1 s → 0 < left_of (slice_index s.rests 0)
 rested_left s r = (let l = r.left in omega (arith, l))
+
+-- calls that change no more than the board, and those that begin no change, keep the tables and the queue
+pub kept_passed : (c d : Control) (b : Board) → d ≡ with_board c b → IsKept c d
+kept_passed c d b is = record { setup = ap (λ (x : Control). x.setup) is; queue = ap (λ (x : Control). x.queue) is }
+
+pub kept_beneath : (c d : Control) → IsBeneath c d → d.queue ≡ c.queue → IsKept c d
+kept_beneath c d i queue = record { setup = i.setup; queue = queue }
+
+pub kept_settled : {A E : Type 0} (r : Result A E) (c d : Control) → OnOk r (IsSettled c d) → OnErr r (d ≡ c) → IsKept c d
+kept_settled (Ok a) c d settled same = record { setup = ap (λ (x : Control). x.setup) settled.others; queue = ap (λ (x : Control). x.queue) settled.others }
+kept_settled (Err e) c d settled same = record { setup = ap (λ (x : Control). x.setup) same; queue = ap (λ (x : Control). x.queue) same }
+
+pub kept_then : (c d e : Control) → IsKept c d → IsKept d e → IsKept c e
+kept_then c d e k l = record { setup = l.setup ∙ k.setup; queue = l.queue ∙ k.queue }
 
 -- worker 0 leaves, and comes home
 home_after : (out : List Bool) → not (list_any (λ away. away) out) ≡ true → not (list_any (λ away. away) (slice_set (slice_set out 0 true) 0 false)) ≡ true

@@ -26,6 +26,11 @@ seats_in c = seats_of c.plane.board
 abbrev pub first_seats : Seats
 first_seats = seats_of (fresh_plain 200 1)
 
+-- the tables, and what waits for a turn, are as before
+pub record IsKept (c d : Control) : Type 0 where
+  pub setup : d.setup ≡ c.setup
+  pub queue : d.queue ≡ c.queue
+
 -- nobody is out; or nobody but worker 0
 abbrev pub IsHome : Seats → Type 0
 IsHome s = not (list_any (λ away. away) s.out) ≡ true

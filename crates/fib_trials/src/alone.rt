@@ -1,20 +1,24 @@
 // Settling while nobody is out.
-ghost use Rattle.std.specs.Prelude.{◌≡◌};
+ghost use Rattle.std.specs.Prelude.{OnOk, ◌≡◌};
+ghost use Rattle.fib_control.specs.Controls.{IsQuiet};
 ghost use Rattle.fib_trials.specs.Seats.{IsHome, first_seats, seats_in};
 
 use crate::held::base;
 use crate::steps::{fresh, settle};
-use crate::trouble::{Trouble, of_want};
+use crate::trouble::Trouble;
 use fib_control::{Busy, Control};
 use fib_plainboard::PlainBoard;
 use std::alloc::Global;
 
-fn settle_alone(control: &mut Control<PlainBoard>) -> Result<u32, Trouble>
+/// Settles the last version, and answers its number.
+pub fn settle_alone(control: &mut Control<PlainBoard>) -> Result<u32, Trouble>
     requires { IsHome (seats_in control.old) }
+    ensures seats { seats_in control.new ≡ seats_in control.old }
+    ensures quiet { OnOk result (IsQuiet control.new) }
 {
     match control.settle_alone() {
         Ok(version) => Ok(version),
-        Err(want) => Err(of_want(want)),
+        Err(_) => Err(Trouble::Memory),
     }
 }
 

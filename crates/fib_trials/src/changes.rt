@@ -1,5 +1,5 @@
-// The changes of a trial in which two routes come to lead to each other.
-ghost use Rattle.std.specs.Prelude.{IfOk, length, ◌<◌};
+// The changes of the trials: two routes come to lead to each other, and one comes and goes.
+ghost use Rattle.std.specs.Prelude.{IfOk, length, ◌<◌, ◌+◌, ◌^◌};
 ghost use Rattle.std.specs.List.{AllByRecursion};
 ghost use Rattle.fib_resolve.specs.Reachable.{IsWritten, IsWrittenPath};
 
@@ -98,4 +98,34 @@ pub fn change(alloc: Global, version: u32) -> Result<Edit, Trouble>
         return of_interface(alloc, version);
     }
     of_route(alloc, version)
+}
+
+/// The changes of so many versions from that one on.
+pub fn changes(alloc: Global, start: u32, count: u32) -> Result<Vec<Edit>, Trouble>
+    requires { start + count < 2 ^ 32 }
+    ensures written { IfOk result (λ v. AllByRecursion IsWritten v.items) }
+    ensures few { IfOk result (λ v. length v.items < 2 ^ 32) }
+{
+    let mut edits = Vec::new(alloc);
+    for place in 0..count {
+        let edit = change(alloc, start + place)?;
+        let Ok(()) = edits.push(edit) else {
+            return Err(Trouble::Memory);
+        };
+    }
+    Ok(edits)
+}
+
+/// 20.0.0.0/8 comes, over 10.0.0.7.
+pub fn coming(alloc: Global) -> Result<Edit, Trouble>
+    ensures { IfOk result IsWritten }
+{
+    add(alloc, eight(20), Addr(0x0a00_0007))
+}
+
+/// And it goes.
+pub fn going(alloc: Global) -> Result<Edit, Trouble>
+    ensures { IfOk result IsWritten }
+{
+    delete(alloc, eight(20), Addr(0x0a00_0007))
 }

@@ -1,10 +1,10 @@
 // A pass that is held while two routes come to lead to each other: the buckets that would close a cycle with what it stands on wait for its end.
 ghost use Rattle.std.specs.Prelude.{IfOk, None, OnOk, Some, [], ℕ, ◌+◌, ◌≡◌};
 ghost use Rattle.fib_trials.specs.Calm.{AreCalm};
-ghost use Rattle.fib_trials.specs.Seats.{IsHeld, IsRested, first_seats, seats_in};
+ghost use Rattle.fib_trials.specs.Seats.{IsHeld, IsKept, IsRested, first_seats, seats_in};
 
 use crate::changes::eight;
-use crate::steps::{Answers, apply, calm, fresh, turns, turns_and_retries, walk};
+use crate::steps::{Answers, apply, apply_all, calm, fresh, turns, turns_and_retries, walk};
 use crate::trouble::Trouble;
 use fib_addr::Addr;
 use fib_control::Control;
@@ -14,20 +14,23 @@ use fib_resolve::End;
 use fib_stack::Turn;
 use std::alloc::Global;
 
+// More hops than a pass makes: there are 131,072 objects at most, and none comes twice.
+const MOST: u32 = 200_000;
+
 // Worker 0 begins a pass.
-fn begin(control: &mut Control<PlainBoard>, addr: Addr)
+fn begin(control: &mut Control<PlainBoard>, addr: Addr, hash: u32)
     requires { IsRested 1 (seats_in control.old) }
     ensures held { (n : ℕ) → IsRested n (seats_in control.old) → IsHeld n None (seats_in control.new) }
-    ensures queue { control.new.queue ≡ control.old.queue }
+    ensures kept { IsKept control.old control.new }
 {
-    control.begin(0, addr, 0);
+    control.begin(0, addr, hash);
 }
 
 // It goes on by one hop.
 fn hop(control: &mut Control<PlainBoard>) -> Option<End>
     requires { IsHeld 0 None (seats_in control.old) }
     ensures held { (n : ℕ) → IsHeld n None (seats_in control.old) → IsHeld n result (seats_in control.new) }
-    ensures queue { control.new.queue ≡ control.old.queue }
+    ensures kept { IsKept control.old control.new }
 {
     control.hop(0)
 }
@@ -36,7 +39,7 @@ fn hop(control: &mut Control<PlainBoard>) -> Option<End>
 fn hops(control: &mut Control<PlainBoard>, most: u32) -> Option<End>
     requires { IsHeld 0 None (seats_in control.old) }
     ensures held { (n : ℕ) → IsHeld n None (seats_in control.old) → IsHeld n result (seats_in control.new) }
-    ensures queue { control.new.queue ≡ control.old.queue }
+    ensures kept { IsKept control.old control.new }
 {
     for _count in 0..most {
         if let Some(end) = hop(control) {
@@ -46,15 +49,15 @@ fn hops(control: &mut Control<PlainBoard>, most: u32) -> Option<End>
     None
 }
 
-// To its end, which it may have.
-fn hops_left(control: &mut Control<PlainBoard>, end: Option<End>) -> Option<End>
+/// Goes on by so many hops, unless it has its end, or ends.
+pub fn hops_more(control: &mut Control<PlainBoard>, end: Option<End>, most: u32) -> Option<End>
     requires { IsHeld 0 end (seats_in control.old) }
     ensures held { (n : ℕ) → IsHeld n end (seats_in control.old) → IsHeld n result (seats_in control.new) }
-    ensures queue { control.new.queue ≡ control.old.queue }
+    ensures kept { IsKept control.old control.new }
 {
     match end {
         Some(_) => end,
-        None => hops(control, 200),
+        None => hops(control, most),
     }
 }
 
@@ -62,7 +65,7 @@ fn hops_left(control: &mut Control<PlainBoard>, end: Option<End>) -> Option<End>
 fn finish(control: &mut Control<PlainBoard>, end: End) -> Record
     requires { IsHeld 0 (Some end) (seats_in control.old) }
     ensures rested { (n : ℕ) → IsHeld (n + 1) (Some end) (seats_in control.old) → IsRested n (seats_in control.new) }
-    ensures queue { control.new.queue ≡ control.old.queue }
+    ensures kept { IsKept control.old control.new }
 {
     let _end = end;
     control.end(0)
@@ -72,9 +75,9 @@ fn finish(control: &mut Control<PlainBoard>, end: End) -> Record
 pub fn go_on(control: &mut Control<PlainBoard>, end: Option<End>) -> Result<Record, Trouble>
     requires { IsHeld 0 end (seats_in control.old) }
     ensures rested { OnOk result ((n : ℕ) → IsHeld (n + 1) end (seats_in control.old) → IsRested n (seats_in control.new)) }
-    ensures queue { OnOk result (control.new.queue ≡ control.old.queue) }
+    ensures kept { OnOk result (IsKept control.old control.new) }
 {
-    match hops_left(control, end) {
+    match hops_more(control, end, MOST) {
         Some(end) => Ok(finish(control, end)),
         None => Err(Trouble::Endless),
     }
@@ -84,7 +87,7 @@ pub fn go_on(control: &mut Control<PlainBoard>, end: Option<End>) -> Result<Reco
 pub fn look_up(control: &mut Control<PlainBoard>, addr: Addr) -> Result<End, Trouble>
     requires { IsRested 1 (seats_in control.old) }
 {
-    begin(control, addr);
+    begin(control, addr, 0);
     match go_on(control, None) {
         Ok(record) => Ok(record.end),
         Err(trouble) => Err(trouble),
@@ -100,9 +103,10 @@ pub fn base(alloc: Global, control: &mut Control<PlainBoard>) -> Result<(), Trou
     apply(alloc, control, 3)
 }
 
-// Turns, a scan and a retry; then the version is settled.
-fn settle_all(control: &mut Control<PlainBoard>) -> Result<(), Trouble>
-    ensures { OnOk result (seats_in control.new ≡ seats_in control.old) }
+/// Turns, a scan and a retry; then the version is settled.
+pub fn settle_all(control: &mut Control<PlainBoard>) -> Result<(), Trouble>
+    ensures seats { OnOk result (seats_in control.new ≡ seats_in control.old) }
+    ensures none { OnOk result (control.new.queue ≡ []) }
 {
     walk(control)?;
     if calm(control).settled.is_err() {
@@ -121,8 +125,17 @@ fn route(alloc: Global, control: &mut Control<PlainBoard>) -> Result<(), Trouble
     settle_all(control)
 }
 
+/// How the routes come to lead to each other.
+#[derive(Clone, Copy, Debug, PartialEq, Eq)]
+pub enum Made {
+    /// By two edits and then two, with all turns after each two.
+    InTurn,
+    /// By the four as one change.
+    AtOnce,
+}
+
 // 50.0.0.0/8 is over 10.0.0.8, and then 60.0.0.0/8 over 50.0.0.1. Answers the turn of 60.0.0.0/8.
-fn turn_round(alloc: Global, control: &mut Control<PlainBoard>) -> Result<Turn, Trouble>
+fn turn_by_two(alloc: Global, control: &mut Control<PlainBoard>) -> Result<Turn, Trouble>
     ensures seats { OnOk result (seats_in control.new ≡ seats_in control.old) }
     ensures none { OnOk result (control.new.queue ≡ []) }
 {
@@ -134,12 +147,32 @@ fn turn_round(alloc: Global, control: &mut Control<PlainBoard>) -> Result<Turn, 
     turns(control, eight(60))
 }
 
-// A pass to 50.1.1.1 comes so many hops far.
-fn hold(control: &mut Control<PlainBoard>, most: u32) -> Option<End>
-    requires { IsRested 2 (seats_in control.old) }
-    ensures { IsHeld 2 result (seats_in control.new) }
+// Both at once.
+fn turn_at_once(alloc: Global, control: &mut Control<PlainBoard>) -> Result<Turn, Trouble>
+    ensures seats { OnOk result (seats_in control.new ≡ seats_in control.old) }
+    ensures none { OnOk result (control.new.queue ≡ []) }
 {
-    begin(control, Addr(0x3201_0101));
+    apply_all(alloc, control, 6, 4)?;
+    turns(control, eight(60))
+}
+
+fn turn_round(alloc: Global, control: &mut Control<PlainBoard>, made: Made) -> Result<Turn, Trouble>
+    ensures seats { OnOk result (seats_in control.new ≡ seats_in control.old) }
+    ensures none { OnOk result (control.new.queue ≡ []) }
+{
+    match made {
+        Made::InTurn => turn_by_two(alloc, control),
+        Made::AtOnce => turn_at_once(alloc, control),
+    }
+}
+
+/// A pass begins and comes so many hops far, unless it ends before.
+pub fn hold(control: &mut Control<PlainBoard>, addr: Addr, hash: u32, most: u32) -> Option<End>
+    requires { IsRested 1 (seats_in control.old) }
+    ensures held { (n : ℕ) → IsRested n (seats_in control.old) → IsHeld n result (seats_in control.new) }
+    ensures kept { IsKept control.old control.new }
+{
+    begin(control, addr, hash);
     hops(control, most)
 }
 
@@ -163,13 +196,14 @@ fn hold_while_turned(
     alloc: Global,
     control: &mut Control<PlainBoard>,
     most: u32,
+    made: Made,
 ) -> Result<Found, Trouble>
     requires { seats_in control.old ≡ first_seats }
     ensures { IfOk result (λ found. AreCalm found.ended) }
 {
     route(alloc, control)?;
-    let end = hold(control, most);
-    let turn = turn_round(alloc, control)?;
+    let end = hold(control, Addr(0x3201_0101), 0, most);
+    let turn = turn_round(alloc, control, made)?;
     let deferred = control.deferred();
     let held = calm(control);
     let record = go_on(control, end)?;
@@ -186,11 +220,11 @@ fn hold_while_turned(
 }
 
 /// A pass to 50.1.1.1 is held after so many hops while the routes change. Once it has ended, nothing is left to wait for.
-pub fn held_after(alloc: Global, most: u32) -> Result<Found, Trouble>
+pub fn held_after(alloc: Global, most: u32, made: Made) -> Result<Found, Trouble>
     ensures { IfOk result (λ found. AreCalm found.ended) }
 {
     let mut control = fresh(alloc)?;
-    hold_while_turned(alloc, &mut control, most)
+    hold_while_turned(alloc, &mut control, most, made)
 }
 
 /// What is found where 60.0.0.0/8 is deleted while its buckets are deferred.
@@ -209,8 +243,8 @@ fn delete_while_held(alloc: Global, control: &mut Control<PlainBoard>) -> Result
     ensures { IfOk result (λ found. AreCalm found.ended) }
 {
     route(alloc, control)?;
-    let end = hold(control, 3);
-    turn_round(alloc, control)?;
+    let end = hold(control, Addr(0x3201_0101), 0, 3);
+    turn_by_two(alloc, control)?;
     apply(alloc, control, 10)?;
     turns_and_retries(control, eight(60), 16)?;
     let record = go_on(control, end)?;

@@ -6,6 +6,7 @@
 
 pub mod alone;
 pub mod changes;
+pub mod crowded;
 pub mod held;
 pub mod prefixes;
 pub mod records;

@@ -1,12 +1,14 @@
 // A control plane over a plain board, a step at a time. What isn't a pass's own call leaves all passes as they are.
-ghost use Rattle.std.specs.Prelude.{IfOk, IsOk, OnOk, [], true, ◌≡◌};
+ghost use Rattle.std.specs.Prelude.{IfOk, IsOk, OnOk, [], length, true, ◌+◌, ◌<◌, ◌^◌, ◌≡◌};
+ghost use Rattle.std.specs.List.{AllByRecursion};
+ghost use Rattle.fib_board.specs.Told.{IsWithinLimits};
 ghost use Rattle.fib_resolve.specs.Reachable.{IsWritten};
 ghost use Rattle.fib_control.specs.Controls.{IsQuiet};
 ghost use Rattle.fib_trials.specs.Calm.{AreCalm};
-ghost use Rattle.fib_trials.specs.Seats.{IsHome, first_seats, seats_in};
+ghost use Rattle.fib_trials.specs.Seats.{IsHome, IsKept, first_seats, seats_in};
 
-use crate::changes::change;
-use crate::trouble::{Trouble, of_apply, of_want};
+use crate::changes::{change, changes};
+use crate::trouble::{Trouble, of_apply, of_apply_all};
 use fib_addr::Prefix;
 use fib_control::{Busy, Control};
 use fib_plainboard::PlainBoard;
@@ -14,21 +16,29 @@ use fib_resolve::Edit;
 use fib_stack::Turn;
 use std::alloc::Global;
 
-/// Over 200 objects, with one worker.
-pub fn fresh(alloc: Global) -> Result<Control<PlainBoard>, Trouble>
+/// Over that many objects, with one worker.
+pub fn fresh_over(alloc: Global, objects: u32) -> Result<Control<PlainBoard>, Trouble>
+    requires { IsWithinLimits objects 1 }
     ensures { IfOk result (λ c. seats_in c ≡ first_seats) }
 {
-    let board = PlainBoard::new(alloc, 200, 1)?;
+    let board = PlainBoard::new(alloc, objects, 1)?;
     match Control::new(alloc, board) {
         Ok(control) => Ok(control),
         Err(_) => Err(Trouble::Memory),
     }
 }
 
-// Makes an edit, and answers the version.
-fn make(control: &mut Control<PlainBoard>, edit: &Edit) -> Result<u32, Trouble>
+/// Over 200 objects, with one worker.
+pub fn fresh(alloc: Global) -> Result<Control<PlainBoard>, Trouble>
+    ensures { IfOk result (λ c. seats_in c ≡ first_seats) }
+{
+    fresh_over(alloc, 200)
+}
+
+/// Makes an edit, and answers the version.
+pub fn make(control: &mut Control<PlainBoard>, edit: &Edit) -> Result<u32, Trouble>
     requires { IsWritten edit.now }
-    ensures { OnOk result (seats_in control.new ≡ seats_in control.old) }
+    ensures { seats_in control.new ≡ seats_in control.old }
 {
     if control.version().applied == u32::MAX {
         return Err(Trouble::Refused);
@@ -50,13 +60,45 @@ pub fn apply(alloc: Global, control: &mut Control<PlainBoard>, version: u32) -> 
     Err(Trouble::Otherwise)
 }
 
-// One turn.
-fn turn(control: &mut Control<PlainBoard>) -> Result<Turn, Trouble>
+/// Makes edits as one change, and answers the version.
+pub fn make_all(control: &mut Control<PlainBoard>, edits: &[Edit]) -> Result<u32, Trouble>
+    requires written { AllByRecursion IsWritten edits.now }
+    requires few { length edits.now < 2 ^ 32 }
+    ensures { seats_in control.new ≡ seats_in control.old }
+{
+    if control.version().applied == u32::MAX {
+        return Err(Trouble::Refused);
+    }
+    match control.apply_all(edits) {
+        Ok(version) => Ok(version),
+        Err(error) => Err(of_apply_all(error)),
+    }
+}
+
+/// Makes the changes of so many versions from this one on as one change, which makes this version.
+pub fn apply_all(
+    alloc: Global,
+    control: &mut Control<PlainBoard>,
+    version: u32,
+    count: u32,
+) -> Result<(), Trouble>
+    requires { version + count < 2 ^ 32 }
+    ensures { OnOk result (seats_in control.new ≡ seats_in control.old) }
+{
+    let edits = changes(alloc, version, count)?;
+    if make_all(control, edits.as_slice())? == version {
+        return Ok(());
+    }
+    Err(Trouble::Otherwise)
+}
+
+/// One turn.
+pub fn turn(control: &mut Control<PlainBoard>) -> Result<Turn, Trouble>
     ensures { OnOk result (seats_in control.new ≡ seats_in control.old) }
 {
     match control.turn() {
         Ok(turn) => Ok(turn),
-        Err(want) => Err(of_want(want)),
+        Err(_) => Err(Trouble::Memory),
     }
 }
 
@@ -120,11 +162,12 @@ pub fn turns_and_retries(
 
 /// Turns until none is queued, in one call.
 pub fn walk(control: &mut Control<PlainBoard>) -> Result<(), Trouble>
-    ensures { OnOk result (seats_in control.new ≡ seats_in control.old) }
+    ensures seats { OnOk result (seats_in control.new ≡ seats_in control.old) }
+    ensures none { OnOk result (control.new.queue ≡ []) }
 {
     match control.walk() {
         Ok(()) => Ok(()),
-        Err(want) => Err(of_want(want)),
+        Err(_) => Err(Trouble::Memory),
     }
 }
 
@@ -139,17 +182,19 @@ pub struct Answers {
     pub settled: Result<u32, Busy>,
 }
 
-fn scan(control: &mut Control<PlainBoard>) -> u32
+/// Looks what no pass stands on any more. Answers how many copies are left.
+pub fn scan(control: &mut Control<PlainBoard>) -> u32
     ensures seats { seats_in control.new ≡ seats_in control.old }
-    ensures queue { control.new.queue ≡ control.old.queue }
+    ensures kept { IsKept control.old control.new }
     ensures alone { IsHome (seats_in control.old) → (result ≡ 0) × (control.new.plane.board.union.retired ≡ []) }
 {
     control.scan()
 }
 
-fn retry(control: &mut Control<PlainBoard>) -> u32
+/// Tries what is deferred. Answers how many buckets stay so.
+pub fn retry(control: &mut Control<PlainBoard>) -> u32
     ensures seats { seats_in control.new ≡ seats_in control.old }
-    ensures queue { control.new.queue ≡ control.old.queue }
+    ensures kept { IsKept control.old control.new }
     ensures calm { control.old.queue ≡ [] → control.old.plane.board.union.retired ≡ [] → (result ≡ 0) × IsQuiet control.new }
 {
     control.retry()
@@ -158,8 +203,9 @@ fn retry(control: &mut Control<PlainBoard>) -> u32
 /// Tries to settle.
 pub fn settle(control: &mut Control<PlainBoard>) -> Result<u32, Busy>
     ensures seats { seats_in control.new ≡ seats_in control.old }
-    ensures queue { control.new.queue ≡ control.old.queue }
-    ensures quiet { IsQuiet control.old → IsOk result }
+    ensures kept { IsKept control.old control.new }
+    ensures settles { IsQuiet control.old → IsOk result }
+    ensures quiet { IsQuiet control.old → IsQuiet control.new }
 {
     control.mark_settled()
 }
@@ -167,8 +213,8 @@ pub fn settle(control: &mut Control<PlainBoard>) -> Result<u32, Busy>
 /// Scans, retries, and tries to settle. Where nobody is out and nothing is queued, nothing is left, and the last version is settled.
 pub fn calm(control: &mut Control<PlainBoard>) -> Answers
     ensures seats { seats_in control.new ≡ seats_in control.old }
-    ensures queue { control.new.queue ≡ control.old.queue }
-    ensures calm { IsHome (seats_in control.old) → control.old.queue ≡ [] → AreCalm result }
+    ensures kept { IsKept control.old control.new }
+    ensures calm { IsHome (seats_in control.old) → control.old.queue ≡ [] → AreCalm result × IsQuiet control.new }
 {
     let retired = scan(control);
     let deferred = retry(control);

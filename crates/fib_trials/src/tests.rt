@@ -1,7 +1,8 @@
 // What the trials answer.
 use crate::alone::three_lines;
 use crate::changes::eight;
-use crate::held::{Deleted, Found, deleted_while_held, held_after};
+use crate::crowded::{Crowd, Crowded, crowded_after, crowded_below};
+use crate::held::{Deleted, Found, Made, deleted_while_held, held_after};
 use crate::prefixes::{add_new, first_balance, fresh, remove_both, started};
 use crate::records::{first_user, let_go, listed_users, user_goes};
 use crate::sets::{Numbers, is_right};
@@ -127,18 +128,18 @@ fn is_calm(answers: &Answers, version: u32) -> bool {
         }
 }
 
-// Whether the pass saw the versions from 5, which was settled, to 9.
-fn spans(record: &Record) -> bool {
+// Whether the pass saw the versions from 5, which was settled, to that one.
+fn spans(record: &Record, last: u32) -> bool {
     record.lo == Version::settled_at(5)
         && record.hi
             == Version {
                 settled: 5,
-                applied: 9,
+                applied: last,
             }
 }
 
-// Whether that is what is found of a pass that was held after so many hops.
-fn is_found(found: &Found, hops: u32) -> bool {
+// Whether that is what is found of a pass that was held after so many hops, where the last version is that one.
+fn is_found(found: &Found, hops: u32, last: u32) -> bool {
     let turn = Turn::Restacked {
         entry: eight(60),
         stores: 16,
@@ -146,15 +147,15 @@ fn is_found(found: &Found, hops: u32) -> bool {
     };
     found.turn == turn
         && waits(found)
-        && spans(&found.record)
+        && spans(&found.record, last)
         && found.record.end == end_after(hops)
-        && is_calm(&found.ended, 9)
+        && is_calm(&found.ended, last)
         && found.end == hop_to(0x0a00_0008)
 }
 
-fn finds(alloc: Global, hops: u32) -> Result<bool, Trouble> {
-    match held_after(alloc, hops) {
-        Ok(found) => Ok(is_found(&found, hops)),
+fn finds(alloc: Global, hops: u32, made: Made, last: u32) -> Result<bool, Trouble> {
+    match held_after(alloc, hops, made) {
+        Ok(found) => Ok(is_found(&found, hops, last)),
         Err(trouble) => Err(trouble),
     }
 }
@@ -162,7 +163,15 @@ fn finds(alloc: Global, hops: u32) -> Result<bool, Trouble> {
 #[test]
 fn sixteen_buckets_wait_for_a_held_pass(rt: HostRuntime) -> Result<(), Fail> {
     for hops in 0..8 {
-        assert!(rt; finds(rt.alloc(), hops)?, "{hops} hops");
+        assert!(rt; finds(rt.alloc(), hops, Made::InTurn, 9)?, "{hops} hops");
+    }
+    Ok(())
+}
+
+#[test]
+fn sixteen_buckets_wait_where_a_batch_turns_routes(rt: HostRuntime) -> Result<(), Fail> {
+    for hops in 0..8 {
+        assert!(rt; finds(rt.alloc(), hops, Made::AtOnce, 6)?, "{hops} hops");
     }
     Ok(())
 }
@@ -182,5 +191,62 @@ fn deletes(alloc: Global) -> Result<bool, Trouble> {
 #[test]
 fn a_route_is_deleted_while_its_buckets_wait(rt: HostRuntime) -> Result<(), Fail> {
     assert!(rt; deletes(rt.alloc())?);
+    Ok(())
+}
+
+// A pass that saw the versions from that one, which was settled, to 11.
+fn is_pass(record: &Record, settled: u32, end: End) -> bool {
+    record.lo == Version::settled_at(settled)
+        && record.hi
+            == Version {
+                settled,
+                applied: 11,
+            }
+        && record.end == end
+}
+
+// Whether the change was one too many after so many, and is made as version 12 once nothing waits.
+fn is_crowded(found: &Crowded, used: u32, made: u32) -> bool {
+    let crowd = Crowd {
+        made,
+        free: 33,
+        wanted: 35,
+    };
+    found.used == used && found.crowd == crowd && is_calm(&found.ended, 11) && found.version == 12
+}
+
+fn crowds_above(alloc: Global, hops: u32) -> Result<bool, Trouble> {
+    match crowded_after(alloc, 80, hops) {
+        Ok(found) => Ok(is_crowded(&found, 31, 8) && is_pass(&found.record, 3, End::Drop)),
+        Err(trouble) => Err(trouble),
+    }
+}
+
+#[test]
+fn a_held_pass_crowds_eighty_objects(rt: HostRuntime) -> Result<(), Fail> {
+    for hops in 0..3 {
+        assert!(rt; crowds_above(rt.alloc(), hops)?, "{hops} hops");
+    }
+    Ok(())
+}
+
+// By its second hop the pass is on the route's object, which it leads to its old end.
+fn crowds_below(alloc: Global, hops: u32) -> Result<bool, Trouble> {
+    let end = if hops < 2 {
+        End::Drop
+    } else {
+        hop_to(0x0a00_0007)
+    };
+    match crowded_below(alloc, 80, hops) {
+        Ok(found) => Ok(is_crowded(&found, 35, 7) && is_pass(&found.record, 4, end)),
+        Err(trouble) => Err(trouble),
+    }
+}
+
+#[test]
+fn so_does_one_on_a_ply_that_comes_and_goes(rt: HostRuntime) -> Result<(), Fail> {
+    for hops in 0..3 {
+        assert!(rt; crowds_below(rt.alloc(), hops)?, "{hops} hops");
+    }
     Ok(())
 }

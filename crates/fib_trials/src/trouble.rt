@@ -1,7 +1,7 @@
 // Why a trial doesn't come to its end.
 ghost use Rattle.std.specs.Prelude.{◌≡◌};
 
-use fib_control::ApplyError;
+use fib_control::{ApplyError, BatchApplyError};
 use fib_stack::Want;
 use std::alloc::AllocError;
 
@@ -38,11 +38,20 @@ pub fn of_want(want: Want) -> Trouble {
     }
 }
 
-/// Why a change wasn't made.
+/// Why an edit wasn't made.
 pub fn of_apply(error: ApplyError) -> Trouble {
     match error {
         ApplyError::Refused(_) => Trouble::Refused,
         ApplyError::Crowded { .. } => Trouble::Object,
         ApplyError::Memory => Trouble::Memory,
+    }
+}
+
+/// Why several edits weren't made.
+pub fn of_apply_all(error: BatchApplyError) -> Trouble {
+    match error {
+        BatchApplyError::Refused { .. } => Trouble::Refused,
+        BatchApplyError::Crowded { .. } => Trouble::Object,
+        BatchApplyError::Memory => Trouble::Memory,
     }
 }

@@ -1,6 +1,4 @@
-use Rattle.std.proofs.Common.{ap}
-use Rattle.fib_control.specs.Controls.{Control}
-use Rattle.fib_trials.proofs.Seating.{begun_held, rested_left}
+use Rattle.fib_trials.proofs.Seating.{begun_held, kept_passed, rested_left}
 use Rattle.fib_trials.proofs.held.begin.Goals as goal
 
 pub begin-requires-clause-worker : goal.begin-requires-clause-worker
@@ -13,7 +11,7 @@ pub begin-requires-clause-left : goal.begin-requires-clause-left
 begin-requires-clause-left c = rested_left _ c.requires
 
 pub returns-clause-held : goal.returns-clause-held
-returns-clause-held c = λ n r. begun_held n c.args.control.now c.begin.new.self c.args.addr 0 c.begin.ensures.pass c.begin.ensures.on r
+returns-clause-held c = λ n r. begun_held n c.args.control.now c.begin.new.self c.args.addr c.args.hash c.begin.ensures.pass c.begin.ensures.on r
 
-pub returns-clause-queue : goal.returns-clause-queue
-returns-clause-queue c = ap (λ (x : Control). x.queue) c.begin.ensures.pass
+pub returns-clause-kept : goal.returns-clause-kept
+returns-clause-kept c = kept_passed c.args.control.now c.begin.new.self _ c.begin.ensures.pass

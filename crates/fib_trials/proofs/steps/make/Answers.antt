@@ -1,5 +1,10 @@
+use Rattle.std.proofs.Common.{ap}
+use Rattle.fib_trials.specs.Seats.{seats_in}
 use Rattle.fib_trials.proofs.Seating.{seats_changed}
 use Rattle.fib_trials.proofs.steps.make.Goals as goal
 
 pub returns-in-Ok : goal.returns-in-Ok
 returns-in-Ok c = seats_changed c.args.control.now c.apply.new.self _ c.in-Ok.ensures.changed
+
+pub returns-in-Err : goal.returns-in-Err
+returns-in-Err c = ap seats_in c.in-Err.ensures.err

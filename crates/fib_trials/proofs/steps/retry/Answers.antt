@@ -1,11 +1,11 @@
-use Rattle.fib_trials.proofs.Seating.{seats_beneath}
+use Rattle.fib_trials.proofs.Seating.{kept_beneath, seats_beneath}
 use Rattle.fib_trials.proofs.steps.retry.Goals as goal
 
 pub returns-clause-seats : goal.returns-clause-seats
 returns-clause-seats c = seats_beneath c.args.control.now c.retry.new.self c.retry.ensures.same
 
-pub returns-clause-queue : goal.returns-clause-queue
-returns-clause-queue c = c.retry.ensures.parts.2
+pub returns-clause-kept : goal.returns-clause-kept
+returns-clause-kept c = kept_beneath c.args.control.now c.retry.new.self c.retry.ensures.same c.retry.ensures.parts.2
 
 pub returns-clause-calm : goal.returns-clause-calm
 returns-clause-calm c = c.retry.ensures.calm

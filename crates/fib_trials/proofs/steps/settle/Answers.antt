@@ -1,12 +1,15 @@
-use Rattle.fib_trials.proofs.Calming.{queue_tried, quiet_settles}
-use Rattle.fib_trials.proofs.Seating.{seats_tried}
+use Rattle.fib_trials.proofs.Calming.{quiet_after, quiet_settles}
+use Rattle.fib_trials.proofs.Seating.{kept_settled, seats_tried}
 use Rattle.fib_trials.proofs.steps.settle.Goals as goal
 
 pub returns-clause-seats : goal.returns-clause-seats
 returns-clause-seats c = seats_tried c.mark_settled.result c.args.control.now c.mark_settled.new.self c.mark_settled.ensures.settled c.mark_settled.ensures.err
 
-pub returns-clause-queue : goal.returns-clause-queue
-returns-clause-queue c = queue_tried c.mark_settled.result c.args.control.now c.mark_settled.new.self c.mark_settled.ensures.settled c.mark_settled.ensures.err
+pub returns-clause-kept : goal.returns-clause-kept
+returns-clause-kept c = kept_settled c.mark_settled.result c.args.control.now c.mark_settled.new.self c.mark_settled.ensures.settled c.mark_settled.ensures.err
 
 pub returns-clause-quiet : goal.returns-clause-quiet
-returns-clause-quiet c = λ q. quiet_settles c.mark_settled.result c.args.control.now c.mark_settled.ensures.busy q
+returns-clause-quiet c = quiet_after c.mark_settled.result c.args.control.now c.mark_settled.new.self c.mark_settled.ensures.settled c.mark_settled.ensures.err
+
+pub returns-clause-settles : goal.returns-clause-settles
+returns-clause-settles c = λ q. quiet_settles c.mark_settled.result c.args.control.now c.mark_settled.ensures.busy q

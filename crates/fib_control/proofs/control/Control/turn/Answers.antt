@@ -1,4 +1,5 @@
 use Rattle.std.proofs.Common.{◌≡◌, ◌<◌, List, refl, sym, ap, ◌∙◌, subst, arith}
+use Rattle.std.specs.Prelude.{Err}
 use Rattle.fib_addr.specs.Prefixes.{Prefix}
 use Rattle.fib_reach.specs.Walks.{AllDiffer}
 use Rattle.fib_stack.specs.Done.{TurnDone}
@@ -50,8 +51,8 @@ returns-in-Ok-clause-turn g c =
     let new : Control = record { setup = c.self.inside.config; entries = c.self.inside.entries; plane = c.restack.new.shared.plane; rows = c.restack.new.table.rows.members; plies = c.restack.new.table.plies; known = c.restack.new.stack.ledger.rows; late = c.restack.new.stack.late.members; queue = c.restack.new.queue.members; done = c.note.new.done.items } in
     subst (λ (x : Control). TurnDone (tables_in x) (rank_by x) c.in-Ok.turn (state_now x) (state_now new)) c.self.view_is c.in-Ok.ensures.turn
 
-pub returns-in-Err-clause-finds : goal.returns-in-Err-clause-finds
-returns-in-Err-clause-finds g c =
+pub memory_of-requires : goal.memory_of-requires
+memory_of-requires g c =
     let old : Control = record { setup = c.self.inside.config; entries = c.self.inside.entries; plane = c.self.inside.shared.plane; rows = c.self.inside.table.rows.members; plies = c.self.inside.table.plies; known = c.self.inside.stack.ledger.rows; late = c.self.inside.stack.late.members; queue = c.self.inside.queue.members; done = c.self.inside.done.items } in
     let waits = busy_waits old c.self.invariant.0 c.len.result c.len.ensures c.if-len-eq0.false in
-    c.in-Err.ensures.finds (c.self.invariant.0.roomy (omega (arith, waits)))
+    λ is. c.in-Err.ensures.finds (c.self.invariant.0.roomy (omega (arith, waits))) (ap (λ w. Err w) is)

@@ -1,0 +1,36 @@
+-- Controls that differ by their boards alone, and boards whose workers leave.
+use Rattle.std.proofs.Common.{◌≡◌, ◌<◌, ◌≤◌, ◌+◌, ◌^◌, ◌++◌, ◌∷◌, [], ℕ, List, Some, true, false, length, arith, ap, ◌∙◌, sym, subst}
+use Rattle.std.specs.Prelude.{slice_index_or}
+use Rattle.std.proofs.lemmas.List.{get_or-set_other}
+use Rattle.fib_board.specs.Boards.{Board}
+use Rattle.fib_board.specs.Crews.{MaySend, board_sent, new_seat}
+use Rattle.fib_control.specs.Controls.{Control, with_board}
+use Rattle.fib_homing.specs.Homes.{but_out}
+use Rattle.fib_homing.specs.Stations.{IsCrew, IsMustered}
+use Rattle.fib_homing.specs.declared.station.Station.{Station}
+use Rattle.fib_homing.proofs.Mustering.{crew_more}
+
+-- one step more
+pub with_step : (a b c : Control) (x : Board) → b ≡ with_board a b.plane.board → c ≡ with_board b x → c ≡ with_board a c.plane.board
+with_step a b c x same step =
+    step ∙ (ap (λ (y : Control). with_board y x) same ∙ ap (with_board a) (sym (ap (λ (y : Control). y.plane.board) step)))
+
+pub may_send : (a b : Board) (n workers : ℕ) → but_out b ≡ but_out a → n < workers → workers ≤ a.workers → length a.gathered < 2 ^ 60 → slice_index_or b.out n false ≡ false → MaySend b n
+may_send a b n workers sent lt le few home = record {
+  one = (let e = ap (λ (x : Board). x.workers) sent in omega (arith, e, lt, le));
+  home = home;
+  few = (let e = ap (λ (x : Board). length x.gathered) sent in omega (arith, e, few));
+}
+
+pub one_sent : (a b : Board) (c : Control) (n : ℕ) → but_out b ≡ but_out a → c.plane.board ≡ board_sent b n → but_out c.plane.board ≡ but_out a
+one_sent a b c n sent step = ap but_out step ∙ sent
+
+pub others_home : (b c : Board) (n : ℕ) → ((i : ℕ) → n ≤ i → slice_index_or b.out i false ≡ false) → c ≡ board_sent b n → (i : ℕ) → n + 1 ≤ i → slice_index_or c.out i false ≡ false
+others_home b c n home step i le =
+    ap (λ (x : Board). slice_index_or x.out i false) step
+    ∙ (get_or-set_other b.out n i true false (λ e. omega (arith, e, le)) ∙ home i (omega (arith, le)))
+
+pub crew_longer : (a b : Board) (n : ℕ) (old new : List Station) (s : Station) → but_out b ≡ but_out a → IsCrew a 0 old → length old ≡ n → IsMustered b n s → new ≡ old ++ s ∷ [] → IsCrew a 0 new
+crew_longer a b n old new s sent crew long is items =
+    let at : n ≡ 0 + length old = omega (arith, long) in
+    subst (IsCrew a 0) (sym items) (crew_more a 0 old s crew (subst (λ m. IsMustered a m s) at (is ∙ ap (λ (x : Board). Some (new_seat x n)) sent)))

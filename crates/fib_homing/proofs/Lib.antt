@@ -1,0 +1,6 @@
+pub mod Mustering
+pub mod Placing
+pub mod Gathering
+pub mod Arriving
+pub mod Boarding
+pub mod Starting

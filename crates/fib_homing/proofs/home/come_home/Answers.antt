@@ -1,0 +1,50 @@
+use Rattle.std.proofs.Common.{ap, length, refl}
+use Rattle.fib_control.specs.Controls.{Control}
+use Rattle.fib_crew.specs.Packets.{span}
+use Rattle.fib_homing.proofs.Arriving.{coming_more, coming_none, may_come}
+use Rattle.fib_homing.proofs.Boarding.{with_step}
+use Rattle.fib_homing.proofs.home.come_home.Goals as goal
+
+pub loop-station-preserved : goal.loop-station-preserved
+loop-station-preserved c =
+    let i = c.loop-station.invariant in
+    let t = c.args.taken in
+    let taken = span c.args.packets.now.packets t.first t.to in
+    let coming = rw c.in-Some.ensures.steps.0 at i.coming in
+    let back = coming.back.0 in
+    let home = c.come_one-came.ensures.home back.worker back.has in
+    let a = c.args.control.now in
+    let b = c.loop-station.control in
+    record {
+      same = with_step a b c.come_one-came.new.control _ i.same home;
+      coming = coming_more t.opened t.first t.base (length c.args.crew.items) taken a.plane.board b.plane.board c.come_one-came.new.control.plane.board c.args.places.now c.loop-station.places
+          c.come_one-came.new.places c.loop-station.done c.both-done.result c.in-Some.station c.next.new.self.rest.items back.worker coming back.has (ap (λ (x : Control). x.plane.board) home)
+          (λ yes. (let two = c.both-done.ensures yes in (two.0, c.come_one-came.ensures.ended two.1, c.come_one-came.ensures.places two.1)))
+          c.come_one-came.ensures.long;
+      places = i.places;
+    }
+
+pub come_one-came-requires-clause-of : goal.come_one-came-requires-clause-of
+come_one-came-requires-clause-of c =
+    let i = c.loop-station.invariant in
+    let t = c.args.taken in
+    (may_come t.opened t.first t.base (length c.args.crew.items) (span c.args.packets.now.packets t.first t.to) c.args.control.now.plane.board c.loop-station.control.plane.board c.args.places.now
+    c.loop-station.places c.loop-station.done c.in-Some.station c.next.new.self.rest.items (rw c.in-Some.ensures.steps.0 at i.coming) i.places).0
+
+pub come_one-came-requires-clause-inside : goal.come_one-came-requires-clause-inside
+come_one-came-requires-clause-inside c =
+    let i = c.loop-station.invariant in
+    let t = c.args.taken in
+    (may_come t.opened t.first t.base (length c.args.crew.items) (span c.args.packets.now.packets t.first t.to) c.args.control.now.plane.board c.loop-station.control.plane.board c.args.places.now
+    c.loop-station.places c.loop-station.done c.in-Some.station c.next.new.self.rest.items (rw c.in-Some.ensures.steps.0 at i.coming) i.places).1
+
+pub loop-station-init : goal.loop-station-init
+loop-station-init c =
+    let t = c.args.taken in
+    let taken = span c.args.packets.now.packets t.first t.to in
+    record {
+      same = refl;
+      coming = rw c.into_iter-station-iterator.ensures.into_iter_gives.0
+          (coming_none t.opened t.first t.base (length c.args.crew.items) taken c.args.control.now.plane.board c.args.places.now c.args.crew.items c.requires.back refl c.requires.others);
+      places = c.requires.places;
+    }

@@ -1,0 +1,4 @@
+pub mod Stations
+pub mod Places
+pub mod Homes
+pub mod inner
