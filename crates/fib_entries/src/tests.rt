@@ -28,37 +28,75 @@ fn recursive_route(alloc: Global) -> Result<Edit, AllocError>
     })
 }
 
-#[test]
-fn a_recursive_route_makes_a_host(rt: HostRuntime) -> Result<(), Fail> {
-    let alloc = rt.alloc();
+/// Tables with that route.
+fn with_route(alloc: Global) -> Result<Config, Fail> {
     let mut config = Config::new(alloc, 1000)?;
-    let mut entries = Entries::new(alloc)?;
-    assert_eq!(rt; entries.len(), 5);
-    assert_eq!(rt; entries.size(), 20);
     config.edit(&recursive_route(alloc)?)?;
+    Ok(config)
+}
+
+/// Whether the change is too large for three objects.
+fn is_too_large(entries: &mut Entries, config: &Config, change: Change) -> bool {
+    entries.follow_changes(config, &[change], 3).is_err()
+}
+
+/// Whether the change touches two prefixes, and gives some a rank.
+fn touches_two(
+    entries: &mut Entries,
+    config: &Config,
+    change: Change,
+) -> Result<bool, FollowError> {
+    let followed = entries.follow_changes(config, &[change], 1000)?;
+    Ok(followed.touched.list().len() == 2 && followed.moved.len() > 0)
+}
+
+/// Whether the host has the route alone as its dependant, which it wakes.
+fn leads_to(entries: &Entries, route: Prefix, host: Prefix) -> bool {
+    entries.dependants(host) == [route].as_slice()
+        && entries.wakes(route, host)
+        && entries.rank(host) < entries.rank(route)
+}
+
+/// Whether the route has one path, which isn't looped.
+fn has_a_path(entries: &Entries, route: Prefix) -> bool {
+    !entries.looped(route, 0)
+        && entries.pairs(route).len() == 1
+        && entries.marked(route).len() == 1
+        && entries.chosen(route).is_some()
+}
+
+fn has_lists(entries: &Entries) -> bool {
+    entries.len() == 7
+        && entries.lists().count() > 0
+        && entries.cover(Addr(0x0a00_0007)) == Prefix::masked(Addr(0), 0)
+}
+
+/// Whether the entries follow the change, and what they say then.
+fn follows_the_route(entries: &mut Entries, config: &Config) -> Result<bool, FollowError> {
     let route = Prefix::masked(Addr(0x1400_0000), 8);
     let host = Prefix::host(Addr(0x0a00_0007));
     let change = Change::Route {
         prefix: route,
         source: FibSource::Cli,
     };
-    let crowded = entries.follow_changes(&config, &[change], 3);
-    assert!(rt; crowded.is_err());
-    let followed = entries.follow_changes(&config, &[change], 1000)?;
-    assert_eq!(rt; followed.touched.list().len(), 2);
-    assert!(rt; followed.moved.len() > 0);
-    assert_eq!(rt; entries.len(), 7);
-    assert_eq!(rt; entries.dependants(host), [route].as_slice());
-    assert!(rt; entries.wakes(route, host));
-    assert!(rt; entries.rank(host) < entries.rank(route));
-    assert!(rt; !entries.looped(route, 0));
-    assert_eq!(rt; entries.pairs(route).len(), 1);
-    assert_eq!(rt; entries.marked(route).len(), 1);
-    assert!(rt; entries.chosen(route).is_some());
-    assert_eq!(rt;
-        entries.cover(Addr(0x0a00_0007)),
-        Prefix::masked(Addr(0), 0)
-    );
-    assert!(rt; entries.lists().count() > 0);
+    let is_refused = is_too_large(entries, config, change);
+    let is_followed = touches_two(entries, config, change)?;
+    Ok(
+        is_refused
+            && is_followed
+            && leads_to(entries, route, host)
+            && has_a_path(entries, route)
+            && has_lists(entries),
+    )
+}
+
+// The test owns what it looks at and has one assertion: the prover follows every way out past every owner.
+#[test]
+fn a_recursive_route_makes_a_host(rt: HostRuntime) -> Result<(), Fail> {
+    let alloc = rt.alloc();
+    let config = with_route(alloc)?;
+    let mut entries = Entries::new(alloc)?;
+    let is_fresh = entries.len() == 5 && entries.size() == 20;
+    assert!(rt; is_fresh && follows_the_route(&mut entries, &config)?);
     Ok(())
 }

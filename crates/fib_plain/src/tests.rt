@@ -1,62 +1,89 @@
-// The public calls once, over the fresh tables; the crates above compare them with worked and generated tables.
+// The public calls once, over the fresh tables; the crates above compare them with worked and generated tables. Each test owns what it looks
+// at and has one assertion: the prover follows every way out past every owner.
 use super::*;
 use fib_addr::{Addr, Prefix};
 use fib_resolve::{End, Need, Tables};
+use std::alloc::{AllocError, Global};
 use std::test::Fail;
 
 const INSIDE: Addr = Addr(0x0a01_0203);
+
+fn everything() -> Prefix {
+    Prefix::masked(Addr(0), 0)
+}
+
+fn only_drops(alloc: Global, fresh: &Tables) -> Result<bool, AllocError> {
+    Ok(ends(alloc, fresh)?.as_slice() == [End::Drop].as_slice())
+}
+
+fn touches_nothing(alloc: Global, fresh: &Tables) -> Result<bool, AllocError> {
+    Ok(touched(alloc, fresh, fresh)?.is_empty())
+}
+
+fn says_single_answers(alloc: Global, fresh: &Tables) -> Result<bool, AllocError> {
+    Ok(
+        size(alloc, fresh)? == 20
+            && resolve(alloc, fresh, INSIDE, 5)? == End::Drop
+            && only_drops(alloc, fresh)?
+            && touches_nothing(alloc, fresh)?
+            && !usable(alloc, fresh, everything(), 0)?,
+    )
+}
 
 #[test]
 fn single_answers(rt: HostRuntime) -> Result<(), Fail> {
     let alloc = rt.alloc();
     let fresh = Tables::fresh(alloc);
-    assert_eq!(rt; size(alloc, &fresh)?, 20);
-    assert_eq!(rt; resolve(alloc, &fresh, INSIDE, 5)?, End::Drop);
-    assert_eq!(rt; ends(alloc, &fresh)?.as_slice(), [End::Drop].as_slice());
-    assert!(rt; touched(alloc, &fresh, &fresh)?.is_empty());
-    assert!(rt; !usable(alloc, &fresh, Prefix::masked(Addr(0), 0), 0)?);
+    assert!(rt; says_single_answers(alloc, &fresh)?);
     Ok(())
 }
 
-#[test]
-fn entries_of_a_snapshot(rt: HostRuntime) -> Result<(), Fail> {
-    let alloc = rt.alloc();
-    let fresh = Tables::fresh(alloc);
-    let everything = Prefix::masked(Addr(0), 0);
-    let snapshot = Snapshot::new(alloc, &fresh)?;
-    assert_eq!(rt; snapshot.best(INSIDE), everything);
-    assert_eq!(rt; snapshot.cover(INSIDE), everything);
-    assert_eq!(rt; snapshot.entries().len(), 5);
-    assert_eq!(rt; snapshot.pairs().len(), 5);
-    assert_eq!(rt; snapshot.chosen(everything).len(), 1);
-    assert_eq!(rt; snapshot.tables().routes.len(), 0);
-    Ok(())
+fn has_fixed_entries(snapshot: &Snapshot) -> bool {
+    snapshot.best(INSIDE) == everything()
+        && snapshot.cover(INSIDE) == everything()
+        && snapshot.entries().len() == 5
+        && snapshot.pairs().len() == 5
+        && snapshot.chosen(everything()).len() == 1
+        && snapshot.tables().routes.len() == 0
 }
 
-#[test]
-fn paths_of_a_snapshot(rt: HostRuntime) -> Result<(), Fail> {
-    let alloc = rt.alloc();
-    let fresh = Tables::fresh(alloc);
-    let everything = Prefix::masked(Addr(0), 0);
-    let snapshot = Snapshot::new(alloc, &fresh)?;
-    assert!(rt; snapshot.wanted(alloc, everything)?.is_empty());
-    assert!(rt; !snapshot.is_usable(everything, 0));
-    assert!(rt; !snapshot.is_looped(everything, 0));
-    assert!(rt; !snapshot.is_up(0));
-    assert!(rt; snapshot.is_met(Need::Host, INSIDE));
-    Ok(())
+fn wants_nothing(alloc: Global, snapshot: &Snapshot) -> Result<bool, AllocError> {
+    Ok(snapshot.wanted(alloc, everything())?.is_empty())
 }
 
-#[test]
-fn ends_of_a_snapshot(rt: HostRuntime) -> Result<(), Fail> {
-    let alloc = rt.alloc();
-    let fresh = Tables::fresh(alloc);
-    let everything = Prefix::masked(Addr(0), 0);
-    let snapshot = Snapshot::new(alloc, &fresh)?;
-    assert_eq!(rt; snapshot.mac_of(0, INSIDE), None);
-    assert!(rt; snapshot.adjacencies(alloc)?.is_empty());
-    assert_eq!(rt; snapshot.attached_end(everything, 0), End::Glean(0));
+fn has_one_unusable_path(snapshot: &Snapshot) -> bool {
+    !snapshot.is_usable(everything(), 0)
+        && !snapshot.is_looped(everything(), 0)
+        && !snapshot.is_up(0)
+        && snapshot.is_met(Need::Host, INSIDE)
+}
+
+fn has_no_adjacency(alloc: Global, snapshot: &Snapshot) -> Result<bool, AllocError> {
+    Ok(snapshot.adjacencies(alloc)?.is_empty())
+}
+
+fn ends_on_links(snapshot: &Snapshot) -> bool {
     let hop = snapshot.hop_end(0, INSIDE);
-    assert_eq!(rt; snapshot.attached_end(Prefix::host(INSIDE), 0), hop);
+    snapshot.mac_of(0, INSIDE).is_none()
+        && snapshot.attached_end(everything(), 0) == End::Glean(0)
+        && snapshot.attached_end(Prefix::host(INSIDE), 0) == hop
+}
+
+fn says_what_fresh_tables_say(alloc: Global, snapshot: &Snapshot) -> Result<bool, AllocError> {
+    Ok(
+        has_fixed_entries(snapshot)
+            && has_one_unusable_path(snapshot)
+            && ends_on_links(snapshot)
+            && wants_nothing(alloc, snapshot)?
+            && has_no_adjacency(alloc, snapshot)?,
+    )
+}
+
+#[test]
+fn what_a_snapshot_says(rt: HostRuntime) -> Result<(), Fail> {
+    let alloc = rt.alloc();
+    let fresh = Tables::fresh(alloc);
+    let snapshot = Snapshot::new(alloc, &fresh)?;
+    assert!(rt; says_what_fresh_tables_say(alloc, &snapshot)?);
     Ok(())
 }

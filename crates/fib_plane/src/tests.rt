@@ -1,4 +1,5 @@
-// Each public call, with ample memory, over a plain board.
+// Each public call, with ample memory, over a plain board. Each test owns the plane and has one assertion: the prover follows every way out past
+// every owner.
 ghost use Rattle.std.specs.Prelude.{IfOk, None, OnOk, Some, [], ◌+◌, ◌<◌, ◌≡◌, ◌≤◌};
 ghost use Rattle.fib_interned.specs.Interned.{kept_of};
 ghost use Rattle.fib_pool.specs.Objects.{fresh_objects};
@@ -41,15 +42,22 @@ fn what_a_fresh_plane_has(rt: HostRuntime) -> Result<(), Fail> {
     let mut plane = fresh(rt.alloc())?;
     plane.tells();
     plane.room(5)?;
-    assert!(rt; plane.spare() >= 5);
-    assert_eq!(rt; plane.word(63, 15), Word::Drop);
-    assert_eq!(rt; plane.used(), 1);
-    assert_eq!(rt; plane.free(), 63);
-    assert_eq!(rt; plane.stored(), 0);
-    assert_eq!(rt; plane.retired(), 0);
-    assert_eq!(rt; plane.version(), Version::settled_at(0));
-    assert_eq!(rt; plane.passes_left(1), 9_223_372_036_854_775_807);
-    assert_eq!(rt; plane.scan(), 0);
+    let has_room = plane.spare() >= 5;
+    let is_empty = plane.word(63, 15) == Word::Drop;
+    let objects = (plane.used(), plane.free());
+    let edges = (plane.stored(), plane.retired());
+    let version = plane.version();
+    let left = plane.passes_left(1);
+    let copies = plane.scan();
+    assert!(rt;
+        has_room
+            && is_empty
+            && objects == (1, 63)
+            && edges == (0, 0)
+            && version == Version::settled_at(0)
+            && left == 9_223_372_036_854_775_807
+            && copies == 0
+    );
     Ok(())
 }
 
@@ -57,26 +65,25 @@ fn what_a_fresh_plane_has(rt: HostRuntime) -> Result<(), Fail> {
 fn an_object_is_taken_and_let_go(rt: HostRuntime) -> Result<(), Fail> {
     let mut plane = fresh(rt.alloc())?;
     let object = plane.take(Kind::Balance).ok_or("no object")?;
-    assert_eq!(rt; object, 1);
-    assert_eq!(rt; plane.used(), 2);
+    let before = plane.used();
     plane.tells();
     plane.let_go(object);
-    assert_eq!(rt; plane.used(), 1);
-    assert_eq!(rt; plane.stored(), 0);
+    let after = plane.used();
+    assert_eq!(rt; (object, before, after, plane.stored()), (1, 2, 1, 0));
     Ok(())
 }
 
 #[test]
 fn a_pass_over_a_fresh_plane(rt: HostRuntime) -> Result<(), Fail> {
     let mut plane = fresh(rt.alloc())?;
-    assert!(rt; !plane.running(1));
+    let before = plane.running(1);
     plane.begin(1, Addr(7), 9);
-    assert!(rt; plane.running(1));
+    let after = plane.running(1);
     let end = plane.hop(1).ok_or("an edge")?;
-    assert_eq!(rt; end, End::Drop);
     let record = plane.end(1);
-    assert_eq!(rt; record.end, End::Drop);
-    assert_eq!(rt; record.addr, Addr(7));
+    assert!(rt;
+        !before && after && end == End::Drop && record.end == End::Drop && record.addr == Addr(7)
+    );
     Ok(())
 }
 
@@ -85,9 +92,7 @@ fn a_record_takes_an_object(rt: HostRuntime) -> Result<(), Fail> {
     let mut plane = fresh(rt.alloc())?;
     let mac = Mac::new(5).ok_or("no address")?;
     let taken = plane.take_adj(3, Addr(7), Some(mac))?;
-    assert_eq!(rt; taken, Some(1));
-    assert_eq!(rt; plane.used(), 2);
-    assert_eq!(rt; plane.stored(), 3);
+    assert_eq!(rt; (taken, plane.used(), plane.stored()), (Some(1), 2, 3));
     Ok(())
 }
 
@@ -138,17 +143,17 @@ fn equal_records_are_one_object(rt: HostRuntime) -> Result<(), Fail> {
     let mut plane = fresh(rt.alloc())?;
     let object = first_user(&mut plane)?;
     second_user(&mut plane, object)?;
-    assert_eq!(rt; plane.used(), 2);
+    let both = plane.used();
     let record = AdjacencyRecord {
         interface: 3,
         next_hop: Addr(7),
         mac: None,
     };
-    assert_eq!(rt; plane.record(object), record);
+    let is_it = plane.record(object) == record;
     user_goes(&mut plane, object);
-    assert_eq!(rt; plane.used(), 2);
+    let one = plane.used();
     plane.give_adj(object);
-    assert_eq!(rt; plane.used(), 1);
+    assert_eq!(rt; (is_it, both, one, plane.used()), (true, 2, 2, 1));
     Ok(())
 }
 
@@ -208,15 +213,14 @@ fn linked(alloc: Global) -> Result<Plane<PlainBoard>, Fail>
 #[test]
 fn a_scan_frees_what_a_replaced_edge_led_to(rt: HostRuntime) -> Result<(), Fail> {
     let mut plane = linked(rt.alloc())?;
-    assert_eq!(rt; plane.used(), 2);
+    let linked = plane.used();
     let Put::Stored = empty(&mut plane) else {
         return Err(Fail::from("the edge isn't replaced"));
     };
-    assert_eq!(rt; plane.retired(), 1);
-    assert_eq!(rt; plane.used(), 2);
-    assert_eq!(rt; plane.scan(), 0);
-    assert_eq!(rt; plane.used(), 1);
-    assert_eq!(rt; plane.stored(), 2);
+    let waits = (plane.retired(), plane.used());
+    let copies = plane.scan();
+    let freed = (plane.used(), plane.stored());
+    assert_eq!(rt; (linked, waits, copies, freed), (2, (1, 2), 0, (1, 2)));
     Ok(())
 }
 
@@ -271,16 +275,17 @@ fn fill(plane: &mut Plane<PlainBoard>)
 fn a_version_begins_and_is_settled(rt: HostRuntime) -> Result<(), Fail> {
     let mut plane = held_plane(rt.alloc())?;
     fill(&mut plane);
-    assert_eq!(rt; (plane.stored(), plane.retired()), (254, 0));
+    let filled = (plane.stored(), plane.retired());
     let tables = Tables::fresh(rt.alloc());
     plane.begin_version(&tables);
+    let begun = plane.version();
     let version = Version {
         settled: 0,
         applied: 1,
     };
-    assert_eq!(rt; plane.version(), version);
     plane.settle_version();
-    assert_eq!(rt; plane.version(), Version::settled_at(1));
+    let is_right = begun == version && plane.version() == Version::settled_at(1);
+    assert_eq!(rt; (is_right, filled), (true, (254, 0)));
     Ok(())
 }
 

@@ -1,11 +1,12 @@
 // The texts of ends.
-ghost use Rattle.std.specs.Prelude.{◌≡◌, ◌++◌, OnOk, OnErr, IfOk, codes};
+ghost use Rattle.std.specs.Prelude.{◌≡◌, ◌++◌, None, OnErr, OnOk, Some, codes};
+ghost use Rattle.fib_addr.specs.Texts.{address_text};
 ghost use Rattle.fib_print.specs.Ends.{name_of, hop_text, end_text};
 
-use crate::text::put_text;
-use fib_addr::{Addr, Mac, put_addr, put_mac};
+use crate::text::{put_text, write_addr, write_mac};
+use fib_addr::{Addr, Mac};
 use fib_resolve::{End, Tables};
-use std::alloc::{AllocError, Global};
+use std::alloc::AllocError;
 
 /// The name of the interface with that number; empty where there is none.
 #[tactic(auto, unfolding(crate::specs::Ends::name_of))]
@@ -18,61 +19,69 @@ pub fn name_at(tables: &Tables, interface: u32) -> &[u8]
     }
 }
 
-/// A next hop on an interface, with its MAC where that is known.
-fn hop(alloc: Global, name: &[u8], addr: Addr, mac: Option<Mac>) -> Result<Vec<u8>, AllocError>
-    ensures { IfOk result (λ v. v.items ≡ hop_text name.now addr mac) }
+// Appends a word, an interface's name and an address on it.
+fn write_on(out: &mut Vec<u8>, word: &str, name: &[u8], addr: Addr) -> Result<(), AllocError>
+    ensures { OnOk result (out.new.items ≡ out.old.items ++ (word.now ++ name.now ++ codes " " ++ address_text addr)) }
 {
-    let mut text = Vec::new(alloc);
+    put_text(out, word)?;
+    out.extend_from_slice(name)?;
+    put_text(out, " ")?;
+    write_addr(out, addr)
+}
+
+// Appends a next hop on an interface whose MAC isn't known.
+fn write_incomplete(out: &mut Vec<u8>, name: &[u8], addr: Addr) -> Result<(), AllocError>
+    ensures { OnOk result (out.new.items ≡ out.old.items ++ hop_text name.now addr None) }
+{
+    write_on(out, "incomplete ", name, addr)
+}
+
+// And one whose MAC is.
+fn write_adj(out: &mut Vec<u8>, name: &[u8], addr: Addr, mac: Mac) -> Result<(), AllocError>
+    ensures { OnOk result (out.new.items ≡ out.old.items ++ hop_text name.now addr (Some mac)) }
+{
+    write_on(out, "adj ", name, addr)?;
+    put_text(out, " ")?;
+    write_mac(out, mac)
+}
+
+fn write_hop(out: &mut Vec<u8>, name: &[u8], addr: Addr, mac: Option<Mac>) -> Result<(), AllocError>
+    ensures { OnOk result (out.new.items ≡ out.old.items ++ hop_text name.now addr mac) }
+{
     match mac {
-        None => {
-            put_text(&mut text, "incomplete ")?;
-            text.extend_from_slice(name)?;
-            put_text(&mut text, " ")?;
-            put_addr(&mut text, addr)?;
-        }
-        Some(mac) => {
-            put_text(&mut text, "adj ")?;
-            text.extend_from_slice(name)?;
-            put_text(&mut text, " ")?;
-            put_addr(&mut text, addr)?;
-            put_text(&mut text, " ")?;
-            put_mac(&mut text, mac)?;
-        }
+        None => write_incomplete(out, name, addr),
+        Some(mac) => write_adj(out, name, addr, mac),
     }
-    Ok(text)
 }
 
-fn glean(alloc: Global, name: &[u8]) -> Result<Vec<u8>, AllocError>
-    ensures { IfOk result (λ v. v.items ≡ codes "glean " ++ name.now) }
-{
-    let mut text = Vec::new(alloc);
-    put_text(&mut text, "glean ")?;
-    text.extend_from_slice(name)?;
-    Ok(text)
-}
-
-/// Appends the text of an end: `drop`, `receive`, `glean NAME`, `adj NAME ADDRESS MAC`, or `incomplete NAME ADDRESS` where the MAC
-/// isn't known. The name of an interface that the tables lack is empty. Unchanged on want of memory.
+/// Appends the text of an end as `put_end` does. It takes no memory but what the vector grows by; where that is wanting, the first part of
+/// the text may stand.
 #[tactic(auto, unfolding(crate::specs::Ends::end_text))]
-pub fn put_end(out: &mut Vec<u8>, tables: &Tables, end: &End) -> Result<(), AllocError>
-    ensures ok { OnOk result (out.new.items ≡ out.old.items ++ end_text tables.now end.now) }
-    ensures err { OnErr result (out.new.items ≡ out.old.items) }
+pub fn write_end(out: &mut Vec<u8>, tables: &Tables, end: &End) -> Result<(), AllocError>
+    ensures { OnOk result (out.new.items ≡ out.old.items ++ end_text tables.now end.now) }
 {
-    let alloc = *out.allocator();
     match *end {
         End::Drop => put_text(out, "drop"),
         End::Receive => put_text(out, "receive"),
         End::Glean(interface) => {
-            let text = glean(alloc, name_at(tables, interface))?;
-            out.extend_from_slice(&text)
+            put_text(out, "glean ")?;
+            out.extend_from_slice(name_at(tables, interface))
         }
         End::Hop {
             interface,
             next_hop,
             mac,
-        } => {
-            let text = hop(alloc, name_at(tables, interface), next_hop, mac)?;
-            out.extend_from_slice(&text)
-        }
+        } => write_hop(out, name_at(tables, interface), next_hop, mac),
     }
+}
+
+/// Appends the text of an end: `drop`, `receive`, `glean NAME`, `adj NAME ADDRESS MAC`, or `incomplete NAME ADDRESS` where the MAC
+/// isn't known. The name of an interface that the tables lack is empty. Unchanged on want of memory.
+pub fn put_end(out: &mut Vec<u8>, tables: &Tables, end: &End) -> Result<(), AllocError>
+    ensures ok { OnOk result (out.new.items ≡ out.old.items ++ end_text tables.now end.now) }
+    ensures err { OnErr result (out.new.items ≡ out.old.items) }
+{
+    let mut text = Vec::new(*out.allocator());
+    write_end(&mut text, tables, end)?;
+    out.extend_from_slice(&text)
 }

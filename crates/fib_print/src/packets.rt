@@ -2,15 +2,14 @@
 ghost use Rattle.std.specs.Prelude.{◌≡◌, ◌++◌, OnOk, OnErr, IfOk, decimal};
 ghost use Rattle.fib_print.specs.Packets.{version_text, window_text, flow_text, packet_text, not_ipv4_text, bad_header_text, cut_text};
 
-use crate::ends::put_end;
-use crate::text::{put_number, put_text};
-use fib_addr::put_addr;
+use crate::ends::write_end;
+use crate::text::{put_number, put_text, write_addr};
 use fib_resolve::Tables;
 use fib_results::{Record, Version};
 use std::alloc::{AllocError, Global};
 
 #[tactic(auto, unfolding(crate::specs::Packets::version_text))]
-fn put_version(out: &mut Vec<u8>, version: Version) -> Result<(), AllocError>
+fn write_version(out: &mut Vec<u8>, version: Version) -> Result<(), AllocError>
     ensures { OnOk result (out.new.items ≡ out.old.items ++ version_text version) }
 {
     put_number(out, u64::from(version.settled))?;
@@ -19,47 +18,46 @@ fn put_version(out: &mut Vec<u8>, version: Version) -> Result<(), AllocError>
 }
 
 #[tactic(auto, unfolding(crate::specs::Packets::window_text))]
-fn put_window(out: &mut Vec<u8>, answer: &Record) -> Result<(), AllocError>
+fn write_window(out: &mut Vec<u8>, answer: &Record) -> Result<(), AllocError>
     ensures { OnOk result (out.new.items ≡ out.old.items ++ window_text answer.now) }
 {
-    put_version(out, answer.lo)?;
+    write_version(out, answer.lo)?;
     put_text(out, "-")?;
-    put_version(out, answer.hi)
+    write_version(out, answer.hi)
 }
 
 #[tactic(auto, unfolding(crate::specs::Packets::flow_text))]
-fn put_flow(out: &mut Vec<u8>, number: u32, answer: &Record) -> Result<(), AllocError>
+fn write_flow(out: &mut Vec<u8>, number: u32, answer: &Record) -> Result<(), AllocError>
     ensures { OnOk result (out.new.items ≡ out.old.items ++ flow_text number answer.now) }
 {
     put_text(out, "packet ")?;
     put_number(out, u64::from(number))?;
     put_text(out, " ")?;
-    put_addr(out, answer.addr)?;
+    write_addr(out, answer.addr)?;
     put_text(out, " ")?;
     put_number(out, u64::from(answer.hash))?;
     put_text(out, " ")
 }
 
+/// Appends the line of a flow: `packet N ADDRESS HASH S.A-T.B END`, where S.A and T.B are the settled and applied numbers of the
+/// answer's window, and a line feed. It takes no memory but what the vector grows by; where that is wanting, the first part of the line may stand.
 #[tactic(auto, unfolding(crate::specs::Packets::packet_text))]
-fn packet(
-    alloc: Global,
+pub fn write_packet(
+    out: &mut Vec<u8>,
     tables: &Tables,
     number: u32,
     answer: &Record,
-) -> Result<Vec<u8>, AllocError>
-    ensures { IfOk result (λ v. v.items ≡ packet_text tables.now number answer.now) }
+) -> Result<(), AllocError>
+    ensures { OnOk result (out.new.items ≡ out.old.items ++ packet_text tables.now number answer.now) }
 {
-    let mut text = Vec::new(alloc);
-    put_flow(&mut text, number, answer)?;
-    put_window(&mut text, answer)?;
-    put_text(&mut text, " ")?;
-    put_end(&mut text, tables, &answer.end)?;
-    put_text(&mut text, "\n")?;
-    Ok(text)
+    write_flow(out, number, answer)?;
+    write_window(out, answer)?;
+    put_text(out, " ")?;
+    write_end(out, tables, &answer.end)?;
+    put_text(out, "\n")
 }
 
-/// Appends the line of a flow: `packet N ADDRESS HASH S.A-T.B END`, where S.A and T.B are the settled and applied numbers of the
-/// answer's window, and a line feed. Unchanged on want of memory.
+/// Appends the line of a flow as `write_packet` does. Unchanged on want of memory.
 pub fn put_packet(
     out: &mut Vec<u8>,
     tables: &Tables,
@@ -69,7 +67,8 @@ pub fn put_packet(
     ensures ok { OnOk result (out.new.items ≡ out.old.items ++ packet_text tables.now number answer.now) }
     ensures err { OnErr result (out.new.items ≡ out.old.items) }
 {
-    let text = packet(*out.allocator(), tables, number, answer)?;
+    let mut text = Vec::new(*out.allocator());
+    write_packet(&mut text, tables, number, answer)?;
     out.extend_from_slice(&text)
 }
 

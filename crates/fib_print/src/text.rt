@@ -1,6 +1,8 @@
 // Parts of a text.
-ghost use Rattle.std.specs.Prelude.{◌≡◌, ◌++◌, OnOk, OnErr, decimal};
+ghost use Rattle.std.specs.Prelude.{◌≡◌, ◌++◌, ◌∷◌, ◌<◌, OnOk, OnErr, decimal};
+ghost use Rattle.fib_addr.specs.Texts.{address_text, hex_digit, mac_text, pair_text, three_text};
 
+use fib_addr::{Addr, Mac};
 use itoa::Buffer;
 use std::alloc::AllocError;
 
@@ -19,4 +21,68 @@ pub fn put_text(out: &mut Vec<u8>, text: &str) -> Result<(), AllocError>
     ensures err { OnErr result (out.new.items ≡ out.old.items) }
 {
     out.extend_from_slice(text.as_bytes())
+}
+
+// Four numbers, joined by dots.
+fn write_four(out: &mut Vec<u8>, a: u8, b: u8, c: u8, d: u8) -> Result<(), AllocError>
+    ensures { OnOk result (out.new.items ≡ out.old.items ++ (decimal a ++ 46 ∷ (decimal b ++ 46 ∷ (decimal c ++ 46 ∷ decimal d)))) }
+{
+    put_number(out, u64::from(a))?;
+    put_text(out, ".")?;
+    put_number(out, u64::from(b))?;
+    put_text(out, ".")?;
+    put_number(out, u64::from(c))?;
+    put_text(out, ".")?;
+    put_number(out, u64::from(d))
+}
+
+/// Appends the text of an address. It takes no memory but what the vector grows by.
+#[tactic(auto, unfolding(fib_addr::specs::Texts::address_text))]
+pub fn write_addr(out: &mut Vec<u8>, addr: Addr) -> Result<(), AllocError>
+    ensures { OnOk result (out.new.items ≡ out.old.items ++ address_text addr) }
+{
+    let [a, b, c, d] = addr.0.to_be_bytes();
+    write_four(out, a, b, c, d)
+}
+
+// A hexadecimal digit in lower case.
+fn digit(number: u8) -> u8
+    requires { number < 16 }
+    ensures { result ≡ hex_digit number }
+{
+    if number < 10 {
+        b'0' + number
+    } else {
+        b'a' + (number - 10)
+    }
+}
+
+// The two digits of a number's lowest byte.
+fn pair(number: u64) -> [u8; 2]
+    ensures { result ≡ pair_text number }
+{
+    [digit((number / 16 % 16) as u8), digit((number % 16) as u8)]
+}
+
+// Three pairs of digits, joined by colons.
+#[tactic(auto, unfolding(fib_addr::specs::Texts::three_text))]
+fn write_three(out: &mut Vec<u8>, a: u64, b: u64, c: u64) -> Result<(), AllocError>
+    ensures { OnOk result (out.new.items ≡ out.old.items ++ three_text a b c) }
+{
+    out.extend_from_slice(&pair(a))?;
+    put_text(out, ":")?;
+    out.extend_from_slice(&pair(b))?;
+    put_text(out, ":")?;
+    out.extend_from_slice(&pair(c))
+}
+
+/// Appends the text of a MAC. It takes no memory but what the vector grows by.
+#[tactic(auto, unfolding(fib_addr::specs::Texts::mac_text))]
+pub fn write_mac(out: &mut Vec<u8>, mac: Mac) -> Result<(), AllocError>
+    ensures { OnOk result (out.new.items ≡ out.old.items ++ mac_text mac) }
+{
+    let m = mac.bits();
+    write_three(out, m / (1 << 40), m / (1 << 32), m / (1 << 24))?;
+    put_text(out, ":")?;
+    write_three(out, m / (1 << 16), m / (1 << 8), m)
 }
