@@ -226,7 +226,7 @@ fn sent<'a>(alloc: Global, control: &mut Control<LiveBoard<'a>>, number: u32) ->
 
 // Those of all four.
 fn jobs_of<'a>(alloc: Global, control: &mut Control<LiveBoard<'a>>) -> [Job<'a>; 4]
-    requires { IsManned control.old.plane.board }
+    requires { IsManned 4 control.old.plane.board }
     ensures id { control.new.plane.board.id ≡ control.old.plane.board.id }
     ensures of { All (λ (j : Work). IsOf control.old.plane.board.id j.worker) result }
 {
@@ -289,7 +289,7 @@ fn first_edits(alloc: Global) -> Option<Vec<Edit>>
 
 // Makes the first lines one change and settles it. False where memory is wanted.
 fn begin(alloc: Global, control: &mut Control<LiveBoard<'_>>) -> bool
-    requires { IsManned control.old.plane.board }
+    requires { IsManned 4 control.old.plane.board }
     ensures { SameCrew control.old.plane.board control.new.plane.board }
 {
     let Some(edits) = first_edits(alloc) else {
@@ -303,7 +303,7 @@ fn begin(alloc: Global, control: &mut Control<LiveBoard<'_>>) -> bool
 
 // The tables of the versions so far: the fresh ones, and those that the first lines make. None where memory is wanted.
 fn first_tables(alloc: Global, control: &mut Control<LiveBoard<'_>>) -> Option<Vec<Kept>>
-    requires { IsManned control.old.plane.board }
+    requires { IsManned 4 control.old.plane.board }
     ensures { SameCrew control.old.plane.board control.new.plane.board }
 {
     let mut history = Vec::new(alloc);
@@ -378,7 +378,7 @@ fn run<R: Threads + Wait + Sync>(
     alloc: Global,
     control: &mut Control<LiveBoard<'_>>,
 ) -> Option<Found>
-    requires { IsManned control.old.plane.board }
+    requires { IsManned 4 control.old.plane.board }
 {
     let mut history = first_tables(alloc, control)?;
     let mut jobs = jobs_of(alloc, control);
@@ -405,7 +405,7 @@ fn forwards<R: Threads + Wait + Sync>(
     alloc: Global,
     control: &mut Control<LiveBoard<'_>>,
 ) -> bool
-    requires { IsManned control.old.plane.board }
+    requires { IsManned 4 control.old.plane.board }
 {
     match run(rt, alloc, control) {
         Some(found) => is_as_told(&found),

@@ -6,6 +6,8 @@
 pub mod alone;
 #[cfg(test)]
 mod beside;
+pub mod crowded;
+pub mod held;
 #[cfg(test)]
 mod judge;
 pub mod live;

@@ -1,4 +1,9 @@
-// What the trials answer.
+// What the trials answer. Each test has one owner of what it looks at, and one assertion: the prover follows every way out past every owner.
+ghost use Rattle.std.specs.Prelude.{◌≡◌};
+ghost use Rattle.fib_pool.specs.declared.object.AdjacencyRecord.{AdjacencyRecord};
+ghost use Rattle.fib_shared.specs.Shares.{promise_of, view_of};
+ghost use Rattle.fib_quiet.specs.Early.{IsEmpty, IsTried};
+
 use crate::alone::three_lines;
 use crate::changes::eight;
 use crate::crowded::{Crowd, Crowded, crowded_after, crowded_below};
@@ -12,62 +17,97 @@ use fib_addr::{Addr, Prefix};
 use fib_control::Busy;
 use fib_core::{Record, Version};
 use fib_joined::Objects;
+use fib_plainboard::PlainBoard;
+use fib_ply::PrefixTable;
 use fib_resolve::End;
+use fib_shared::Shared;
 use fib_stack::Turn;
 use std::alloc::Global;
 use std::test::Fail;
 
-#[test]
-fn a_host_below_an_eight_takes_six_plies_more(rt: HostRuntime) -> Result<(), Fail> {
-    let alloc = rt.alloc();
-    let (mut shared, mut table) = started(alloc)?;
+// Whether plies come with a host below an eight, and go again.
+fn plies_come_and_go(
+    alloc: Global,
+    shared: &mut Shared<PlainBoard>,
+    table: &mut PrefixTable,
+) -> Result<bool, Trouble>
+    requires { IsTried (promise_of shared.old.plane.board) table.old (view_of shared.old.plane) }
+{
     table.tells();
     let net = Prefix::masked(Addr(0x0A00_0000), 8);
-    let stores = add_new(alloc, &mut shared, &mut table, net)?;
-    assert_eq!(rt; (stores, shared.used(), table.plies()), (18, 4, 2));
     let host = Prefix::host(Addr(0x0A01_0203));
-    let stores = add_new(alloc, &mut shared, &mut table, host)?;
-    assert_eq!(rt; (stores, shared.used(), table.plies()), (103, 11, 8));
-    let retired = remove_both(&mut shared, &mut table, host, net)?;
-    assert_eq!(rt; (retired, shared.used(), table.plies()), (0, 4, 1));
+    let stores = add_new(alloc, shared, table, net)?;
+    let one = (stores, shared.used(), table.plies());
+    let stores = add_new(alloc, shared, table, host)?;
+    let both = (stores, shared.used(), table.plies());
+    let retired = remove_both(shared, table, host, net)?;
+    let none = (retired, shared.used(), table.plies());
+    Ok(one == (18, 4, 2) && both == (103, 11, 8) && none == (0, 4, 1))
+}
+
+#[test]
+fn a_host_below_an_eight_takes_six_plies_more(rt: HostRuntime) -> Result<(), Fail> {
+    let (mut shared, mut table) = started(rt.alloc())?;
+    assert!(rt; plies_come_and_go(rt.alloc(), &mut shared, &mut table)?);
     Ok(())
+}
+
+// Whether a record takes an object, and gives it back.
+fn record_comes_and_goes(shared: &mut Shared<PlainBoard>) -> Result<bool, Trouble>
+    requires empty { IsEmpty (promise_of shared.old.plane.board) (view_of shared.old.plane) }
+    requires none { (m : AdjacencyRecord) → (view_of shared.old.plane).users m ≡ 0 }
+{
+    let object = first_user(shared)?;
+    let used = (shared.free(), shared.stored(), shared.retired());
+    user_goes(shared, object);
+    let freed = (shared.free(), shared.stored());
+    shared.room(3)?;
+    Ok(used == (126, 3, 0) && freed == (127, 6) && shared.spare() >= 3)
 }
 
 #[test]
 fn a_record_comes_and_goes(rt: HostRuntime) -> Result<(), Fail> {
     let mut shared = fresh(rt.alloc())?;
-    let object = first_user(&mut shared)?;
-    assert_eq!(rt;
-        (shared.free(), shared.stored(), shared.retired()),
-        (126, 3, 0)
-    );
-    user_goes(&mut shared, object);
-    assert_eq!(rt; (shared.free(), shared.stored()), (127, 6));
-    shared.room(3)?;
-    assert!(rt; shared.spare() >= 3);
-    let mut shared = fresh(rt.alloc())?;
-    assert_eq!(rt; listed_users(rt.alloc(), &mut shared)?, 126);
-    assert_eq!(rt; shared.free(), 127);
+    assert!(rt; record_comes_and_goes(&mut shared)?);
     Ok(())
+}
+
+#[test]
+fn a_list_takes_and_gives_its_records(rt: HostRuntime) -> Result<(), Fail> {
+    let mut shared = fresh(rt.alloc())?;
+    let free = listed_users(rt.alloc(), &mut shared)?;
+    assert_eq!(rt; (free, shared.free()), (126, 127));
+    Ok(())
+}
+
+// Whether a balance takes an object, and gives it back.
+fn balance_comes_and_goes(shared: &mut Shared<PlainBoard>) -> Result<bool, Trouble>
+    requires { IsEmpty (promise_of shared.old.plane.board) (view_of shared.old.plane) }
+{
+    let object = first_balance(shared)?;
+    let held = shared.free();
+    let_go(shared, object);
+    Ok((held, shared.free()) == (126, 127))
 }
 
 #[test]
 fn a_balance_comes_and_goes(rt: HostRuntime) -> Result<(), Fail> {
     let mut shared = fresh(rt.alloc())?;
-    let object = first_balance(&mut shared)?;
-    assert_eq!(rt; shared.free(), 126);
-    let_go(&mut shared, object);
-    assert_eq!(rt; shared.free(), 127);
+    assert!(rt; balance_comes_and_goes(&mut shared)?);
     Ok(())
+}
+
+// Whether a table over a plane of its own leads right with a random set of prefixes.
+fn set_is_right(alloc: Global, numbers: &mut Numbers) -> Result<bool, Trouble> {
+    let (mut shared, mut table) = started(alloc)?;
+    is_right(alloc, &mut shared, &mut table, numbers)
 }
 
 #[test]
 fn random_sets_lead_to_the_longest_match(rt: HostRuntime) -> Result<(), Fail> {
     let mut numbers = Numbers::new(3);
     for set in 0..200 {
-        let (mut shared, mut table) = started(rt.alloc())?;
-        let is_right = is_right(rt.alloc(), &mut shared, &mut table, &mut numbers)?;
-        assert!(rt; is_right, "set {set}");
+        assert!(rt; set_is_right(rt.alloc(), &mut numbers)?, "set {set}");
     }
     Ok(())
 }
