@@ -4,14 +4,6 @@
 #![tactic(auto)]
 
 pub mod alone;
-#[cfg(test)]
-mod beside;
 pub mod crowded;
 pub mod held;
-#[cfg(test)]
-mod judge;
 pub mod live;
-#[cfg(test)]
-mod pace;
-#[cfg(test)]
-mod tests;
