@@ -9,7 +9,6 @@ use Rattle.fib_list.proofs.Lists.{either}
 use Rattle.fib_resolve.specs.Tables.{is_route, same_neighbor}
 use Rattle.fib_resolve.specs.Edits.{set_route, set_neighbor, paths_at}
 use Rattle.fib_resolve.specs.declared.types.Neighbor.{Neighbor}
-use Rattle.fib_resolve.specs.declared.types.Path.{Path}
 use Rattle.fib_resolve.specs.declared.types.Route.{Route}
 use Rattle.fib_resolve.specs.declared.types.Tables.{Tables}
 use Rattle.fib_resolve.specs.Edits.{with_neighbors, with_routes}

@@ -1,4 +1,4 @@
-use Rattle.std.proofs.Common.{◌≡◌, ◌∙◌, subst, sym}
+use Rattle.std.proofs.Common.{◌∙◌, subst, sym}
 use Rattle.fib_config.specs.inner.Digest.{AreKeys, neighbor_key, is_neighbor}
 use Rattle.fib_config.proofs.Keying.{found_by_key, missed_by_key, neighbor_match}
 use Rattle.fib_config.proofs.digest.place_of_neighbor.Goals as goal

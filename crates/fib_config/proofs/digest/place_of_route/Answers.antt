@@ -1,4 +1,4 @@
-use Rattle.std.proofs.Common.{◌≡◌, ◌∙◌, subst, sym}
+use Rattle.std.proofs.Common.{◌∙◌, subst, sym}
 use Rattle.fib_resolve.specs.Tables.{is_route}
 use Rattle.fib_config.specs.inner.Digest.{AreKeys, route_key}
 use Rattle.fib_config.proofs.Keying.{found_by_key, missed_by_key, route_match}
