@@ -6,6 +6,7 @@
 mod bounds;
 mod changes;
 mod config;
+mod digest;
 mod edits;
 mod errors;
 mod reasons;
