@@ -16,6 +16,3 @@ mod undo;
 pub use config::Config;
 pub use errors::{BatchError, EditError};
 pub use undo::{Edited, EditedAll, Undo};
-
-#[cfg(test)]
-mod tests;

@@ -2,8 +2,8 @@
 ghost use Rattle.std.specs.Prelude.{IfOk};
 ghost use Rattle.fib_resolve.specs.Reachable.{IsWritten};
 
-use super::*;
 use fib_addr::Addr;
+use fib_config::{BatchError, Config, EditError, EditedAll};
 use fib_resolve::{Edit, List, Name, Refusal};
 use std::alloc::Global;
 use std::test::Fail;
