@@ -11,6 +11,8 @@ mod control;
 #[cfg(test)]
 mod entries;
 #[cfg(test)]
+mod plain;
+#[cfg(test)]
 mod quiet;
 #[cfg(test)]
 mod stack;

@@ -17,6 +17,3 @@ mod ways;
 pub use answers::{ends, resolve, touched, usable};
 pub use fib_effective::size;
 pub use snapshot::Snapshot;
-
-#[cfg(test)]
-mod tests;

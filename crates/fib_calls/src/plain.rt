@@ -1,7 +1,9 @@
 // The public calls once, over the fresh tables; the crates above compare them with worked and generated tables. Each test owns what it looks
 // at and has one assertion: the prover follows every way out past every owner.
-use super::*;
+ghost use Rattle.fib_resolve.specs.Tables.{IsSound};
+
 use fib_addr::{Addr, Prefix};
+use fib_plain::{Snapshot, ends, resolve, size, touched, usable};
 use fib_resolve::{End, Need, Tables};
 use std::alloc::{AllocError, Global};
 use std::test::Fail;
@@ -12,18 +14,33 @@ fn everything() -> Prefix {
     Prefix::masked(Addr(0), 0)
 }
 
-fn only_drops(alloc: Global, fresh: &Tables) -> Result<bool, AllocError> {
+fn only_drops(alloc: Global, fresh: &Tables) -> Result<bool, AllocError>
+    requires { IsSound fresh.now }
+{
     Ok(ends(alloc, fresh)?.as_slice() == [End::Drop].as_slice())
 }
 
-fn touches_nothing(alloc: Global, fresh: &Tables) -> Result<bool, AllocError> {
+fn touches_nothing(alloc: Global, fresh: &Tables) -> Result<bool, AllocError>
+    requires { IsSound fresh.now }
+{
     Ok(touched(alloc, fresh, fresh)?.is_empty())
 }
 
-fn says_single_answers(alloc: Global, fresh: &Tables) -> Result<bool, AllocError> {
+fn drops_a_packet(alloc: Global, fresh: &Tables) -> Result<bool, AllocError>
+    requires { IsSound fresh.now }
+{
+    match resolve(alloc, fresh, INSIDE, 5) {
+        Ok(end) => Ok(end == End::Drop),
+        Err(error) => Err(error),
+    }
+}
+
+fn says_single_answers(alloc: Global, fresh: &Tables) -> Result<bool, AllocError>
+    requires { IsSound fresh.now }
+{
     Ok(
         size(alloc, fresh)? == 20
-            && resolve(alloc, fresh, INSIDE, 5)? == End::Drop
+            && drops_a_packet(alloc, fresh)?
             && only_drops(alloc, fresh)?
             && touches_nothing(alloc, fresh)?
             && !usable(alloc, fresh, everything(), 0)?,
