@@ -13,6 +13,8 @@ mod entries;
 #[cfg(test)]
 mod plain;
 #[cfg(test)]
+mod plane;
+#[cfg(test)]
 mod quiet;
 #[cfg(test)]
 mod stack;

@@ -17,6 +17,3 @@ mod sweep;
 
 pub use fib_joined::Put;
 pub use plane::Plane;
-
-#[cfg(test)]
-mod tests;
