@@ -113,7 +113,7 @@ alone_home k first base workers ps a b none trails claims = subst (λ qs. IsHome
 })
   where
     no_frame : (f : ℕ) → frame {A = Packet} [] f ≡ []
-    no_frame f = ap (take 256) (drop_all ([] {A = Packet}) (256 * f) (omega arith))
+    no_frame f = ap (take 256) (drop_all (256 * f) ([] {A = Packet}) (omega arith))
 
 pub alone_ran : (script : List (List ℕ)) (ps : List Packet) (round : Opening) (workers : ℕ) (A B : Control) (early late : Progress) (old new : List ℕ) (stop : Stop) → round.first ≡ round.to → IsAtRest workers round.place A → KeepsCrew A B
     → GoesOn script round.place (stage_of A early) old stop.place (stage_of B late) new → StopsAt (drop stop.place script) (router_of B late) stop.asked → round.place ≤ stop.place → stop.place ≤ length script → stop.place ≤ 65535

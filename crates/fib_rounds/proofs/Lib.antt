@@ -12,5 +12,6 @@ pub mod Laid
 pub mod Forwarding
 pub mod Rounding
 pub mod Running
+pub mod Beginning
 pub mod Quiet
 pub mod Tallies

@@ -98,7 +98,7 @@ has_counted packets script o before mid after old mid_text place quiet asked nex
 
 -- past the last frame there is none
 frame_past : (ps : List Packet) (f : ℕ) → length ps ≤ 256 * f → frame ps f ≡ []
-frame_past ps f le = ap (take 256) (drop_all ps (256 * f) le)
+frame_past ps f le = ap (take 256) (drop_all (256 * f) ps le)
 
 frame_at : (ps : List Packet) (first to f at : ℕ) → first ≤ to → to ≤ length ps → at ≡ min (first + 256 * f) to → frame (span ps first to) f ≡ span ps at (at + min (to - at) 256)
 frame_at ps first to f at le lt is = dite (ℕ_discrete (first + 256 * f - to) 0)

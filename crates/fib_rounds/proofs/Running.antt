@@ -102,8 +102,8 @@ going_ends workers room script packets at control before mid now g told history 
       g.text ++ last_text packets.cut,
       record {
         output = g.output [] (last_text packets.cut) (refl, refl);
-        brought = subst (λ ts. Brought workers 0 (rounds_of room script packets) (g.results ++ []) plane.crew.gathered ts) (append-nil control.plane.board.trails)
-            (subst (λ cs. Brought workers 0 (rounds_of room script packets) (g.results ++ []) cs (control.plane.board.trails ++ [])) (append-nil plane.crew.gathered) (g.brought [] [] [] (refl, refl, refl)));
+        brought = subst (λ ts. Brought workers 0 (rounds_of room script packets) (g.results ++ []) control.plane.board.gathered ts) (append-nil control.plane.board.trails)
+            (subst (λ cs. Brought workers 0 (rounds_of room script packets) (g.results ++ []) cs (control.plane.board.trails ++ [])) (append-nil control.plane.board.gathered) (g.brought [] [] [] (refl, refl, refl)));
         history = history ∙ g.history;
         settled = settled;
       },
