@@ -10,12 +10,12 @@ use Rattle.fib_crew.proofs.Spans.{frames_of_span}
 use Rattle.fib_homing.specs.Homes.{NoneOut}
 use Rattle.fib_homing.specs.inner.Rested.{IsRested}
 
-pub all_off : (m n : ℕ) → slice_index_or (replicate m false) n false ≡ false
+all_off : (m n : ℕ) → slice_index_or (replicate m false) n false ≡ false
 all_off zero n = refl
 all_off (suc m) zero = refl
 all_off (suc m) (suc n) = all_off m n
 
-pub all_nought : (m n : ℕ) → slice_index (replicate m 0) n ≡ 0
+all_nought : (m n : ℕ) → slice_index (replicate m 0) n ≡ 0
 all_nought zero n = refl
 all_nought (suc m) zero = refl
 all_nought (suc m) (suc n) = all_nought m n
