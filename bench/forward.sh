@@ -9,8 +9,9 @@
 # it is proved and built. A batch of 60,000 routes 100.x.y.0/24, each by one of 64 neighbors, is applied and settled,
 # and then each worker forwards packets to random addresses within them: six plies, a balance and an adjacency, ten
 # loads of cells. The walk in C makes the same ten loads by the same numbers, in cells that it lays out itself as the
-# control plane does, prefix by prefix. It stores no pass word and loads no version, which a pass must do. Times are by
-# the clock, and the walk comes after the program: beside other work they can't be compared.
+# control plane does, prefix by prefix. It stores no pass word and loads no version, which a pass must do: twice more it
+# runs as a pass does, with those words side by side, as the table has them, and each in a cache line of its own. Times
+# are by the clock, and the walks come after the program: beside other work they can't be compared.
 set -e
 . "$(dirname "$0")/beside.sh"
 beside fib_live
@@ -171,7 +172,7 @@ fn edits(alloc: Global) -> Option<Vec<Edit>>
 
 /// Makes all edits as one change, and settles it. Whether that went well.
 fn load(alloc: Global, control: &mut Control<LiveBoard<'_>>) -> bool
-    requires { IsManned control.old.plane.board }
+    requires { IsManned 4 control.old.plane.board }
     ensures { SameCrew control.old.plane.board control.new.plane.board }
 {
     let Some(all) = edits(alloc) else {
@@ -196,7 +197,7 @@ fn sent<'a>(control: &mut Control<LiveBoard<'a>>, number: u32) -> Job<'a>
 
 /// One for each worker.
 fn jobs_of<'a>(control: &mut Control<LiveBoard<'a>>) -> [Job<'a>; 4]
-    requires { IsManned control.old.plane.board }
+    requires { IsManned 4 control.old.plane.board }
 {
     let one = sent(control, 0);
     let two = sent(control, 1);
@@ -238,7 +239,7 @@ fn run<R: Threads + Sync + Print + Clock>(
     alloc: Global,
     control: &mut Control<LiveBoard<'_>>,
 ) -> io::Result<()>
-    requires { IsManned control.old.plane.board }
+    requires { IsManned 4 control.old.plane.board }
 {
     if !load(alloc, control) {
         return println!(rt; "the routes weren't loaded");
@@ -347,7 +348,25 @@ static struct end walk(uint32_t addr, uint32_t hash) {
     return end;
 }
 
-struct job { uint64_t state, left; };
+/* The version, and then a pass word a worker: side by side, or each in a cache line of its own. */
+static _Atomic uint64_t words[64] __attribute__((aligned(64)));
+
+/* How far apart they are; 0 where a walk stores none and loads no version. */
+static int apart;
+
+struct job { uint64_t state, left; int number; };
+
+static struct end pass(struct job *job, uint32_t addr, uint32_t hash, uint64_t number) {
+    _Atomic uint64_t *mine = &words[apart * (job->number + 1)];
+    if (!apart) return walk(addr, hash);
+    atomic_store(mine, 2 * number + 1);
+    uint64_t lo = atomic_load(&words[0]);
+    struct end end = walk(addr, hash);
+    uint64_t hi = atomic_load(&words[0]);
+    atomic_store(mine, 2 * number + 2);
+    if (hi < lo) exit(1);
+    return end;
+}
 
 static void *forward_all(void *given) {
     struct job *job = given;
@@ -355,7 +374,7 @@ static void *forward_all(void *given) {
     for (int packet = 0; packet < PACKETS; packet++) {
         state = state * 6364136223846793005ull + 1442695040888963407ull;
         uint32_t route = (uint32_t)(state >> 33) % ROUTES, host = (uint32_t)(state >> 20) % 256;
-        struct end end = walk(0x64000000u + route * 256 + host, (uint32_t)state);
+        struct end end = pass(job, 0x64000000u + route * 256 + host, (uint32_t)state, (uint64_t)packet);
         left += end.tag == TO_ADJACENCY && end.mac != 0;
     }
     job->left += left;
@@ -368,8 +387,9 @@ static double now(void) {
     return t.tv_sec * 1e9 + t.tv_nsec;
 }
 
-int main(void) {
-    struct job jobs[4] = { { 0, 0 }, { 1, 0 }, { 2, 0 }, { 3, 0 } };
+int main(int count, char **arguments) {
+    struct job jobs[4] = { { 0, 0, 0 }, { 1, 0, 1 }, { 2, 0, 2 }, { 3, 0, 3 } };
+    apart = count > 1 ? atoi(arguments[1]) : 0;
     lay_out();
     for (int workers = 1; workers <= 4; workers *= 2) {
         pthread_t threads[4];
@@ -388,8 +408,12 @@ ${CC:-cc} -O3 -pthread -o "$work/walk" "$work/walk.c"
 cd "$work/crates/measure"
 rt run > "$work/forward.txt" 2> "$work/log" || { tail -20 "$work/log"; exit 1; }
 "$work/walk" > "$work/walk.txt"
+"$work/walk" 1 > "$work/side.txt"
+"$work/walk" 8 > "$work/apart.txt"
 mhz=$(awk -F: '/^cpu MHz/ { print $2; exit }' /proc/cpuinfo)
-paste -d ' ' "$work/forward.txt" "$work/walk.txt" | awk -v mhz="$mhz" '
-    $3 != $6 { print "the answers differ"; exit 1 }
+paste -d ' ' "$work/forward.txt" "$work/walk.txt" "$work/side.txt" "$work/apart.txt" | awk -v mhz="$mhz" '
+    $3 != $6 || $3 != $9 || $3 != $12 { print "the answers differ"; exit 1 }
     { printf "%d workers: %.1f ns a packet, %.0f cycles at %.0f MHz; the walk in C %.1f ns; %.2f times that\n",
-        $1, $2 / 1000, $2 * mhz / 1000000, mhz, $5 / 1000, $2 / $5 }'
+        $1, $2 / 1000, $2 * mhz / 1000000, mhz, $5 / 1000, $2 / $5
+      printf "   in C with a pass word and the version, in one cache line %.1f ns, each in one of its own %.1f ns\n",
+        $8 / 1000, $11 / 1000 }'

@@ -1,7 +1,7 @@
 -- An edit raises the allowance of tables by at most its growth.
-use Rattle.std.proofs.Common.{arith, ◌≡◌, ℕ, suc, ◌+◌, ◌-◌, ◌*◌, ◌/◌, ◌≤◌, ◌<◌, ◌⊎◌, Bool, true, List, [], ◌∷◌, ◌++◌, map, filter, length, not, Option, Some, None, inl, inr, refl, sym, ◌∙◌, ap, subst}
+use Rattle.std.proofs.Common.{arith, ◌≡◌, ℕ, suc, ◌+◌, ◌-◌, ◌*◌, ◌≤◌, ◌⊎◌, Bool, true, List, [], ◌∷◌, ◌++◌, map, filter, length, not, inl, inr, refl, sym, ◌∙◌, ap, subst}
 use Rattle.std.specs.Prelude.{Contains, flat_map, filter_map, Decides}
-use Rattle.std.specs.List.{AllByRecursion, range_with_len, cons_option}
+use Rattle.std.specs.List.{cons_option}
 use Rattle.std.specs.Set.{is_member, distinct_count}
 use Rattle.std.specs.Cmp.{decided}
 use Rattle.std.proofs.lemmas.Map.Made.{is_member-Decides}
@@ -16,7 +16,7 @@ use Rattle.fib_addr.proofs.PrefixLaws.{same_prefix-Decides}
 use Rattle.fib_resolve.specs.Pairs.{fixed_pairs, prefix_of, recursive_of, recursive_kind, recursive_hops}
 use Rattle.fib_resolve.specs.Sizes.{plies_of, kind_adjacency, same_adjacency}
 use Rattle.fib_resolve.specs.Tables.{is_route, same_address, same_neighbor}
-use Rattle.fib_resolve.specs.Edits.{edited, set_neighbor, set_path, set_paths, set_route, without_route, without_paths, route_left, routes_without, lacks_key, paths_at, paths_with, path_of, source_of, with_routes, with_addresses, with_neighbors, address_at, neighbor_at}
+use Rattle.fib_resolve.specs.Edits.{edited, set_neighbor, set_path, set_paths, set_route, without_paths, route_left, routes_without, lacks_key, paths_at, paths_with, path_of, source_of, with_routes, with_addresses, with_neighbors, address_at, neighbor_at}
 use Rattle.fib_resolve.specs.Keys.{key_of, key_lt, same_key}
 use Rattle.fib_resolve.specs.Reachable.{IsWritten}
 use Rattle.fib_resolve.specs.declared.pairs.Adjacency.{Adjacency}
@@ -36,7 +36,7 @@ use Rattle.fib_effective.proofs.Members.{filter_map_in, filter_map_from}
 use Rattle.fib_changes.specs.Sources.{all_hops}
 use Rattle.fib_changes.proofs.SamePairs.{flat_map_from, map_in, map_from}
 use Rattle.fib_changes.proofs.Edits.{in_cases, in_front, in_rest}
-use Rattle.fib_config.specs.inner.Bounds.{own_prefixes, prefix_of_route, host_of, candidates, depth_of, route_ends, neighbor_end, ends, same_number, possible, allowance, growth, IsBoundFor}
+use Rattle.fib_config.specs.inner.Bounds.{own_prefixes, prefix_of_route, host_of, candidates, depth_of, route_ends, neighbor_end, ends, same_number, possible, allowance, growth}
 use Rattle.fib_config.proofs.Counts.{count_within, front_count}
 use Rattle.fib_config.proofs.Within.{each-itself, same_adjacency-Decides, same_number-Decides, kind_length}
 

@@ -5,3 +5,4 @@ pub mod Within
 pub mod Lists
 pub mod Growing
 pub mod Batches
+pub mod Keying

@@ -1,5 +1,5 @@
 -- Paths set in a list: it never gets shorter, and has a Drop or Local path exactly where it had one or one was set.
-use Rattle.std.proofs.Common.{arith, ◌≡◌, ℕ, suc, ◌+◌, ◌≤◌, ◌<◌, Bool, true, false, cond, ◌||◌, ◌&&◌, List, [], ◌∷◌, map, length, Some, inl, inr, refl, sym, ◌∙◌, ap}
+use Rattle.std.proofs.Common.{arith, ◌≡◌, ◌≤◌, ◌<◌, Bool, true, false, ◌||◌, List, [], ◌∷◌, map, length, Some, inl, inr, refl, sym, ◌∙◌, ap}
 use Rattle.std.specs.Prelude.{nat_lt}
 use Rattle.std.specs.List.{list_any}
 use Rattle.std.proofs.lemmas.Bool.{lt-ltb}
@@ -7,14 +7,12 @@ use Rattle.std.proofs.lemmas.Bool.Decides.{Decides-eqb}
 use Rattle.fib_list.proofs.Lists.{either}
 use Rattle.fib_list.proofs.Booleans.{and_both}
 use Rattle.fib_resolve.specs.Keys.{key_of, key_lt, same_key, kind_rank, is_drop_or_local}
-use Rattle.fib_resolve.specs.Tables.{is_mixed}
 use Rattle.fib_resolve.specs.Edits.{set_path, set_paths, path_of, kind_of}
 use Rattle.fib_resolve.specs.Refusals.{first_reason}
 use Rattle.fib_resolve.specs.declared.types.Path.{Path}
 use Rattle.fib_resolve.specs.declared.types.PathSpec.{PathSpec}
 use Rattle.fib_resolve.specs.declared.types.SpecKind.{SpecKind}
 use Rattle.fib_resolve.specs.declared.types.SpecKind.TheVariants as written
-use Rattle.fib_resolve.specs.declared.types.Refusal.{Refusal}
 use Rattle.fib_resolve.specs.declared.types.Refusal.TheVariants as refusals
 use Rattle.fib_resolve.specs.declared.types.Tables.{Tables}
 use Rattle.fib_config.specs.inner.Lists.{list_reasons, writes_drop_or_local}

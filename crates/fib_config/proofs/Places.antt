@@ -1,17 +1,23 @@
 -- A route put in its place, and taken back.
-use Rattle.std.proofs.Common.{arith, ◌≡◌, ℕ, zero, suc, ◌-◌, ◌≤◌, ◌<◌, List, [], ◌∷◌, ◌++◌, length, take, inl, inr, refl, ap}
-use Rattle.std.specs.Prelude.{slice_set, slice_index_or}
+use Rattle.std.proofs.Common.{arith, ◌≡◌, Bool, ℕ, zero, suc, ◌-◌, ◌≤◌, ◌<◌, List, [], ◌∷◌, ◌++◌, length, take, inl, inr, refl, sym, ap, ◌∙◌, true, false}
+use Rattle.std.specs.Prelude.{slice_set, slice_index_or, nat_lt}
+use Rattle.std.specs.List.{list_any}
+use Rattle.std.proofs.lemmas.Bool.{lt-ltb, le-ltb}
+use Rattle.fib_addr.specs.Prefixes.{Prefix}
+use Rattle.fib_resolve.specs.declared.types.FibSource.{FibSource}
 use Rattle.fib_list.proofs.Lists.{either}
-use Rattle.fib_resolve.specs.Tables.{is_route}
-use Rattle.fib_resolve.specs.Edits.{set_route}
+use Rattle.fib_resolve.specs.Tables.{is_route, same_neighbor}
+use Rattle.fib_resolve.specs.Edits.{set_route, set_neighbor, paths_at}
+use Rattle.fib_resolve.specs.declared.types.Neighbor.{Neighbor}
 use Rattle.fib_resolve.specs.declared.types.Route.{Route}
 use Rattle.fib_resolve.specs.declared.types.Tables.{Tables}
-use Rattle.fib_resolve.specs.Edits.{with_routes}
+use Rattle.fib_resolve.specs.Edits.{with_neighbors, with_routes}
 use Rattle.std.proofs.lemmas.List.{length-append}
 use Rattle.std.proofs.Math.Seq.{take-append_seam}
 use Rattle.fib_config.specs.declared.undo.Undo.{Undo}
 use Rattle.fib_config.specs.declared.undo.Undo.TheVariants as undos
-use Rattle.fib_config.specs.Undone.{place_of, undone, IsBackOf}
+use Rattle.fib_config.specs.Undone.{place_of, undone, IsBackOf, IsNeighborBackOf}
+use Rattle.fib_config.specs.inner.Digest.{is_neighbor}
 
 pub route_set : (new : Route) (rs : List Route) → place_of (is_route new.prefix new.source) rs < length rs → slice_set rs (place_of (is_route new.prefix new.source) rs) new ≡ set_route new rs
 route_set new [] l = absurd (omega (arith, l))
@@ -27,6 +33,66 @@ route_end new (r ∷ rs) l =
     elim (either (is_route new.prefix new.source r)) [
       | inl is ↦ absurd (let k = rw is at l in omega (arith, k))
       | inr isnt ↦ rw isnt (ap (λ (xs : List Route). r ∷ xs) (route_end new rs (omega (arith, (rw isnt at l)))))
+    ]
+
+-- the paths at the place are those of the route
+pub paths_there : (prefix : Prefix) (source : FibSource) (rs : List Route) (r : Route) → place_of (is_route prefix source) rs < length rs → r ≡ slice_index_or rs (place_of (is_route prefix source) rs) r
+    → r.paths ≡ paths_at prefix source rs
+paths_there prefix source [] r l e = absurd (omega (arith, l))
+paths_there prefix source (q ∷ rs) r l e =
+    elim (either (is_route prefix source q)) [
+      | inl is ↦ rw is (ap (λ (x : Route). x.paths) (rw is at e))
+      | inr isnt ↦ rw isnt (paths_there prefix source rs r (omega (arith, (rw isnt at l))) (rw isnt at e))
+    ]
+
+pub paths_nowhere : (prefix : Prefix) (source : FibSource) (rs : List Route) → length rs ≤ place_of (is_route prefix source) rs → [] ≡ paths_at prefix source rs
+paths_nowhere prefix source [] l = refl
+paths_nowhere prefix source (q ∷ rs) l =
+    elim (either (is_route prefix source q)) [
+      | inl is ↦ absurd (let k = rw is at l in omega (arith, k))
+      | inr isnt ↦ rw isnt (paths_nowhere prefix source rs (omega (arith, (rw isnt at l))))
+    ]
+
+-- there is one exactly where its place is within the list
+within : {X : Type 0} (is : X → Bool) (xs : List X) → list_any is xs ≡ true → place_of is xs < length xs
+within is [] some = absurd (cc)
+within is (x ∷ xs) some =
+    elim (either (is x)) [ inl here ↦ rw here (omega arith) | inr later ↦ rw later (let less = within is xs (rw later at some) in omega (arith, less)) ]
+
+beyond : {X : Type 0} (is : X → Bool) (xs : List X) → list_any is xs ≡ false → length xs ≤ place_of is xs
+beyond is [] none = omega arith
+beyond is (x ∷ xs) none =
+    elim (either (is x)) [ inl here ↦ absurd (let bad = rw here at none in cc) | inr later ↦ rw later (let more = beyond is xs (rw later at none) in omega (arith, more)) ]
+
+there : {X : Type 0} (is : X → Bool) (xs : List X) → nat_lt (place_of is xs) (length xs) ≡ list_any is xs
+there is xs =
+    elim (either (list_any is xs)) [
+      | inl some ↦ lt-ltb (place_of is xs) (length xs) (within is xs some) ∙ sym some
+      | inr none ↦ le-ltb (place_of is xs) (length xs) (beyond is xs none) ∙ sym none
+    ]
+
+pub route_there : (prefix : Prefix) (source : FibSource) (rs : List Route) → nat_lt (place_of (is_route prefix source) rs) (length rs) ≡ list_any (is_route prefix source) rs
+route_there prefix source rs = there (is_route prefix source) rs
+
+pub neighbor_there : (interface addr : ℕ) (ns : List Neighbor) → nat_lt (place_of (is_neighbor interface addr) ns) (length ns)
+    ≡ list_any (λ m. same_neighbor m (record { interface = interface; addr = addr; mac = 0 })) ns
+neighbor_there interface addr ns = there (is_neighbor interface addr) ns
+
+pub neighbor_set : (new : Neighbor) (ns : List Neighbor) → place_of (is_neighbor new.interface new.addr) ns < length ns
+    → slice_set ns (place_of (is_neighbor new.interface new.addr) ns) new ≡ set_neighbor new ns
+neighbor_set new [] l = absurd (omega (arith, l))
+neighbor_set new (n ∷ ns) l =
+    elim (either (is_neighbor new.interface new.addr n)) [
+      | inl is ↦ rw is refl
+      | inr isnt ↦ rw isnt (ap (λ (xs : List Neighbor). n ∷ xs) (neighbor_set new ns (omega (arith, (rw isnt at l)))))
+    ]
+
+pub neighbor_end : (new : Neighbor) (ns : List Neighbor) → length ns ≤ place_of (is_neighbor new.interface new.addr) ns → ns ++ new ∷ [] ≡ set_neighbor new ns
+neighbor_end new [] l = refl
+neighbor_end new (n ∷ ns) l =
+    elim (either (is_neighbor new.interface new.addr n)) [
+      | inl is ↦ absurd (let k = rw is at l in omega (arith, k))
+      | inr isnt ↦ rw isnt (ap (λ (xs : List Neighbor). n ∷ xs) (neighbor_end new ns (omega (arith, (rw isnt at l)))))
     ]
 
 -- what stood at the place stands there again
@@ -46,6 +112,20 @@ unfolding undone
 back_undone (undos.Interfaces old) S new h = absurd h
 back_undone (undos.Addresses old) S new h = absurd h
 back_undone (undos.Neighbors old) S new h = absurd h
+back_undone undos.NeighborAdded S new h = absurd h
+back_undone (undos.NeighborSet place old) S new h = absurd h
 back_undone (undos.Routes old) S new h = ap (with_routes S) h
 back_undone undos.RouteAdded S new h = ap (with_routes S) h
 back_undone (undos.RouteSet place old) S new h = ap (with_routes S) h
+
+-- neighbors taken back in the tables
+pub neighbor_back_undone : (u : Undo) (S : Tables) (new : List Neighbor) → IsNeighborBackOf u new S.neighbors → undone u (with_neighbors S new) ≡ S
+unfolding undone
+neighbor_back_undone (undos.Interfaces old) S new h = absurd h
+neighbor_back_undone (undos.Addresses old) S new h = absurd h
+neighbor_back_undone (undos.Neighbors old) S new h = ap (with_neighbors S) h
+neighbor_back_undone undos.NeighborAdded S new h = ap (with_neighbors S) h
+neighbor_back_undone (undos.NeighborSet place old) S new h = ap (with_neighbors S) h
+neighbor_back_undone (undos.Routes old) S new h = absurd h
+neighbor_back_undone undos.RouteAdded S new h = absurd h
+neighbor_back_undone (undos.RouteSet place old) S new h = absurd h

@@ -1,18 +1,17 @@
 -- The size of tables is within their allowance, and this within what the program counts.
-use Rattle.std.proofs.Common.{arith, ◌≡◌, ℕ, suc, ◌+◌, ◌-◌, ◌*◌, ◌/◌, ◌≤◌, ◌<◌, ◌==◌, Bool, true, false, cond, List, [], ◌∷◌, ◌++◌, map, length, Option, Some, None, inl, inr, refl, sym, ◌∙◌, ap, subst, get_or, zero-add, take, min, ◌^◌}
-use Rattle.std.specs.Prelude.{Contains, All, flat_map, sum_by, IfSome, nat_lt, nat_le, not, Decides}
+use Rattle.std.proofs.Common.{arith, ◌≡◌, ℕ, suc, ◌+◌, ◌-◌, ◌*◌, ◌/◌, ◌≤◌, ◌<◌, ◌==◌, Bool, true, false, cond, List, [], ◌∷◌, ◌++◌, map, length, Option, Some, None, inl, inr, refl, sym, ◌∙◌, ap, subst, get_or, zero-add}
+use Rattle.std.specs.Prelude.{Contains, All, flat_map, IfSome, nat_lt, nat_le, not, Decides}
 use Rattle.std.specs.List.{AllByRecursion, range_with_len}
 use Rattle.std.specs.Set.{is_member, unique_keys, distinct_count}
 use Rattle.std.specs.List.Sorted.{IsPermutation}
-use Rattle.std.proofs.lemmas.List.Sorted.{Contains-permutation, IsPermutation-refl}
+use Rattle.std.proofs.lemmas.List.Sorted.{Contains-permutation}
 use Rattle.std.specs.Cmp.{decided, first_so, second_so}
 use Rattle.std.proofs.lemmas.Bool.{ltb-true}
 use Rattle.std.proofs.lemmas.Bool.Decides.{Decides-and, Decides-eqb, Decides-like}
 use Rattle.std.proofs.lemmas.Map.Made.{distinct_count-le, is_member-Decides}
-use Rattle.std.proofs.lemmas.List.{length-append, take_more, take_all}
-use Rattle.std.proofs.lemmas.List.Sums.{sum_by-cons}
+use Rattle.std.proofs.lemmas.List.{length-append}
 use Rattle.std.proofs.lemmas.List.FromFn.{length-map-range_with_len, get_or-map-range_with_len}
-use Rattle.std.proofs.lemmas.List.Elements.{All-contains, All-from_recursion, All-contains_itself, All-append, Contains-append_left, Contains-append_right}
+use Rattle.std.proofs.lemmas.List.Elements.{All-contains, All-from_recursion, All-contains_itself, Contains-append_left, Contains-append_right}
 use Rattle.fib_list.proofs.Lists.{either, each-append, each-weaker, each-map, each-flat_map, Contains-flat_map}
 use Rattle.fib_addr.specs.Prefixes.{Prefix, same_prefix, host, masked, size_of}
 use Rattle.fib_addr.specs.Longest.{everything}
@@ -21,7 +20,6 @@ use Rattle.fib_resolve.specs.Pairs.{all_pairs, base_pairs, fixed_pairs, connecte
 use Rattle.fib_resolve.specs.Sizes.{plies_of, plies, same_adjacency, kind_adjacency, adjacencies_of, adjacencies, size}
 use Rattle.fib_resolve.specs.declared.types.Address.{Address}
 use Rattle.fib_resolve.specs.declared.types.Neighbor.{Neighbor}
-use Rattle.fib_resolve.specs.declared.types.Route.{Route}
 use Rattle.fib_resolve.specs.declared.pairs.Pair.{Pair}
 use Rattle.fib_resolve.specs.declared.pairs.Adjacency.{Adjacency}
 use Rattle.fib_resolve.specs.declared.types.PathKind.{PathKind}

@@ -1,6 +1,7 @@
 -- What taking an edit back gives.
 use Rattle.std.specs.Prelude.{◌≡◌, ℕ, suc, ◌-◌, Bool, List, [], ◌∷◌, length, take, slice_set, cond}
 use Rattle.fib_resolve.specs.Edits.{with_interfaces, with_addresses, with_neighbors, with_routes}
+use Rattle.fib_resolve.specs.declared.types.Neighbor.{Neighbor}
 use Rattle.fib_resolve.specs.declared.types.Route.{Route}
 use Rattle.fib_resolve.specs.declared.types.Tables.{Tables}
 use Rattle.fib_config.specs.declared.undo.Undo.{Undo}
@@ -16,6 +17,8 @@ unfoldable pub undone : Undo → Tables → Tables
 undone (undos.Interfaces old) S = with_interfaces S old
 undone (undos.Addresses old) S = with_addresses S old
 undone (undos.Neighbors old) S = with_neighbors S old
+undone undos.NeighborAdded S = with_neighbors S (take (length S.neighbors - 1) S.neighbors)
+undone (undos.NeighborSet place old) S = with_neighbors S (slice_set S.neighbors place old)
 undone (undos.Routes old) S = with_routes S old
 undone undos.RouteAdded S = with_routes S (take (length S.routes - 1) S.routes)
 undone (undos.RouteSet place old) S = with_routes S (slice_set S.routes place old)
@@ -33,3 +36,16 @@ IsBackOf (undos.Routes old) new routes = old ≡ routes
 IsBackOf (undos.Interfaces old) new routes = ⊥
 IsBackOf (undos.Addresses old) new routes = ⊥
 IsBackOf (undos.Neighbors old) new routes = ⊥
+IsBackOf undos.NeighborAdded new routes = ⊥
+IsBackOf (undos.NeighborSet place old) new routes = ⊥
+
+-- the same of neighbors
+abbrev pub IsNeighborBackOf : Undo → List Neighbor → List Neighbor → Type 0
+IsNeighborBackOf (undos.NeighborSet place old) new neighbors = slice_set new place old ≡ neighbors
+IsNeighborBackOf undos.NeighborAdded new neighbors = take (length new - 1) new ≡ neighbors
+IsNeighborBackOf (undos.Neighbors old) new neighbors = old ≡ neighbors
+IsNeighborBackOf (undos.Interfaces old) new neighbors = ⊥
+IsNeighborBackOf (undos.Addresses old) new neighbors = ⊥
+IsNeighborBackOf (undos.Routes old) new neighbors = ⊥
+IsNeighborBackOf undos.RouteAdded new neighbors = ⊥
+IsNeighborBackOf (undos.RouteSet place old) new neighbors = ⊥

@@ -1,3 +1,4 @@
 pub mod Bounds
+pub mod Digest
 pub mod Fields
 pub mod Lists

@@ -2,18 +2,21 @@
 
 ghost use Rattle.std.specs.Prelude.{◌≡◌, ℕ, ◌+◌, ◌≤◌, ◌<◌, ◌++◌, [], ◌∷◌, ◌-◌, true, vec_capacity, OnOk, OnErr, IfOk, map, filter, not, position, length, unwrap_or, All, take, slice_set, slice_index_or};
 ghost use Rattle.std.specs.List.{list_any};
-ghost use Rattle.fib_config.specs.Undone.{place_of, undone, undone_all, IsBackOf};
+ghost use Rattle.fib_config.specs.Undone.{place_of, undone, undone_all, IsBackOf, IsNeighborBackOf};
+ghost use Rattle.fib_config.specs.inner.Digest.{AreKeys, HasKeys, route_key, neighbor_key};
 ghost use Rattle.fib_resolve.specs.Keys.{key_of, key_lt, same_key};
 ghost use Rattle.fib_resolve.specs.Tables.{has_name, interface_named, same_address, same_neighbor, is_route};
 ghost use Rattle.fib_resolve.specs.Edits.{number_of, with_state, set_neighbor, set_path, set_paths, kind_of, path_of, source_of, paths_at, set_route, without_route, lacks_key, without_paths, route_left, routes_without};
 ghost use Rattle.fib_resolve.specs.declared.types.Tables.{Tables as TablesValue};
 
+use crate::digest::{self, Digest};
 use crate::undo::Undo;
 use fib_addr::{Addr, Prefix};
 use fib_resolve::{
     Address, Duplicate, FibSource, Interface, List, Name, Neighbor, Path, PathKind, PathSpec,
     Route, SpecKind, Tables, keys,
 };
+use indexmap::IndexSet;
 use std::alloc::{AllocError, Global};
 use std::mem;
 
@@ -92,27 +95,23 @@ pub fn is_route(prefix: Prefix, source: FibSource, r: &Route) -> bool
     r.prefix == prefix && keys::is_same_source(r.source, source)
 }
 
-pub fn paths_at<'a>(prefix: Prefix, source: FibSource, routes: &'a [Route]) -> &'a [Path]
-    ensures { result.now ≡ paths_at prefix source routes.now }
+/// The paths of the route of that prefix and source; none where there is no such route.
+#[tactic(auto, using(crate::proofs::Places::paths_there, crate::proofs::Places::paths_nowhere))]
+pub fn paths_at<'a>(
+    prefix: Prefix,
+    source: FibSource,
+    tables: &'a Tables,
+    digest: &Digest,
+) -> &'a [Path]
+    requires { HasKeys tables.now digest.now }
+    ensures { result.now ≡ paths_at prefix source tables.now.routes }
 {
-    for r in routes {
-        if is_route(prefix, source, r) {
-            return r.paths.as_slice();
-        }
+    let routes = tables.routes.as_slice();
+    let place = digest::place_of_route(&digest.routes, prefix, source, routes);
+    if place < routes.len() {
+        return routes[place].paths.as_slice();
     }
     &[]
-}
-
-// The place of the route of that prefix and source, or else the number of routes.
-fn place_of_route(prefix: Prefix, source: FibSource, routes: &[Route]) -> usize
-    ensures { result ≡ place_of (is_route prefix source) routes.now }
-{
-    for (i, r) in routes.iter().enumerate() {
-        if is_route(prefix, source, r) {
-            return i;
-        }
-    }
-    routes.len()
 }
 
 // Puts the item in place of another, which comes back. Takes no memory.
@@ -137,20 +136,54 @@ fn drop_last<T: Drop>(alloc: Global, list: &mut List<T>)
     *list = List::from_vec(items);
 }
 
-/// Puts the route in its place, or says how that is taken back. Where memory is wanted, the routes stay.
-#[tactic(auto, using(crate::proofs::Places::route_set, crate::proofs::Places::route_end, crate::proofs::Places::set_back, crate::proofs::Places::end_back))]
-pub fn put_route(alloc: Global, new: Route, routes: &mut List<Route>) -> Result<Undo, AllocError>
+/// Puts the route in its place, and says how that is taken back. Where memory is wanted, the routes stay.
+#[tactic(auto, using(crate::proofs::Places::route_set, crate::proofs::Places::route_end, crate::proofs::Places::set_back, crate::proofs::Places::end_back, crate::proofs::Keying::route_keys_set, crate::proofs::Keying::keys_last))]
+pub fn put_route(
+    alloc: Global,
+    new: Route,
+    routes: &mut List<Route>,
+    keys: &mut Option<IndexSet<(Prefix, u8)>>,
+) -> Result<Undo, AllocError>
+    requires { AreKeys route_key routes.old keys.old }
     ensures ok { OnOk result (routes.new ≡ set_route new routes.old) }
     ensures back { IfOk result (λ u. IsBackOf u routes.new routes.old) }
     ensures err { OnErr result (routes.new ≡ routes.old) }
+    ensures keys { AreKeys route_key routes.new keys.new }
 {
-    let place = place_of_route(new.prefix, new.source, routes.as_slice());
+    let key = (new.prefix, new.source.rank());
+    let place = digest::place_of_route(keys, new.prefix, new.source, routes.as_slice());
     if place < routes.len() {
         let old = set_at(alloc, routes, place, new);
         return Ok(Undo::RouteSet { place, old });
     }
     routes.push(new)?;
+    digest::add_last(keys, key);
     Ok(Undo::RouteAdded)
+}
+
+/// Puts the neighbor in its place, and says how that is taken back. Where memory is wanted, the neighbors stay.
+#[tactic(auto, using(crate::proofs::Places::neighbor_set, crate::proofs::Places::neighbor_end, crate::proofs::Places::set_back, crate::proofs::Places::end_back, crate::proofs::Keying::neighbor_keys_set, crate::proofs::Keying::keys_last))]
+pub fn put_neighbor(
+    alloc: Global,
+    new: Neighbor,
+    neighbors: &mut List<Neighbor>,
+    keys: &mut Option<IndexSet<(u32, Addr)>>,
+) -> Result<Undo, AllocError>
+    requires { AreKeys neighbor_key neighbors.old keys.old }
+    ensures ok { OnOk result (neighbors.new ≡ set_neighbor new neighbors.old) }
+    ensures back { IfOk result (λ u. IsNeighborBackOf u neighbors.new neighbors.old) }
+    ensures err { OnErr result (neighbors.new ≡ neighbors.old) }
+    ensures keys { AreKeys neighbor_key neighbors.new keys.new }
+{
+    let key = (new.interface, new.addr);
+    let place = digest::place_of_neighbor(keys, new.interface, new.addr, neighbors.as_slice());
+    if place < neighbors.len() {
+        let old = set_at(alloc, neighbors, place, new);
+        return Ok(Undo::NeighborSet { place, old });
+    }
+    neighbors.push(new)?;
+    digest::add_last(keys, key);
+    Ok(Undo::NeighborAdded)
 }
 
 /// Takes an edit back. Takes no memory.
@@ -162,6 +195,12 @@ pub fn take_back(alloc: Global, tables: &mut Tables, undo: Undo)
         Undo::Interfaces(old) => tables.interfaces = old,
         Undo::Addresses(old) => tables.addresses = old,
         Undo::Neighbors(old) => tables.neighbors = old,
+        Undo::NeighborAdded => drop_last(alloc, &mut tables.neighbors),
+        Undo::NeighborSet { place, old } => {
+            if place < tables.neighbors.len() {
+                let _new = set_at(alloc, &mut tables.neighbors, place, old);
+            }
+        }
         Undo::Routes(old) => tables.routes = old,
         Undo::RouteAdded => drop_last(alloc, &mut tables.routes),
         Undo::RouteSet { place, old } => {
@@ -190,11 +229,16 @@ fn is_within(later: &Undo, undo: &Undo) -> bool
     match undo {
         Undo::Interfaces(_) => matches!(later, Undo::Interfaces(_)),
         Undo::Addresses(_) => matches!(later, Undo::Addresses(_)),
-        Undo::Neighbors(_) => matches!(later, Undo::Neighbors(_)),
+        Undo::Neighbors(_) => matches!(
+            later,
+            Undo::Neighbors(_) | Undo::NeighborAdded | Undo::NeighborSet { .. }
+        ),
         Undo::Routes(_) => matches!(
             later,
             Undo::Routes(_) | Undo::RouteAdded | Undo::RouteSet { .. }
         ),
+        Undo::NeighborAdded => false,
+        Undo::NeighborSet { .. } => false,
         Undo::RouteAdded => false,
         Undo::RouteSet { .. } => false,
     }
@@ -301,36 +345,6 @@ pub fn without_address(
         .filter(|a| !is_same_address(a, gone))
         .collect(alloc)?;
     Ok(List::from_vec(kept))
-}
-
-fn is_same_neighbor(m: &Neighbor, n: &Neighbor) -> bool
-    ensures { result ≡ same_neighbor m.now n.now }
-{
-    m.interface == n.interface && m.addr == n.addr
-}
-
-/// The neighbors with this one in its place.
-pub fn set_neighbor(
-    alloc: Global,
-    new: Neighbor,
-    neighbors: &[Neighbor],
-) -> Result<List<Neighbor>, AllocError>
-    ensures { IfOk result (λ x. x ≡ set_neighbor new neighbors.now) }
-{
-    let mut out = List::new(alloc);
-    let mut is_set = false;
-    for m in neighbors {
-        if !is_set && is_same_neighbor(m, &new) {
-            out.push(new)?;
-            is_set = true;
-        } else {
-            out.push(*m)?;
-        }
-    }
-    if !is_set {
-        out.push(new)?;
-    }
-    Ok(out)
 }
 
 /// The neighbors without that pair.

@@ -9,6 +9,7 @@ ghost use Rattle.fib_changes.specs.Differ.{Differ, change_of};
 ghost use Rattle.fib_resolve.specs.Reachable.{IsWritten};
 ghost use Rattle.fib_config.specs.Config.{TellsRefusal, TellsFirstRefused};
 
+use crate::digest::Digest;
 use crate::errors::{BatchError, EditError};
 use crate::undo::{Edited, EditedAll, Undo};
 use crate::{changes, edits};
@@ -18,13 +19,13 @@ use std::marker::Model;
 
 /// Tables that edits made, and the most objects that they may take.
 ///
-/// Beside them stands a number that the tables' size doesn't exceed and that each edit raises by what it can add, so that the tables are
-/// counted anew only where that number passes the room.
+/// Beside them stands what finds their routes and neighbors without a search, and a number that the tables' size doesn't exceed and that
+/// each edit raises by what it can add, so that the tables are counted anew only where that number passes the room.
 #[derive(Drop)]
 pub struct Config {
     held: Tables,
     most: u32,
-    bound: usize,
+    digest: Digest,
     alloc: Global,
 }
 
@@ -36,7 +37,7 @@ impl Model for Config {
 
     ghost view = { λ c. record { tables = c.held; room = c.most } };
 
-    ghost invariant = { λ c. AreFields c.held c.most c.bound };
+    ghost invariant = { λ c. AreFields c.held c.most c.digest };
 }
 
 impl Config {
@@ -54,7 +55,7 @@ impl Config {
                 routes: List::new(alloc),
             },
             most: room,
-            bound: usize::MAX,
+            digest: Digest::unknown(),
             alloc,
         })
     }
@@ -74,7 +75,7 @@ impl Config {
         Ok(Config {
             held: self.held.duplicate(self.alloc)?,
             most: self.most,
-            bound: self.bound,
+            digest: Digest::bounded(self.digest.bound),
             alloc: self.alloc,
         })
     }
@@ -91,7 +92,13 @@ impl Config {
         ensures refused { IfErr result (TellsRefusal (refused self.old.tables self.old.room edit.now)) }
         ensures err { OnErr result (self.new ≡ self.old) }
     {
-        edits::made(self.alloc, &mut self.held, &mut self.bound, self.most, edit)
+        edits::made(
+            self.alloc,
+            &mut self.held,
+            &mut self.digest,
+            self.most,
+            edit,
+        )
     }
 
     /// Makes the edit whatever room the edited tables take, and says at which place of the tables it changed something and what takes it
@@ -108,7 +115,7 @@ impl Config {
         ensures refused { IfErr result (TellsRefusal (first_reason (reasons self.old.tables edit.now))) }
         ensures err { OnErr result (self.new ≡ self.old) }
     {
-        edits::changed(self.alloc, &mut self.held, &mut self.bound, edit)
+        edits::change(self.alloc, &mut self.held, &mut self.digest, edit)
     }
 
     /// Takes an edit back, on the tables that it made. Takes no memory, and gives the tables as they were before it.
@@ -118,7 +125,7 @@ impl Config {
         ensures room { self.new.room ≡ self.old.room }
     {
         changes::take_back(self.alloc, &mut self.held, undo);
-        self.bound = usize::MAX;
+        self.digest = Digest::unknown();
     }
 
     /// Makes the edits in turn, each judged as `edit` does on the tables that those before it give, and says at which places of the tables
@@ -138,7 +145,7 @@ impl Config {
         edits::changed_in_turn(
             self.alloc,
             &mut self.held,
-            &mut self.bound,
+            &mut self.digest,
             self.most,
             edits,
         )
@@ -151,12 +158,12 @@ impl Config {
         ensures room { self.new.room ≡ self.old.room }
     {
         changes::take_all_back(self.alloc, &mut self.held, undos);
-        self.bound = usize::MAX;
+        self.digest = Digest::unknown();
     }
 
     /// Makes the edits in turn, or says which is the first that is refused on the tables that those before it give, and why. After a
-    /// fault nothing has changed: the edits are made on a copy. Each edit is one that a line can write, as for `edit`, and there are
-    /// fewer than 2^32.
+    /// fault nothing has changed: what was made is taken back. Each edit is one that a line can write, as for `edit`, and there are fewer
+    /// than 2^32.
     pub fn edit_all(&mut self, edits: &[Edit]) -> Result<(), BatchError>
         requires written { AllByRecursion IsWritten edits.now }
         requires few { length edits.now < 2 ^ 32 }
@@ -165,11 +172,12 @@ impl Config {
         ensures refused { IfErr result (TellsFirstRefused (edited_in_turn self.old.tables self.old.room edits.now)) }
         ensures err { OnErr result (self.new ≡ self.old) }
     {
-        let mut next = self.held.duplicate(self.alloc)?;
-        let mut bound = self.bound;
-        edits::made_in_turn(self.alloc, &mut next, &mut bound, self.most, edits)?;
-        self.held = next;
-        self.bound = bound;
-        Ok(())
+        edits::made_in_turn(
+            self.alloc,
+            &mut self.held,
+            &mut self.digest,
+            self.most,
+            edits,
+        )
     }
 }

@@ -1,24 +1,27 @@
 // The edited tables.
-ghost use Rattle.std.specs.Prelude.{◌≡◌, ◌≤◌, ◌++◌, [], ◌∷◌, IfOk, IfErr, OnOk, OnErr, None, Ok, length, map, ◌<◌, ◌^◌, ◌-◌};
-ghost use Rattle.std.specs.List.{AllByRecursion};
-ghost use Rattle.fib_config.specs.Undone.{undone, undone_all, IsBackOf};
-ghost use Rattle.fib_config.specs.inner.Bounds.{allowance, IsBoundFor};
+ghost use Rattle.std.specs.Prelude.{◌≡◌, ◌≤◌, ◌++◌, [], ◌∷◌, IfOk, IfErr, OnOk, OnErr, None, Ok, length, map, filter, not, ◌<◌, ◌^◌, ◌-◌};
+ghost use Rattle.std.specs.List.{AllByRecursion, IsDistinct};
+ghost use Rattle.fib_config.specs.Undone.{undone, undone_all, IsBackOf, IsNeighborBackOf};
+ghost use Rattle.fib_config.specs.inner.Digest.{AreKeys, HasKeys, IsDigest, route_key, neighbor_key};
 ghost use Rattle.fib_changes.specs.Differ.{Differ, change_of};
-ghost use Rattle.fib_resolve.specs.Tables.{IsSound};
+ghost use Rattle.fib_resolve.specs.Tables.{IsSound, same_neighbor, same_route};
+ghost use Rattle.fib_resolve.specs.declared.types.Tables.{Tables as TablesValue};
 ghost use Rattle.fib_resolve.specs.Refusals.{refused, edited_in_turn, reasons, first_reason};
 ghost use Rattle.fib_resolve.specs.Reachable.{IsWritten};
 ghost use Rattle.fib_config.specs.Config.{TellsRefusal, TellsFirstRefused};
 ghost use Rattle.fib_resolve.specs.Edits.{edited, with_routes, route_left, routes_without, without_paths, paths_at, path_of, paths_with, source_of, set_route, without_route};
 
+use crate::digest::{self, Digest};
 use crate::errors::{BatchError, EditError};
 use crate::undo::{Edited, EditedAll, Undo};
 use crate::{bounds, changes, reasons, sizes};
-use fib_addr::Prefix;
+use fib_addr::{Addr, Prefix};
 use fib_changes::Change;
 use fib_resolve::{
     Address, Duplicate, Edit, FibSource, Interface, List, Neighbor, Path, PathSpec, Refusal, Route,
     Tables,
 };
+use indexmap::IndexSet;
 use std::alloc::{AllocError, Global};
 use std::mem;
 
@@ -30,51 +33,85 @@ fn leave_route(
     source: FibSource,
     paths: List<Path>,
     routes: &mut List<Route>,
+    keys: &mut Option<IndexSet<(Prefix, u8)>>,
 ) -> Result<Undo, AllocError>
+    requires keys { AreKeys route_key routes.old keys.old }
+    requires apart { IsDistinct same_route routes.old }
     ensures ok { OnOk result (routes.new ≡ route_left prefix source paths routes.old) }
     ensures back { IfOk result (λ u. IsBackOf u routes.new routes.old) }
     ensures err { OnErr result (routes.new ≡ routes.old) }
+    ensures keys { AreKeys route_key routes.new keys.new }
 {
     match paths.as_slice() {
-        [] => drop_route(alloc, prefix, source, routes),
+        [] => drop_route(alloc, prefix, source, routes, keys),
         [_, ..] => {
             let route = Route {
                 prefix,
                 source,
                 paths,
             };
-            changes::put_route(alloc, route, routes)
+            changes::put_route(alloc, route, routes, keys)
         }
     }
 }
 
+#[tactic(auto, using(crate::proofs::Keying::route_keys_without))]
 fn drop_route(
     alloc: Global,
     prefix: Prefix,
     source: FibSource,
     routes: &mut List<Route>,
+    keys: &mut Option<IndexSet<(Prefix, u8)>>,
 ) -> Result<Undo, AllocError>
+    requires keys { AreKeys route_key routes.old keys.old }
+    requires apart { IsDistinct same_route routes.old }
     ensures ok { OnOk result (routes.new ≡ without_route prefix source routes.old) }
     ensures back { IfOk result (λ u. IsBackOf u routes.new routes.old) }
     ensures err { OnErr result (routes.new ≡ routes.old) }
+    ensures keys { AreKeys route_key routes.new keys.new }
 {
+    let place = digest::place_of_route(keys, prefix, source, routes.as_slice());
     let left = changes::without_route(alloc, prefix, source, routes.as_slice())?;
+    digest::drop_at(keys, place);
     Ok(Undo::Routes(mem::replace(routes, left)))
+}
+
+#[tactic(auto, using(crate::proofs::Keying::neighbor_keys_without))]
+fn drop_neighbor(
+    alloc: Global,
+    interface: u32,
+    addr: Addr,
+    neighbors: &mut List<Neighbor>,
+    keys: &mut Option<IndexSet<(u32, Addr)>>,
+) -> Result<Undo, AllocError>
+    requires keys { AreKeys neighbor_key neighbors.old keys.old }
+    requires apart { IsDistinct same_neighbor neighbors.old }
+    ensures ok { OnOk result (neighbors.new ≡ filter (λ n. not (same_neighbor n (record { interface = interface; addr = addr; mac = 0 }))) neighbors.old) }
+    ensures back { IfOk result (λ u. IsNeighborBackOf u neighbors.new neighbors.old) }
+    ensures err { OnErr result (neighbors.new ≡ neighbors.old) }
+    ensures keys { AreKeys neighbor_key neighbors.new keys.new }
+{
+    let place = digest::place_of_neighbor(keys, interface, addr, neighbors.as_slice());
+    let left = changes::without_neighbor(alloc, interface, addr, neighbors.as_slice())?;
+    digest::drop_at(keys, place);
+    Ok(Undo::Neighbors(mem::replace(neighbors, left)))
 }
 
 // What is left of the list of that prefix and source without those paths.
 fn paths_left(
     alloc: Global,
     tables: &Tables,
+    digest: &Digest,
     prefix: Prefix,
     source: FibSource,
     specs: &[PathSpec],
 ) -> Result<List<Path>, AllocError>
-    requires { length tables.now.interfaces ≤ 256 }
+    requires few { length tables.now.interfaces ≤ 256 }
+    requires keys { HasKeys tables.now digest.now }
     ensures { IfOk result (λ x. x ≡ without_paths (paths_at prefix source tables.now.routes) (map (path_of tables.now) specs.now)) }
 {
     let gone = changes::paths_of(alloc, tables, specs)?;
-    let old = changes::paths_at(prefix, source, tables.routes.as_slice());
+    let old = changes::paths_at(prefix, source, tables, digest);
     changes::without_paths(alloc, old, gone.as_slice())
 }
 
@@ -83,23 +120,35 @@ fn paths_left(
 fn del_route(
     alloc: Global,
     tables: &mut Tables,
+    digest: &mut Digest,
     prefix: Prefix,
     source: FibSource,
     specs: &[PathSpec],
 ) -> Result<Undo, AllocError>
-    requires { length tables.old.interfaces ≤ 256 }
+    requires few { length tables.old.interfaces ≤ 256 }
+    requires keys { HasKeys tables.old digest.old }
+    requires apart { IsDistinct same_route tables.old.routes }
     ensures ok { OnOk result (tables.new ≡ with_routes tables.old (routes_without tables.old prefix source specs.now)) }
     ensures back { IfOk result (λ u. undone u tables.new ≡ tables.old) }
     ensures err { OnErr result (tables.new ≡ tables.old) }
+    ensures keys { HasKeys tables.new digest.new }
+    ensures bound { digest.new.bound ≡ digest.old.bound }
 {
     match specs {
         [] => {
-            let undo = drop_route(alloc, prefix, source, &mut tables.routes)?;
+            let undo = drop_route(
+                alloc,
+                prefix,
+                source,
+                &mut tables.routes,
+                &mut digest.routes,
+            )?;
             Ok(undo)
         }
         [_, ..] => {
-            let left = paths_left(alloc, tables, prefix, source, specs)?;
-            let undo = leave_route(alloc, prefix, source, left, &mut tables.routes)?;
+            let left = paths_left(alloc, tables, digest, prefix, source, specs)?;
+            let routes = &mut tables.routes;
+            let undo = leave_route(alloc, prefix, source, left, routes, &mut digest.routes)?;
             Ok(undo)
         }
     }
@@ -110,34 +159,46 @@ fn del_route(
 fn add_route(
     alloc: Global,
     tables: &mut Tables,
+    digest: &mut Digest,
     prefix: Prefix,
     api: bool,
     specs: &[PathSpec],
 ) -> Result<Undo, AllocError>
-    requires { length tables.old.interfaces ≤ 256 }
+    requires few { length tables.old.interfaces ≤ 256 }
+    requires keys { HasKeys tables.old digest.old }
     ensures ok { OnOk result (tables.new ≡ with_routes tables.old (set_route (record { prefix = prefix; source = source_of api; paths = paths_with tables.old prefix api specs.now }) tables.old.routes)) }
     ensures back { IfOk result (λ u. undone u tables.new ≡ tables.old) }
     ensures err { OnErr result (tables.new ≡ tables.old) }
+    ensures keys { HasKeys tables.new digest.new }
+    ensures bound { digest.new.bound ≡ digest.old.bound }
 {
     let source = changes::source_of(api);
     let new = changes::paths_of(alloc, tables, specs)?;
-    let old = changes::paths_at(prefix, source, tables.routes.as_slice());
+    let old = changes::paths_at(prefix, source, tables, digest);
     let route = Route {
         prefix,
         source,
         paths: changes::set_paths(alloc, old, new.as_slice())?,
     };
-    let undo = changes::put_route(alloc, route, &mut tables.routes)?;
+    let undo = changes::put_route(alloc, route, &mut tables.routes, &mut digest.routes)?;
     Ok(undo)
 }
 
 // Makes the edit where the tables stand, and says what takes it back.
-#[tactic(auto, unfolding(fib_resolve::specs::Edits::edited, crate::specs::Undone::undone))]
-fn make(alloc: Global, tables: &mut Tables, edit: &Edit) -> Result<Undo, AllocError>
-    requires { length tables.old.interfaces ≤ 256 }
+#[tactic(auto, unfolding(fib_resolve::specs::Edits::edited, crate::specs::Undone::undone), using(crate::proofs::Places::neighbor_back_undone))]
+fn make(
+    alloc: Global,
+    tables: &mut Tables,
+    digest: &mut Digest,
+    edit: &Edit,
+) -> Result<Undo, AllocError>
+    requires sound { IsSound tables.old }
+    requires keys { HasKeys tables.old digest.old }
     ensures ok { OnOk result (tables.new ≡ edited tables.old edit.now) }
     ensures back { IfOk result (λ u. undone u tables.new ≡ tables.old) }
     ensures err { OnErr result (tables.new ≡ tables.old) }
+    ensures keys { HasKeys tables.new digest.new }
+    ensures bound { digest.new.bound ≡ digest.old.bound }
 {
     match edit {
         Edit::CreateInterface(name) => {
@@ -176,21 +237,22 @@ fn make(alloc: Global, tables: &mut Tables, edit: &Edit) -> Result<Undo, AllocEr
                 addr: *addr,
                 mac: *mac,
             };
-            let neighbors = changes::set_neighbor(alloc, new, tables.neighbors.as_slice())?;
-            Ok(Undo::Neighbors(mem::replace(&mut tables.neighbors, neighbors)))
+            let neighbors = &mut tables.neighbors;
+            let undo = changes::put_neighbor(alloc, new, neighbors, &mut digest.neighbors)?;
+            Ok(undo)
         }
         Edit::DelNeighbor { name, addr } => {
             let number = changes::number_of(tables, name);
-            let held = tables.neighbors.as_slice();
-            let neighbors = changes::without_neighbor(alloc, number, *addr, held)?;
-            Ok(Undo::Neighbors(mem::replace(&mut tables.neighbors, neighbors)))
+            let neighbors = &mut tables.neighbors;
+            let undo = drop_neighbor(alloc, number, *addr, neighbors, &mut digest.neighbors)?;
+            Ok(undo)
         }
         Edit::AddRoute { prefix, api, paths } => {
-            add_route(alloc, tables, *prefix, *api, paths.as_slice())
+            add_route(alloc, tables, digest, *prefix, *api, paths.as_slice())
         }
         Edit::DelRoute { prefix, api, paths } => {
             let source = changes::source_of(*api);
-            del_route(alloc, tables, *prefix, source, paths.as_slice())
+            del_route(alloc, tables, digest, *prefix, source, paths.as_slice())
         }
     }
 }
@@ -223,63 +285,47 @@ fn change_of(tables: &Tables, edit: &Edit) -> Change
     }
 }
 
-/// Makes the edit where the tables stand, unless a reason other than the size applies.
-#[tactic(auto, using(crate::proofs::Made::made_sound_at))]
-pub fn change(alloc: Global, tables: &mut Tables, edit: &Edit) -> Result<Edited, EditError>
-    requires sound { IsSound tables.old }
-    requires written { IsWritten edit.now }
-    ensures accepted { OnOk result (first_reason (reasons tables.old edit.now) ≡ None) }
-    ensures edited { OnOk result (tables.new ≡ edited tables.old edit.now) }
-    ensures place { IfOk result (λ x. x.change ≡ change_of tables.old edit.now) }
-    ensures back { IfOk result (λ x. undone x.undo tables.new ≡ tables.old) }
-    ensures sound { OnOk result (IsSound tables.new) }
-    ensures refused { IfErr result (TellsRefusal (first_reason (reasons tables.old edit.now))) }
-    ensures err { OnErr result (tables.new ≡ tables.old) }
-{
-    if let Some(refusal) = reasons::own_refusal(alloc, tables, edit)? {
-        return Err(EditError::Refused(refusal));
-    }
-    let change = change_of(tables, edit);
-    let undo = make(alloc, tables, edit)?;
-    Ok(Edited { change, undo })
-}
-
-/// The same beside a bound on the allowance, which grows with the edit.
-#[tactic(auto, using(crate::proofs::Made::made_bounded))]
-pub fn changed(
+/// Makes the edit where the tables stand, unless a reason other than the size applies. The bound grows by what the edit can add.
+#[tactic(auto, using(crate::proofs::Made::made_sound_at, crate::proofs::Made::made_bounded))]
+pub fn change(
     alloc: Global,
     tables: &mut Tables,
-    bound: &mut usize,
+    digest: &mut Digest,
     edit: &Edit,
 ) -> Result<Edited, EditError>
     requires sound { IsSound tables.old }
-    requires bound { IsBoundFor bound.old (allowance tables.old) }
+    requires digest { IsDigest tables.old digest.old }
     requires written { IsWritten edit.now }
     ensures accepted { OnOk result (first_reason (reasons tables.old edit.now) ≡ None) }
     ensures edited { OnOk result (tables.new ≡ edited tables.old edit.now) }
     ensures place { IfOk result (λ x. x.change ≡ change_of tables.old edit.now) }
     ensures back { IfOk result (λ x. undone x.undo tables.new ≡ tables.old) }
     ensures sound { IsSound tables.new }
-    ensures bound { IsBoundFor bound.new (allowance tables.new) }
+    ensures digest { IsDigest tables.new digest.new }
     ensures refused { IfErr result (TellsRefusal (first_reason (reasons tables.old edit.now))) }
     ensures err { OnErr result (tables.new ≡ tables.old) }
 {
-    let edited = change(alloc, tables, edit)?;
-    *bound = bound.saturating_add(bounds::growth(edit));
-    Ok(edited)
+    digest::learn(alloc, tables, digest, edit);
+    if let Some(refusal) = reasons::own_refusal(alloc, tables, digest, edit)? {
+        return Err(EditError::Refused(refusal));
+    }
+    let change = change_of(tables, edit);
+    let undo = make(alloc, tables, digest, edit)?;
+    digest.bound = digest.bound.saturating_add(bounds::growth(edit));
+    Ok(Edited { change, undo })
 }
 
 /// Makes the edit where the tables stand, where it isn't refused.
-#[tactic(auto, using(crate::proofs::Made::made_refused, crate::proofs::Made::made_large, crate::proofs::Made::made_fits, crate::proofs::Made::made_bounded))]
+#[tactic(auto, using(crate::proofs::Made::made_refused, crate::proofs::Made::made_large, crate::proofs::Made::made_fits))]
 fn fitted(
     alloc: Global,
     tables: &mut Tables,
-    bound: &mut usize,
+    digest: &mut Digest,
     room: u32,
     edit: &Edit,
 ) -> Result<Edited, EditError>
     requires sound { IsSound tables.old }
-    requires bound { IsBoundFor bound.old (allowance tables.old) }
+    requires digest { IsDigest tables.old digest.old }
     requires written { IsWritten edit.now }
     requires room { room < 2 ^ 32 - 1 }
     ensures accepted { OnOk result (refused tables.old room edit.now ≡ None) }
@@ -287,27 +333,29 @@ fn fitted(
     ensures place { IfOk result (λ x. x.change ≡ change_of tables.old edit.now) }
     ensures back { IfOk result (λ x. undone x.undo tables.new ≡ tables.old) }
     ensures sound { IsSound tables.new }
-    ensures bound { IsBoundFor bound.new (allowance tables.new) }
+    ensures digest { IsDigest tables.new digest.new }
     ensures refused { IfErr result (TellsRefusal (refused tables.old room edit.now)) }
     ensures err { OnErr result (tables.new ≡ tables.old) }
 {
-    let edited = match change(alloc, tables, edit) {
+    let before = digest.bound;
+    let edited = match change(alloc, tables, digest, edit) {
         Ok(edited) => edited,
         Err(EditError::Refused(refusal)) => return Err(EditError::Refused(refusal)),
         Err(EditError::Memory) => return Err(EditError::Memory),
     };
-    let grown = bound.saturating_add(bounds::growth(edit));
-    match sizes::fitting_bound(alloc, tables, grown, room) {
+    match sizes::fitting_bound(alloc, tables, digest.bound, room) {
         Ok(Some(fitting)) => {
-            *bound = fitting;
+            digest.bound = fitting;
             Ok(edited)
         }
         Ok(None) => {
             changes::take_back(alloc, tables, edited.undo);
+            *digest = Digest::bounded(before);
             Err(EditError::Refused(Refusal::TooLarge))
         }
         Err(_) => {
             changes::take_back(alloc, tables, edited.undo);
+            *digest = Digest::bounded(before);
             Err(EditError::Memory)
         }
     }
@@ -320,54 +368,23 @@ fn forget(_edited: Edited) {}
 pub fn made(
     alloc: Global,
     tables: &mut Tables,
-    bound: &mut usize,
+    digest: &mut Digest,
     room: u32,
     edit: &Edit,
 ) -> Result<(), EditError>
     requires sound { IsSound tables.old }
-    requires bound { IsBoundFor bound.old (allowance tables.old) }
+    requires digest { IsDigest tables.old digest.old }
     requires written { IsWritten edit.now }
     requires room { room < 2 ^ 32 - 1 }
     ensures accepted { OnOk result (refused tables.old room edit.now ≡ None) }
     ensures edited { OnOk result (tables.new ≡ edited tables.old edit.now) }
     ensures sound { IsSound tables.new }
-    ensures bound { IsBoundFor bound.new (allowance tables.new) }
+    ensures digest { IsDigest tables.new digest.new }
     ensures refused { IfErr result (TellsRefusal (refused tables.old room edit.now)) }
     ensures err { OnErr result (tables.new ≡ tables.old) }
 {
-    let edited = fitted(alloc, tables, bound, room, edit)?;
+    let edited = fitted(alloc, tables, digest, room, edit)?;
     forget(edited);
-    Ok(())
-}
-
-/// Makes the edits in turn where the tables stand, as long as none is refused. What it leaves where one is refused is what those before it made.
-pub fn made_in_turn(
-    alloc: Global,
-    tables: &mut Tables,
-    bound: &mut usize,
-    room: u32,
-    edits: &[Edit],
-) -> Result<(), BatchError>
-    requires sound { IsSound tables.old }
-    requires bound { IsBoundFor bound.old (allowance tables.old) }
-    requires written { AllByRecursion IsWritten edits.now }
-    requires few { length edits.now < 2 ^ 32 }
-    requires room { room < 2 ^ 32 - 1 }
-    ensures made { OnOk result (edited_in_turn tables.old room edits.now ≡ Ok tables.new) }
-    ensures sound { IsSound tables.new }
-    ensures bound { IsBoundFor bound.new (allowance tables.new) }
-    ensures refused { IfErr result (TellsFirstRefused (edited_in_turn tables.old room edits.now)) }
-{
-    for (place, edit) in edits.iter().enumerate() {
-        match made(alloc, tables, bound, room, edit) {
-            Ok(()) => {}
-            Err(EditError::Refused(refusal)) => {
-                let place = place as u32;
-                return Err(BatchError::Refused { place, refusal });
-            }
-            Err(EditError::Memory) => return Err(BatchError::Memory),
-        }
-    }
     Ok(())
 }
 
@@ -375,13 +392,13 @@ pub fn made_in_turn(
 fn keep(
     alloc: Global,
     tables: &mut Tables,
-    bound: &mut usize,
+    digest: &mut Digest,
     room: u32,
     edit: &Edit,
     kept: &mut EditedAll,
 ) -> Result<(), EditError>
     requires sound { IsSound tables.old }
-    requires bound { IsBoundFor bound.old (allowance tables.old) }
+    requires digest { IsDigest tables.old digest.old }
     requires written { IsWritten edit.now }
     requires room { room < 2 ^ 32 - 1 }
     ensures accepted { OnOk result (refused tables.old room edit.now ≡ None) }
@@ -389,12 +406,12 @@ fn keep(
     ensures place { OnOk result (kept.new.changes.items ≡ kept.old.changes.items ++ change_of tables.old edit.now ∷ []) }
     ensures back { undone_all kept.new.undos.items tables.new ≡ undone_all kept.old.undos.items tables.old }
     ensures sound { IsSound tables.new }
-    ensures bound { IsBoundFor bound.new (allowance tables.new) }
+    ensures digest { IsDigest tables.new digest.new }
     ensures refused { IfErr result (TellsRefusal (refused tables.old room edit.now)) }
 {
     kept.changes.reserve(1)?;
     kept.undos.reserve(1)?;
-    let Edited { change, undo } = fitted(alloc, tables, bound, room, edit)?;
+    let Edited { change, undo } = fitted(alloc, tables, digest, room, edit)?;
     kept.changes.push_reserved(change);
     changes::keep_undo(&mut kept.undos, undo);
     Ok(())
@@ -404,13 +421,13 @@ fn keep(
 fn keep_in_turn(
     alloc: Global,
     tables: &mut Tables,
-    bound: &mut usize,
+    digest: &mut Digest,
     room: u32,
     edits: &[Edit],
     kept: &mut EditedAll,
 ) -> Result<(), BatchError>
     requires sound { IsSound tables.old }
-    requires bound { IsBoundFor bound.old (allowance tables.old) }
+    requires digest { IsDigest tables.old digest.old }
     requires written { AllByRecursion IsWritten edits.now }
     requires few { length edits.now < 2 ^ 32 }
     requires room { room < 2 ^ 32 - 1 }
@@ -419,11 +436,11 @@ fn keep_in_turn(
     ensures places { OnOk result (Differ kept.new.changes.items tables.old tables.new) }
     ensures back { undone_all kept.new.undos.items tables.new ≡ undone_all kept.old.undos.items tables.old }
     ensures sound { IsSound tables.new }
-    ensures bound { IsBoundFor bound.new (allowance tables.new) }
+    ensures digest { IsDigest tables.new digest.new }
     ensures refused { IfErr result (TellsFirstRefused (edited_in_turn tables.old room edits.now)) }
 {
     for (place, edit) in edits.iter().enumerate() {
-        match keep(alloc, tables, bound, room, edit, kept) {
+        match keep(alloc, tables, digest, room, edit, kept) {
             Ok(()) => {}
             Err(EditError::Refused(refusal)) => {
                 let place = place as u32;
@@ -439,12 +456,12 @@ fn keep_in_turn(
 pub fn changed_in_turn(
     alloc: Global,
     tables: &mut Tables,
-    bound: &mut usize,
+    digest: &mut Digest,
     room: u32,
     edits: &[Edit],
 ) -> Result<EditedAll, BatchError>
     requires sound { IsSound tables.old }
-    requires bound { IsBoundFor bound.old (allowance tables.old) }
+    requires digest { IsDigest tables.old digest.old }
     requires written { AllByRecursion IsWritten edits.now }
     requires few { length edits.now < 2 ^ 32 }
     requires room { room < 2 ^ 32 - 1 }
@@ -452,7 +469,7 @@ pub fn changed_in_turn(
     ensures places { IfOk result (λ x. Differ x.changes.items tables.old tables.new) }
     ensures back { IfOk result (λ x. undone_all x.undos.items tables.new ≡ tables.old) }
     ensures sound { IsSound tables.new }
-    ensures bound { IsBoundFor bound.new (allowance tables.new) }
+    ensures digest { IsDigest tables.new digest.new }
     ensures refused { IfErr result (TellsFirstRefused (edited_in_turn tables.old room edits.now)) }
     ensures err { OnErr result (tables.new ≡ tables.old) }
 {
@@ -460,13 +477,41 @@ pub fn changed_in_turn(
         changes: Vec::new(alloc),
         undos: Vec::new(alloc),
     };
-    match keep_in_turn(alloc, tables, bound, room, edits, &mut kept) {
+    let before = digest.bound;
+    match keep_in_turn(alloc, tables, digest, room, edits, &mut kept) {
         Ok(()) => Ok(kept),
         Err(error) => {
             let EditedAll { undos, .. } = kept;
             changes::take_all_back(alloc, tables, undos);
-            *bound = usize::MAX;
+            *digest = Digest::bounded(before);
             Err(error)
         }
     }
+}
+
+// What takes edits back isn't wanted.
+fn forget_all(_edited: EditedAll) {}
+
+/// The same where they aren't taken back.
+pub fn made_in_turn(
+    alloc: Global,
+    tables: &mut Tables,
+    digest: &mut Digest,
+    room: u32,
+    edits: &[Edit],
+) -> Result<(), BatchError>
+    requires sound { IsSound tables.old }
+    requires digest { IsDigest tables.old digest.old }
+    requires written { AllByRecursion IsWritten edits.now }
+    requires few { length edits.now < 2 ^ 32 }
+    requires room { room < 2 ^ 32 - 1 }
+    ensures made { OnOk result (edited_in_turn tables.old room edits.now ≡ Ok tables.new) }
+    ensures sound { IsSound tables.new }
+    ensures digest { IsDigest tables.new digest.new }
+    ensures refused { IfErr result (TellsFirstRefused (edited_in_turn tables.old room edits.now)) }
+    ensures err { OnErr result (tables.new ≡ tables.old) }
+{
+    let edited = changed_in_turn(alloc, tables, digest, room, edits)?;
+    forget_all(edited);
+    Ok(())
 }

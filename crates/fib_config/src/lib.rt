@@ -6,6 +6,7 @@
 mod bounds;
 mod changes;
 mod config;
+mod digest;
 mod edits;
 mod errors;
 mod reasons;
@@ -15,6 +16,3 @@ mod undo;
 pub use config::Config;
 pub use errors::{BatchError, EditError};
 pub use undo::{Edited, EditedAll, Undo};
-
-#[cfg(test)]
-mod tests;

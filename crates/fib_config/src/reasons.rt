@@ -4,11 +4,13 @@ ghost use Rattle.std.specs.List.{list_any};
 ghost use Rattle.fib_resolve.specs.Keys.{is_drop_or_local};
 ghost use Rattle.fib_resolve.specs.Tables.{IsSound, same_address, same_neighbor, connects_elsewhere, is_mixed, is_route};
 ghost use Rattle.fib_resolve.specs.Edits.{source_of, set_paths, path_of};
+ghost use Rattle.fib_config.specs.inner.Digest.{HasKeys};
 ghost use Rattle.fib_config.specs.inner.Lists.{list_reasons, writes_drop_or_local};
 ghost use Rattle.fib_resolve.specs.Refusals.{unknown, names_unknown, some_unknown, has_address, connected_elsewhere, has_neighbor, has_route, lacks_a_key, when, reasons, first_reason};
 ghost use Rattle.fib_resolve.specs.Reachable.{IsWritten};
 
 use crate::changes;
+use crate::digest::{self, Digest};
 use fib_addr::{Addr, Prefix};
 use fib_resolve::{
     Address, Edit, FibSource, List, Name, Path, PathSpec, Refusal, SpecKind, Tables,
@@ -72,14 +74,13 @@ fn connected_elsewhere(tables: &Tables, a: &Address) -> bool
     false
 }
 
-fn has_neighbor(tables: &Tables, interface: u32, addr: Addr) -> bool
+#[tactic(auto, using(crate::proofs::Places::neighbor_there))]
+fn has_neighbor(tables: &Tables, digest: &Digest, interface: u32, addr: Addr) -> bool
+    requires { HasKeys tables.now digest.now }
     ensures { result ≡ has_neighbor tables.now (record { interface = interface; addr = addr; mac = 0 }) }
 {
-    tables
-        .neighbors
-        .as_slice()
-        .iter()
-        .any(|n| n.interface == interface && n.addr == addr)
+    let neighbors = tables.neighbors.as_slice();
+    digest::place_of_neighbor(&digest.neighbors, interface, addr, neighbors) < neighbors.len()
 }
 
 fn has_drop_or_local(paths: &[Path]) -> bool
@@ -165,14 +166,13 @@ fn lacks_a_key(old: &[Path], paths: &[Path]) -> bool
     paths.iter().any(|p| !changes::has_key(old, p))
 }
 
-fn has_route(tables: &Tables, prefix: Prefix, source: FibSource) -> bool
+#[tactic(auto, using(crate::proofs::Places::route_there))]
+fn has_route(tables: &Tables, digest: &Digest, prefix: Prefix, source: FibSource) -> bool
+    requires { HasKeys tables.now digest.now }
     ensures { result ≡ list_any (is_route prefix source) tables.now.routes }
 {
-    tables
-        .routes
-        .as_slice()
-        .iter()
-        .any(|r| changes::is_route(prefix, source, r))
+    let routes = tables.routes.as_slice();
+    digest::place_of_route(&digest.routes, prefix, source, routes) < routes.len()
 }
 
 fn refused_address(tables: &Tables, a: &Address) -> Option<Refusal>
@@ -194,9 +194,11 @@ fn refused_address(tables: &Tables, a: &Address) -> Option<Refusal>
 pub fn own_refusal(
     alloc: Global,
     tables: &Tables,
+    digest: &Digest,
     edit: &Edit,
 ) -> Result<Option<Refusal>, AllocError>
     requires sound { IsSound tables.now }
+    requires keys { HasKeys tables.now digest.now }
     requires written { IsWritten edit.now }
     ensures { IfOk result (λ o. o ≡ first_reason (reasons tables.now edit.now)) }
 {
@@ -246,7 +248,7 @@ pub fn own_refusal(
         Edit::DelNeighbor { name, addr } => {
             if is_unknown(tables, name) {
                 Ok(Some(Refusal::NoSuchInterface))
-            } else if !has_neighbor(tables, changes::number_of(tables, name), *addr) {
+            } else if !has_neighbor(tables, digest, changes::number_of(tables, name), *addr) {
                 Ok(Some(Refusal::NoSuchNeighbor))
             } else {
                 Ok(None)
@@ -257,7 +259,7 @@ pub fn own_refusal(
                 return Ok(Some(Refusal::NoSuchInterface));
             }
             let source = changes::source_of(*api);
-            let old = changes::paths_at(*prefix, source, tables.routes.as_slice());
+            let old = changes::paths_at(*prefix, source, tables, digest);
             refused_paths(alloc, tables, old, paths.as_slice())
         }
         Edit::DelRoute { prefix, api, paths } => {
@@ -265,11 +267,11 @@ pub fn own_refusal(
                 return Ok(Some(Refusal::NoSuchInterface));
             }
             let source = changes::source_of(*api);
-            if !has_route(tables, *prefix, source) {
+            if !has_route(tables, digest, *prefix, source) {
                 return Ok(Some(Refusal::NoSuchRoute));
             }
             let gone = changes::paths_of(alloc, tables, paths.as_slice())?;
-            let old = changes::paths_at(*prefix, source, tables.routes.as_slice());
+            let old = changes::paths_at(*prefix, source, tables, digest);
             if lacks_a_key(old, gone.as_slice()) {
                 Ok(Some(Refusal::NoSuchPath))
             } else {

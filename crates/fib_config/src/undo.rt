@@ -11,6 +11,10 @@ pub enum Undo {
     Addresses(List<Address>),
     /// The neighbors are these again.
     Neighbors(List<Neighbor>),
+    /// The last neighbor goes.
+    NeighborAdded,
+    /// The neighbor at that place is this one again.
+    NeighborSet { place: usize, old: Neighbor },
     /// The routes are these again.
     Routes(List<Route>),
     /// The last route goes.

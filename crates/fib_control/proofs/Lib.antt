@@ -6,6 +6,5 @@ pub mod Turned
 pub mod Telling
 pub mod Started
 pub mod Born
-pub mod Rests
 pub mod Walked
 pub mod Lookups

@@ -1,4 +1,3 @@
 pub mod Standing
 pub mod Starting
-pub mod Rested
 pub mod Readable

@@ -17,6 +17,3 @@ mod settling;
 
 pub use control::Control;
 pub use errors::{ApplyError, BatchApplyError, Busy};
-
-#[cfg(test)]
-mod tests;

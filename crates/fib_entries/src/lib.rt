@@ -22,6 +22,3 @@ pub use changes::{FollowError, Followed, Moved, Touched};
 pub use entries::Entries;
 pub use fib_changes::Change;
 pub use rows::Row;
-
-#[cfg(test)]
-mod tests;

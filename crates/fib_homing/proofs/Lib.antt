@@ -3,4 +3,3 @@ pub mod Placing
 pub mod Gathering
 pub mod Arriving
 pub mod Boarding
-pub mod Starting

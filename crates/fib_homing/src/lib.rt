@@ -9,6 +9,3 @@ mod station;
 
 pub use home::bring_home;
 pub use station::{Station, forward_all, send_out};
-
-#[cfg(test)]
-mod tests;

@@ -1,2 +1,1 @@
 pub mod Crewing
-pub mod Staying

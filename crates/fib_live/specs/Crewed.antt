@@ -12,12 +12,16 @@ pub record Crew : Type 0 where
 abbrev pub crew_of : Board → Crew
 crew_of b = record { id = b.id; workers = b.workers; out = b.out; gathered = b.gathered }
 
--- four workers, all of them at home, where no claim came yet
-abbrev pub manned : List ℕ → Crew
-manned id = record { id = id; workers = 4; out = replicate 8 false; gathered = [] }
+-- nobody is out
+abbrev pub IsHome : Board → Type 0
+IsHome b = b.out ≡ replicate 8 false
 
-abbrev pub IsManned : Board → Type 0
-IsManned b = crew_of b ≡ manned b.id
+-- so many workers, all of them at home, where no claim came yet
+abbrev pub manned : ℕ → List ℕ → Crew
+manned n id = record { id = id; workers = n; out = replicate 8 false; gathered = [] }
+
+abbrev pub IsManned : ℕ → Board → Type 0
+IsManned n b = crew_of b ≡ manned n b.id
 
 -- the same words, and the same workers out
 abbrev pub SameCrew : Board → Board → Type 0

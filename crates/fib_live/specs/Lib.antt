@@ -1,2 +1,1 @@
 pub mod Crewed
-pub mod Stays

@@ -3,7 +3,7 @@ ghost use Rattle.std.specs.Prelude.{IfSome, ◌<◌, ◌≡◌};
 ghost use Rattle.fib_resolve.specs.Reachable.{IsWritten};
 ghost use Rattle.fib_lawful.specs.State.{left_of};
 ghost use Rattle.fib_cells.specs.Seats.{id_in};
-ghost use Rattle.fib_live.specs.Crewed.{IsManned, SameCrew};
+ghost use Rattle.fib_live.specs.Crewed.{IsHome, IsManned, SameCrew};
 
 use crate::live::{change_by, edit_of, live, pass, restack, settle_home};
 use fib_addr::Addr;
@@ -46,7 +46,7 @@ pub struct Told {
 // The worker leaves, forwards, rests during the edit, is told, forwards and comes home.
 fn tell<'a>(control: &mut Control<LiveBoard<'a>>, edit: &Edit) -> Option<Told>
     requires written { IsWritten edit.now }
-    requires manned { IsManned control.old.plane.board }
+    requires manned { IsManned 4 control.old.plane.board }
 {
     let worker = Worker::new(control.worker(NUMBER));
     let (worker, before) = pass(worker, REMOTE, 5)?;
@@ -67,7 +67,7 @@ fn tell<'a>(control: &mut Control<LiveBoard<'a>>, edit: &Edit) -> Option<Told>
 
 /// Settles, and then does what `Told` says. None where memory is wanted.
 pub fn tell_of_a_change<'a>(alloc: Global, control: &mut Control<LiveBoard<'a>>) -> Option<Told>
-    requires { IsManned control.old.plane.board }
+    requires { IsManned 4 control.old.plane.board }
 {
     set_up(alloc, control)?;
     settle_home(control)?;
@@ -75,8 +75,8 @@ pub fn tell_of_a_change<'a>(alloc: Global, control: &mut Control<LiveBoard<'a>>)
     tell(control, &edit)
 }
 
-// The rest of a pass.
-fn finished<'a>(mut pass: Pass<'a>) -> Finished<'a>
+/// The rest of a pass.
+pub fn finished<'a>(mut pass: Pass<'a>) -> Finished<'a>
     ensures { result.worker.id ≡ pass.entry.seat.id }
 {
     loop {
@@ -123,7 +123,7 @@ pub struct Held {
 // The worker leaves, is held beneath the edit, and comes home.
 fn hold<'a>(control: &mut Control<LiveBoard<'a>>, edit: &Edit) -> Option<Held>
     requires written { IsWritten edit.now }
-    requires manned { IsManned control.old.plane.board }
+    requires manned { IsManned 4 control.old.plane.board }
 {
     let worker = Worker::new(control.worker(NUMBER));
     if worker.passes_left() == 0 {
@@ -146,7 +146,7 @@ pub fn hold_beneath_a_change<'a>(
     alloc: Global,
     control: &mut Control<LiveBoard<'a>>,
 ) -> Option<Held>
-    requires { IsManned control.old.plane.board }
+    requires { IsManned 4 control.old.plane.board }
 {
     set_up(alloc, control)?;
     settle_home(control)?;
@@ -154,15 +154,15 @@ pub fn hold_beneath_a_change<'a>(
     hold(control, &edit)
 }
 
-/// A control over fresh words of 1,024 objects and four workers.
+/// A control over words, with their crew. None where memory is wanted.
 pub fn fresh<'a>(
     alloc: Global,
     cells: &'a Cells,
     seat: ControlSeat,
 ) -> Option<Control<LiveBoard<'a>>>
     requires words { seat.id ≡ id_in cells.now }
-    requires manned { IsManned seat }
-    ensures { IfSome result (λ c. IsManned c.plane.board) }
+    requires home { IsHome seat }
+    ensures { IfSome result (λ c. SameCrew seat c.plane.board) }
 {
     live(alloc, cells, seat).ok()
 }

@@ -4,12 +4,6 @@
 #![tactic(auto)]
 
 pub mod alone;
-#[cfg(test)]
-mod beside;
-#[cfg(test)]
-mod judge;
+pub mod crowded;
+pub mod held;
 pub mod live;
-#[cfg(test)]
-mod pace;
-#[cfg(test)]
-mod tests;

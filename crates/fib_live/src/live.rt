@@ -1,9 +1,9 @@
-//! Steps of a control plane over live cells with four workers.
-ghost use Rattle.std.specs.Prelude.{IfOk, IfSome, length, true, ◌<◌, ◌-◌, ◌^◌, ◌≡◌};
+//! Steps of a control plane over live cells with its workers.
+ghost use Rattle.std.specs.Prelude.{IfOk, IfSome, length, true, ◌+◌, ◌<◌, ◌-◌, ◌^◌, ◌≡◌};
 ghost use Rattle.std.specs.List.{AllByRecursion};
 ghost use Rattle.fib_resolve.specs.Reachable.{IsWritten};
 ghost use Rattle.fib_cells.specs.Seats.{id_in};
-ghost use Rattle.fib_live.specs.Crewed.{IsManned, SameCrew};
+ghost use Rattle.fib_live.specs.Crewed.{IsHome, SameCrew};
 
 use fib_addr::Addr;
 use fib_cells::{Cells, ControlSeat, LiveBoard};
@@ -11,18 +11,20 @@ use fib_commands::{Line, read_line};
 use fib_control::Control;
 use fib_core::Record;
 use fib_resolve::Edit;
+use fib_trials::changes;
+use fib_trials::steps::Answers;
 use fib_worker::{Finished, Worker};
 use std::alloc::{AllocError, Global};
 
-/// A control over fresh words, whose four workers are at home.
+/// A control over words, with their crew.
 pub fn live<'a>(
     alloc: Global,
     cells: &'a Cells,
     seat: ControlSeat,
 ) -> Result<Control<LiveBoard<'a>>, AllocError>
     requires words { seat.id ≡ id_in cells.now }
-    requires manned { IsManned seat }
-    ensures { IfOk result (λ c. IsManned c.plane.board) }
+    requires home { IsHome seat }
+    ensures { IfOk result (λ c. SameCrew seat c.plane.board) }
 {
     Control::new(alloc, LiveBoard::new(cells, seat))
 }
@@ -37,8 +39,8 @@ pub fn edit_of(alloc: Global, line: &str) -> Option<Edit>
     }
 }
 
-// Whether one more version may begin.
-fn has_version_left(control: &Control<LiveBoard<'_>>) -> bool
+/// Whether one more version may begin.
+pub fn has_version_left(control: &Control<LiveBoard<'_>>) -> bool
     ensures { result ≡ true → control.now.plane.board.log.version.applied < 2 ^ 32 - 1 }
 {
     control.version().applied != u32::MAX
@@ -85,7 +87,7 @@ pub fn change_all(control: &mut Control<LiveBoard<'_>>, edits: &[Edit]) -> Optio
 
 /// Settles the last version, all workers being at home, and answers its number. None where there is no memory.
 pub fn settle_home(control: &mut Control<LiveBoard<'_>>) -> Option<u32>
-    requires { IsManned control.old.plane.board }
+    requires { IsHome control.old.plane.board }
     ensures { SameCrew control.old.plane.board control.new.plane.board }
 {
     match control.settle_alone() {
@@ -115,4 +117,37 @@ pub fn pass<'a>(worker: Worker<'a>, addr: Addr, hash: u32) -> Option<(Worker<'a>
     }
     let Finished { worker, result } = worker.forward(addr, hash);
     Some((worker, result))
+}
+
+/// Makes the changes of so many versions from that one on. None where one isn't made, or makes another version.
+pub fn apply_from(
+    alloc: Global,
+    control: &mut Control<LiveBoard<'_>>,
+    version: u32,
+    count: u32,
+) -> Option<()>
+    requires { version + count < 2 ^ 32 }
+    ensures { SameCrew control.old.plane.board control.new.plane.board }
+{
+    for place in 0..count {
+        let edit = changes::change(alloc, version + place).ok()?;
+        if change(control, &edit)? != version + place {
+            return None;
+        }
+    }
+    Some(())
+}
+
+/// Scans, retries, and tries to settle.
+pub fn calm(control: &mut Control<LiveBoard<'_>>) -> Answers
+    ensures { SameCrew control.old.plane.board control.new.plane.board }
+{
+    let retired = control.scan();
+    let deferred = control.retry();
+    let settled = control.mark_settled();
+    Answers {
+        retired,
+        deferred,
+        settled,
+    }
 }

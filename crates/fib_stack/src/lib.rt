@@ -30,6 +30,3 @@ pub use records::{Want, give_all, take_all};
 pub use sixteen::fill;
 pub use stack::Stack;
 pub use turn::Turn;
-
-#[cfg(test)]
-mod tests;

@@ -31,8 +31,8 @@ pub struct Crowd {
     pub wanted: u32,
 }
 
-// What is said of an edit that isn't made.
-fn crowd_of(error: ApplyError, made: u32) -> Result<Crowd, Trouble>
+/// What is said of an edit that isn't made.
+pub fn crowd_of(error: ApplyError, made: u32) -> Result<Crowd, Trouble>
     ensures made { IfOk result (λ x. x.made ≡ made) }
     ensures few { IfOk result (λ x. (c : Seen) (e : EditValue) → TellsApply c e error → AreTooFew c e x) }
 {
@@ -67,8 +67,8 @@ fn try_one(
     }
 }
 
-// The edit at that place.
-fn pick<'a>(place: u32, edit: &'a Edit, other: &'a Edit) -> &'a Edit
+/// The edit at that place, of two that take turns.
+pub fn pick<'a>(place: u32, edit: &'a Edit, other: &'a Edit) -> &'a Edit
     ensures { result.now ≡ picked place edit.now other.now }
 {
     if place % 2 == 0 {

@@ -12,6 +12,4 @@ pub mod prefixes;
 pub mod records;
 pub mod sets;
 pub mod steps;
-#[cfg(test)]
-mod tests;
 pub mod trouble;

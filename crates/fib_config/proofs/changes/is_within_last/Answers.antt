@@ -1,4 +1,4 @@
-use Rattle.std.proofs.Common.{sym, ◌∙◌}
+use Rattle.std.proofs.Common.{sym}
 use Rattle.fib_config.proofs.Batches.{undone_within_last}
 use Rattle.fib_config.proofs.changes.is_within_last.Goals as goal
 

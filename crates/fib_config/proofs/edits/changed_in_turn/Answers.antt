@@ -1,6 +1,7 @@
-use Rattle.std.proofs.Common.{◌≡◌, ◌∙◌, ap, sym, subst}
+use Rattle.std.proofs.Common.{◌∙◌, sym, subst}
 use Rattle.fib_resolve.specs.Tables.{IsSound}
 use Rattle.fib_resolve.specs.declared.types.Tables.{Tables}
+use Rattle.fib_config.specs.inner.Bounds.{allowance, IsBoundFor}
 use Rattle.fib_config.proofs.Batches.{undone_none}
 use Rattle.fib_config.proofs.edits.changed_in_turn.Goals as goal
 
@@ -12,3 +13,7 @@ returns-in-Err-clause-err c = c.take_all_back.ensures ∙ c.keep_in_turn.ensures
 
 pub returns-in-Err-clause-sound : goal.returns-in-Err-clause-sound
 returns-in-Err-clause-sound c = subst IsSound (sym (returns-in-Err-clause-err c)) c.requires.sound
+
+pub returns-in-Err-clause-digest : goal.returns-in-Err-clause-digest
+returns-in-Err-clause-digest c =
+    c.bounded.ensures c.take_all_back.new.tables (subst (λ (S : Tables). IsBoundFor c.args.digest.now.bound (allowance S)) (sym (returns-in-Err-clause-err c)) c.requires.digest.bound)

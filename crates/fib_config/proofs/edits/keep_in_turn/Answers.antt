@@ -1,5 +1,5 @@
-use Rattle.std.proofs.Common.{sym, ◌∙◌, refl}
-use Rattle.fib_config.proofs.Batches.{differ_more, differ_none}
+use Rattle.std.proofs.Common.{sym, ◌∙◌}
+use Rattle.fib_config.proofs.Batches.{differ_more}
 use Rattle.fib_config.proofs.Made.{turn_stops, turn_more, turn_ends}
 use Rattle.fib_config.proofs.edits.keep_in_turn.Goals as goal
 
@@ -9,7 +9,7 @@ loop-place-preserved c = record {
   places = differ_more c.loop-place.kept.changes.items _ c.args.tables.now c.loop-place.tables _ c.index-edits-place.result c.loop-place.invariant.sound c.loop-place.invariant.places c.in-Ok.ensures.edited c.in-Ok.ensures.place;
   back = c.keep.ensures.back ∙ c.loop-place.invariant.back;
   sound = c.keep.ensures.sound;
-  bound = c.keep.ensures.bound;
+  digest = c.keep.ensures.digest;
 }
 
 pub returns-in-Err-Refused-clause-refused : goal.returns-in-Err-Refused-clause-refused

@@ -3,7 +3,7 @@ use Rattle.fib_resolve.specs.Tables.{IsSound}
 use Rattle.fib_resolve.specs.Refusals.{edited_from, edited_in_turn}
 use Rattle.fib_changes.specs.Differ.{Differ}
 use Rattle.fib_config.specs.Undone.{undone_all}
-use Rattle.fib_config.specs.inner.Bounds.{allowance, IsBoundFor}
+use Rattle.fib_config.specs.inner.Digest.{IsDigest}
 use Rattle.fib_config.proofs.edits.keep_in_turn.Given as goal
 
 -- what is left to do from these tables on is what was to do, and what was done can be taken back
@@ -13,5 +13,5 @@ invariant-loop-place l = record {
   places : Differ l.kept.changes.items l.fn.tables l.tables;
   back : undone_all l.kept.undos.items l.tables ≡ undone_all l.fn.kept.undos.items l.fn.tables;
   sound : IsSound l.tables;
-  bound : IsBoundFor l.bound (allowance l.tables);
+  digest : IsDigest l.tables l.digest;
 }

@@ -1,4 +1,3 @@
-use Rattle.std.proofs.Common.{arith}
 use Rattle.fib_resolve.proofs.Sound.{sound_fresh}
 use Rattle.fib_config.proofs.config.Config.new.Goals as goal
 
@@ -8,5 +7,5 @@ invariant_of-result c = record {
     sound = rw (c.new.ensures, c.new-2.ensures, c.new-3.ensures, c.new-4.ensures) sound_fresh;
     room = c.requires.most;
   };
-  bounded = omega arith;
+  digest = c.unknown.ensures _;
 }

@@ -1,0 +1,174 @@
+-- Places found by keys.
+use Rattle.std.proofs.Common.{arith, ◌≡◌, ℕ, suc, ◌≤◌, Bool, true, false, cond, not, ◌&&◌, ◌==◌, List, [], ◌∷◌, ◌++◌, length, map, Option, Some, None, inl, inr, refl, sym, ◌∙◌, ap}
+use Rattle.std.specs.Prelude.{position, nat_lt, filter, slice_set}
+use Rattle.std.specs.Cmp.{nat_eq_equiv}
+use Rattle.std.specs.List.{remove, position_or_len, AllByRecursion, IsDistinct}
+use Rattle.std.proofs.lemmas.Bool.{ltb-false}
+use Rattle.std.proofs.lemmas.List.{map-append}
+use Rattle.indexmap.specs.IndexSet.{IndexSet}
+use Rattle.fib_list.proofs.Lists.{either}
+use Rattle.fib_addr.specs.Prefixes.{Prefix, same_prefix}
+use Rattle.std.proofs.lemmas.Bool.Decides.{Decides-eqb}
+use Rattle.fib_list.proofs.Booleans.{and_both}
+use Rattle.fib_addr.proofs.PrefixLaws.{same_prefix-Decides, same_prefix_equiv}
+use Rattle.fib_resolve.specs.Keys.{source_rank, same_source}
+use Rattle.fib_resolve.specs.Tables.{is_route, same_route, same_neighbor}
+use Rattle.fib_resolve.specs.Edits.{without_route}
+use Rattle.fib_resolve.specs.declared.types.Route.{Route}
+use Rattle.fib_resolve.specs.declared.types.Neighbor.{Neighbor}
+use Rattle.fib_resolve.specs.declared.types.FibSource.{FibSource}
+use Rattle.fib_config.specs.Undone.{place_of}
+use Rattle.fib_config.specs.inner.Digest.{AreKeys, Follows, route_key, neighbor_key, is_neighbor}
+
+-- a place by a test of the keys
+module _ {X K : Type 0} (key : X → K) (test : K → Bool) (is : X → Bool) (same : (x : X) → test (key x) ≡ is x) where
+  by_keys : (xs : List X) → position_or_len test (map key xs) ≡ place_of is xs
+  by_keys [] = refl
+  by_keys (x ∷ xs) =
+      elim (either (is x)) [
+        | inl here ↦ rw (same x ∙ here, here) refl
+        | inr later ↦ rw (same x ∙ later, later) (omega (arith, by_keys xs))
+      ]
+
+  as_long : (xs : List X) → length (map key xs) ≡ length xs
+  as_long [] = refl
+  as_long (x ∷ xs) = ap suc (as_long xs)
+
+  within : (xs : List X) → place_of is xs ≤ length xs
+  within [] = omega arith
+  within (x ∷ xs) = elim (either (is x)) [ inl here ↦ rw here (omega arith) | inr later ↦ rw later (omega (arith, within xs)) ]
+
+  found_at : (b : Bool) (n place : ℕ) → cond b (Some n) None ≡ Some place → n ≡ place
+  found_at true n place e = (cc)
+  found_at false n place e = absurd (cc)
+
+  none_at : (b : Bool) (n : ℕ) → cond b (Some n) None ≡ None → b ≡ false
+  none_at true n e = absurd (cc)
+  none_at false n e = refl
+
+  pub found_by_key : (xs : List X) (ks : List K) (place : ℕ) → ks ≡ map key xs → position test ks ≡ Some place → place ≡ place_of is xs
+  found_by_key xs ks place are at =
+      sym (found_at (nat_lt (position_or_len test ks) (length ks)) (position_or_len test ks) place at) ∙ ap (position_or_len test) are ∙ by_keys xs
+
+  pub missed_by_key : (xs : List X) (ks : List K) → ks ≡ map key xs → position test ks ≡ None → length xs ≡ place_of is xs
+  missed_by_key xs ks are at =
+      let over = ltb-false (position_or_len test ks) (length ks) (none_at (nat_lt (position_or_len test ks) (length ks)) (position_or_len test ks) at) in
+      let place = ap (position_or_len test) are ∙ by_keys xs in
+      let long = ap length are ∙ as_long xs in
+      omega (arith, within xs, over, place, long)
+
+-- a key is the route's exactly where the route is the one that is sought
+pub route_match : (p : Prefix) (s : FibSource) (n : ℕ) (r : Route) → n ≡ source_rank s → (same_prefix p r.prefix && (n == source_rank r.source)) ≡ is_route p s r
+route_match p s n r is = rw (is, same_prefix_equiv.symm p r.prefix, nat_eq_equiv.symm (source_rank s) (source_rank r.source)) refl
+
+pub neighbor_match : (i a : ℕ) (n : Neighbor) → ((i == n.interface) && (a == n.addr)) ≡ is_neighbor i a n
+neighbor_match i a n = rw (nat_eq_equiv.symm i n.interface, nat_eq_equiv.symm a n.addr) refl
+
+-- behind each that passes none does
+abbrev IsOnly : {X : Type 0} → (X → Bool) → List X → Type 0
+IsOnly is [] = Unit {0}
+IsOnly is (x ∷ xs) = (is x ≡ true → AllByRecursion (λ y. is y ≡ false) xs) × IsOnly is xs
+
+none_out : {X : Type 0} (is : X → Bool) (xs : List X) → AllByRecursion (λ y. is y ≡ false) xs → filter (λ x. not (is x)) xs ≡ xs
+none_out is [] none = refl
+none_out {X} is (x ∷ xs) none = rw none.0 (ap (λ (ys : List X). x ∷ ys) (none_out is xs none.1))
+
+module _ {X : Type 0} (same : X → X → Bool) (is : X → Bool) (alike : (x y : X) → is x ≡ true → same x y ≡ false → is y ≡ false) where
+  others : (x : X) (ys : List X) → is x ≡ true → AllByRecursion (λ y. same x y ≡ false) ys → AllByRecursion (λ y. is y ≡ false) ys
+  others x [] here apart = tt
+  others x (y ∷ ys) here apart = (alike x y here apart.0, others x ys here apart.1)
+
+  only_one : (xs : List X) → IsDistinct same xs → IsOnly is xs
+  unfolding IsDistinct
+  only_one [] apart = tt
+  only_one (x ∷ xs) apart = (λ here. others x xs here apart.0, only_one xs apart.1)
+
+module _ {X K S : Type 0} (key : X → K) where
+  -- one item more, at the end
+  pub keys_last : (xs ys : List X) (x : X) (old new : Option (IndexSet K S)) → ys ≡ xs ++ x ∷ [] → AreKeys key xs old → Follows (λ ks. ks ++ key x ∷ []) old new → AreKeys key ys new
+  keys_last xs ys x old None is are by = tt
+  keys_last xs ys x None (Some new) is are by = absurd by
+  keys_last xs ys x (Some old) (Some new) is are by = by ∙ ap (λ (ks : List K). ks ++ key x ∷ []) are ∙ sym (ap (map key) is ∙ map-append key xs (x ∷ []))
+
+module _ {X K : Type 0} (key : X → K) where
+  -- another item of the same key in its place
+  keys_set : (is : X → Bool) (new : X) → ((x : X) → is x ≡ true → key x ≡ key new) → (xs : List X) → map key (slice_set xs (place_of is xs) new) ≡ map key xs
+  keys_set is new alike [] = refl
+  keys_set is new alike (x ∷ xs) =
+      elim (either (is x)) [
+        | inl here ↦ rw here (ap (λ k. k ∷ map key xs) (sym (alike x here)))
+        | inr later ↦ rw later (ap (λ (ks : List K). key x ∷ ks) (keys_set is new alike xs))
+      ]
+
+  -- without the one at its place, where no other passes
+  keys_without : (is : X → Bool) (xs : List X) → IsOnly is xs → remove (map key xs) (place_of is xs) ≡ map key (filter (λ x. not (is x)) xs)
+  keys_without is [] only = refl
+  keys_without is (x ∷ xs) only =
+      elim (either (is x)) [
+        | inl here ↦ rw here (ap (map key) (sym (none_out is xs (only.0 here))))
+        | inr later ↦ rw later (ap (λ (ks : List K). key x ∷ ks) (keys_without is xs only.1))
+      ]
+
+module _ {X K S : Type 0} (key : X → K) where
+  keep_keys : (xs ys : List X) (keys : Option (IndexSet K S)) → map key ys ≡ map key xs → AreKeys key xs keys → AreKeys key ys keys
+  keep_keys xs ys None same are = tt
+  keep_keys xs ys (Some set) same are = are ∙ sym same
+
+  fewer_keys : (xs ys : List X) (k : ℕ) (old new : Option (IndexSet K S)) → remove (map key xs) k ≡ map key ys → AreKeys key xs old → Follows (λ ks. remove ks k) old new → AreKeys key ys new
+  fewer_keys xs ys k old None same are by = tt
+  fewer_keys xs ys k None (Some new) same are by = absurd by
+  fewer_keys xs ys k (Some old) (Some new) same are by = by ∙ ap (λ (ks : List K). remove ks k) are ∙ same
+
+-- routes
+route_like : (p : Prefix) (s : FibSource) (r : Route) → is_route p s r ≡ true → route_key r ≡ (p, source_rank s)
+route_like p s r is =
+    let both = and_both (same_prefix r.prefix p) (same_source r.source s) is in
+    ap (λ (q : Prefix). (q, source_rank r.source)) ((same_prefix-Decides r.prefix p).0 both.0) ∙ ap (λ (n : ℕ). (p, n)) ((Decides-eqb (source_rank r.source) (source_rank s)).0 both.1)
+
+route_other : (p : Prefix) (s : FibSource) (x y : Route) → is_route p s x ≡ true → same_route x y ≡ false → is_route p s y ≡ false
+route_other p s x y is apart =
+    let both = and_both (same_prefix x.prefix p) (same_source x.source s) is in
+    rw (
+      same_prefix_equiv.symm y.prefix p,
+      nat_eq_equiv.symm (source_rank y.source) (source_rank s),
+      ← same_prefix_equiv.congr x.prefix p y.prefix both.0,
+      ← nat_eq_equiv.congr (source_rank x.source) (source_rank s) (source_rank y.source) both.1,
+    ) apart
+
+module _ {S : Type 0} where
+  pub route_keys_set : (new : Route) (rs : List Route) (keys : Option (IndexSet (Prefix × ℕ) S)) → AreKeys route_key rs keys
+      → AreKeys route_key (slice_set rs (place_of (is_route new.prefix new.source) rs) new) keys
+  route_keys_set new rs keys are = keep_keys route_key rs _ keys (keys_set route_key (is_route new.prefix new.source) new (route_like new.prefix new.source) rs) are
+
+  pub route_keys_without : (p : Prefix) (s : FibSource) (rs : List Route) (old new : Option (IndexSet (Prefix × ℕ) S)) → IsDistinct same_route rs → AreKeys route_key rs old
+      → Follows (λ ks. remove ks (place_of (is_route p s) rs)) old new → AreKeys route_key (without_route p s rs) new
+  route_keys_without p s rs old new apart are by =
+      fewer_keys route_key rs (without_route p s rs) (place_of (is_route p s) rs) old new
+      (keys_without route_key (is_route p s) rs (only_one same_route (is_route p s) (route_other p s) rs apart)) are by
+
+-- neighbors
+neighbor_like : (i a : ℕ) (n : Neighbor) → is_neighbor i a n ≡ true → neighbor_key n ≡ (i, a)
+neighbor_like i a n is =
+    let both = and_both (n.interface == i) (n.addr == a) is in
+    ap (λ (k : ℕ). (k, n.addr)) ((Decides-eqb n.interface i).0 both.0) ∙ ap (λ (k : ℕ). (i, k)) ((Decides-eqb n.addr a).0 both.1)
+
+neighbor_other : (i a : ℕ) (x y : Neighbor) → is_neighbor i a x ≡ true → same_neighbor x y ≡ false → is_neighbor i a y ≡ false
+neighbor_other i a x y is apart =
+    let both = and_both (x.interface == i) (x.addr == a) is in
+    rw (
+      nat_eq_equiv.symm y.interface i,
+      nat_eq_equiv.symm y.addr a,
+      ← nat_eq_equiv.congr x.interface i y.interface both.0,
+      ← nat_eq_equiv.congr x.addr a y.addr both.1,
+    ) apart
+
+module _ {S : Type 0} where
+  pub neighbor_keys_set : (new : Neighbor) (ns : List Neighbor) (keys : Option (IndexSet (ℕ × ℕ) S)) → AreKeys neighbor_key ns keys
+      → AreKeys neighbor_key (slice_set ns (place_of (is_neighbor new.interface new.addr) ns) new) keys
+  neighbor_keys_set new ns keys are = keep_keys neighbor_key ns _ keys (keys_set neighbor_key (is_neighbor new.interface new.addr) new (neighbor_like new.interface new.addr) ns) are
+
+  pub neighbor_keys_without : (i a : ℕ) (ns : List Neighbor) (old new : Option (IndexSet (ℕ × ℕ) S)) → IsDistinct same_neighbor ns → AreKeys neighbor_key ns old
+      → Follows (λ ks. remove ks (place_of (is_neighbor i a) ns)) old new → AreKeys neighbor_key (filter (λ n. not (same_neighbor n (record { interface = i; addr = a; mac = 0 }))) ns) new
+  neighbor_keys_without i a ns old new apart are by =
+      fewer_keys neighbor_key ns _ (place_of (is_neighbor i a) ns) old new
+      (keys_without neighbor_key (is_neighbor i a) ns (only_one same_neighbor (is_neighbor i a) (neighbor_other i a) ns apart)) are by

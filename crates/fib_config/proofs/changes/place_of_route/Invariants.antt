@@ -1,7 +1,0 @@
-use Rattle.std.proofs.Common.{◌≡◌, ◌+◌, drop}
-use Rattle.fib_resolve.specs.Tables.{is_route}
-use Rattle.fib_config.specs.Undone.{place_of}
-use Rattle.fib_config.proofs.changes.place_of_route.Given as goal
-
-abbrev pub invariant-loop-i : goal.invariant-loop-i
-invariant-loop-i l = l.i + place_of (is_route l.prefix l.source) (drop l.i l.routes) ≡ place_of (is_route l.prefix l.source) l.routes

@@ -1,0 +1,14 @@
+use Rattle.std.proofs.Common.{◌∙◌, ap, subst, sym}
+use Rattle.fib_resolve.specs.Tables.{IsSound}
+use Rattle.fib_config.specs.Config.{Setup}
+use Rattle.fib_config.specs.Undone.{undone_all}
+use Rattle.fib_config.proofs.config.Config.undo_all.Goals as goal
+
+pub invariant_of-self : goal.invariant_of-self
+invariant_of-self c = record {
+  fine = record {
+    sound = subst IsSound (ap (λ (s : Setup). undone_all c.args.undos.items s.tables) (sym c.self.view_is) ∙ sym c.take_all_back.ensures) c.requires;
+    room = c.self.invariant.fine.room;
+  };
+  digest = c.unknown.ensures _;
+}

@@ -1,0 +1,191 @@
+// What is known of tables beside them.
+ghost use Rattle.std.specs.Prelude.{◌≡◌, ◌∷◌, ◌++◌, []};
+ghost use Rattle.std.specs.List.{remove};
+ghost use Rattle.fib_config.specs.Undone.{place_of};
+ghost use Rattle.fib_config.specs.inner.Bounds.{allowance, IsBoundFor};
+ghost use Rattle.fib_config.specs.inner.Digest.{AreKeys, Follows, HasKeys, IsDigest, route_key, neighbor_key, is_neighbor};
+ghost use Rattle.fib_resolve.specs.declared.types.Tables.{Tables as TablesValue};
+ghost use Rattle.fib_resolve.specs.Tables.{is_route};
+
+use crate::changes::is_route;
+use fib_addr::{Addr, Prefix};
+use fib_resolve::{Edit, FibSource, Neighbor, Route, Tables};
+use indexmap::IndexSet;
+use std::alloc::Global;
+use std::hash::Hash;
+use std::mem;
+
+/// What is known of tables beside them: the keys of their routes (a prefix with the rank of a source) and of their neighbors (an
+/// interface with an address), in the order of the lists, and a number that their allowance doesn't exceed. A list whose keys aren't known
+/// is searched.
+#[derive(Drop)]
+pub struct Digest {
+    pub routes: Option<IndexSet<(Prefix, u8)>>,
+    pub neighbors: Option<IndexSet<(u32, Addr)>>,
+    pub bound: usize,
+}
+
+impl Digest {
+    /// Nothing is known, which is right of all tables.
+    pub fn unknown() -> Digest
+        ensures { (S : TablesValue) → IsDigest S result }
+    {
+        Digest::bounded(usize::MAX)
+    }
+
+    /// No keys are known.
+    pub fn bounded(bound: usize) -> Digest
+        ensures { (S : TablesValue) → IsBoundFor bound (allowance S) → IsDigest S result }
+    {
+        Digest {
+            routes: None,
+            neighbors: None,
+            bound,
+        }
+    }
+}
+
+/// The keys with one more at the end; none where it was there, or where memory is wanted.
+fn with_last<K: Eq + Hash + Drop>(keys: Option<IndexSet<K>>, key: K) -> Option<IndexSet<K>>
+    ensures { Follows (λ ks. ks ++ key ∷ []) keys result }
+{
+    let Some(mut set) = keys else {
+        return None;
+    };
+    match set.insert(key) {
+        Ok(true) => Some(set),
+        _ => None,
+    }
+}
+
+/// The keys without the one at that place.
+fn without_at<K: Eq + Hash + Drop>(keys: Option<IndexSet<K>>, place: usize) -> Option<IndexSet<K>>
+    ensures { Follows (λ ks. remove ks place) keys result }
+{
+    let Some(mut set) = keys else {
+        return None;
+    };
+    let _gone = set.shift_remove_index(place);
+    Some(set)
+}
+
+/// One key more at the end, where the keys are known; it forgets them where it was there, or where memory is wanted.
+pub fn add_last<K: Eq + Hash + Drop>(keys: &mut Option<IndexSet<K>>, key: K)
+    ensures { Follows (λ ks. ks ++ key ∷ []) keys.old keys.new }
+{
+    let known = mem::replace(keys, None);
+    *keys = with_last(known, key);
+}
+
+/// The key at that place goes, where the keys are known.
+pub fn drop_at<K: Eq + Hash + Drop>(keys: &mut Option<IndexSet<K>>, place: usize)
+    ensures { Follows (λ ks. remove ks place) keys.old keys.new }
+{
+    let known = mem::replace(keys, None);
+    *keys = without_at(known, place);
+}
+
+/// The keys of the routes; none where two have one key, or where memory is wanted.
+fn of_routes(alloc: Global, routes: &[Route]) -> Option<IndexSet<(Prefix, u8)>>
+    ensures { AreKeys route_key routes.now result }
+{
+    let mut keys = Some(IndexSet::new(alloc));
+    for r in routes {
+        keys = with_last(keys, (r.prefix, r.source.rank()));
+    }
+    keys
+}
+
+/// The keys of the neighbors; none where two have one key, or where memory is wanted.
+fn of_neighbors(alloc: Global, neighbors: &[Neighbor]) -> Option<IndexSet<(u32, Addr)>>
+    ensures { AreKeys neighbor_key neighbors.now result }
+{
+    let mut keys = Some(IndexSet::new(alloc));
+    for n in neighbors {
+        keys = with_last(keys, (n.interface, n.addr));
+    }
+    keys
+}
+
+/// The place of the route of that prefix and source, or else the number of routes, by a search.
+fn searched_route(prefix: Prefix, source: FibSource, routes: &[Route]) -> usize
+    ensures { result ≡ place_of (is_route prefix source) routes.now }
+{
+    for (i, r) in routes.iter().enumerate() {
+        if is_route(prefix, source, r) {
+            return i;
+        }
+    }
+    routes.len()
+}
+
+/// The place of the route of that prefix and source, or else the number of routes.
+pub fn place_of_route(
+    keys: &Option<IndexSet<(Prefix, u8)>>,
+    prefix: Prefix,
+    source: FibSource,
+    routes: &[Route],
+) -> usize
+    requires { AreKeys route_key routes.now keys.now }
+    ensures { result ≡ place_of (is_route prefix source) routes.now }
+{
+    match keys {
+        Some(set) => match set.get_index_of(&(prefix, source.rank())) {
+            Some(place) => place,
+            None => routes.len(),
+        },
+        None => searched_route(prefix, source, routes),
+    }
+}
+
+/// The place of the neighbor of that interface and address, or else the number of neighbors, by a search.
+fn searched_neighbor(interface: u32, addr: Addr, neighbors: &[Neighbor]) -> usize
+    ensures { result ≡ place_of (is_neighbor interface addr) neighbors.now }
+{
+    for (i, n) in neighbors.iter().enumerate() {
+        if n.interface == interface && n.addr == addr {
+            return i;
+        }
+    }
+    neighbors.len()
+}
+
+/// The place of the neighbor of that interface and address, or else the number of neighbors.
+pub fn place_of_neighbor(
+    keys: &Option<IndexSet<(u32, Addr)>>,
+    interface: u32,
+    addr: Addr,
+    neighbors: &[Neighbor],
+) -> usize
+    requires { AreKeys neighbor_key neighbors.now keys.now }
+    ensures { result ≡ place_of (is_neighbor interface addr) neighbors.now }
+{
+    match keys {
+        Some(set) => match set.get_index_of(&(interface, addr)) {
+            Some(place) => place,
+            None => neighbors.len(),
+        },
+        None => searched_neighbor(interface, addr, neighbors),
+    }
+}
+
+/// Makes the keys known that the edit needs, where memory suffices.
+pub fn learn(alloc: Global, tables: &Tables, digest: &mut Digest, edit: &Edit)
+    requires { HasKeys tables.now digest.old }
+    ensures keys { HasKeys tables.now digest.new }
+    ensures bound { digest.new.bound ≡ digest.old.bound }
+{
+    match edit {
+        Edit::AddRoute { .. } | Edit::DelRoute { .. } => {
+            if digest.routes.is_none() {
+                digest.routes = of_routes(alloc, tables.routes.as_slice());
+            }
+        }
+        Edit::SetNeighbor { .. } | Edit::DelNeighbor { .. } => {
+            if digest.neighbors.is_none() {
+                digest.neighbors = of_neighbors(alloc, tables.neighbors.as_slice());
+            }
+        }
+        _ => {}
+    }
+}
