@@ -1,6 +1,6 @@
 -- A control plane over fresh cells, on which a run begins.
-use Rattle.std.proofs.Common.{◌≡◌, ◌+◌, ◌-◌, ◌/◌, ◌^◌, ◌++◌, ◌∷◌, [], ℕ, List, Option, Result, Ok, Err, OnOk, false, refl, ap, ◌∙◌}
-use Rattle.std.specs.Prelude.{slice_index, slice_index_or}
+use Rattle.std.proofs.Common.{◌≡◌, ◌+◌, ◌-◌, ◌/◌, ◌^◌, ◌++◌, ◌∷◌, [], ℕ, List, Option, Result, Ok, Err, OnOk, false, refl, ap, ◌∙◌, zero, suc}
+use Rattle.std.specs.Prelude.{replicate, slice_index, slice_index_or}
 use Rattle.fib_resolve.specs.Tables.{fresh}
 use Rattle.fib_lawful.specs.State.{left_of}
 use Rattle.fib_board.specs.Boards.{Board}
@@ -12,10 +12,19 @@ use Rattle.fib_control.specs.Controls.{Control, promise_in}
 use Rattle.fib_capture.specs.Captures.{Capture}
 use Rattle.fib_settings.specs.Ranges.{InRange}
 use Rattle.fib_settings.specs.declared.sizes.Settings.{Settings}
-use Rattle.fib_homing.proofs.Starting.{all_nought, all_off}
 use Rattle.fib_rounds.specs.Output.{Output}
 use Rattle.fib_rounds.specs.Runs.{GainsRun, IsNew}
 use Rattle.fib_rounds.specs.Writes.{Gains}
+
+all_off : (m n : ℕ) → slice_index_or (replicate m false) n false ≡ false
+all_off zero n = refl
+all_off (suc m) zero = refl
+all_off (suc m) (suc n) = all_off m n
+
+all_nought : (m n : ℕ) → slice_index (replicate m 0) n ≡ 0
+all_nought zero n = refl
+all_nought (suc m) zero = refl
+all_nought (suc m) (suc n) = all_nought m n
 
 pub within_limits : (s : Settings) → InRange s → IsWithinLimits s.objects s.workers
 within_limits s r = record { least = r.enough_objects; most = r.objects_fit; even = r.even_objects; some = r.some_worker; eight = r.few_workers }
@@ -26,7 +35,7 @@ new_over objects workers id b c is setup same =
     let rest : promise_in c ≡ promise_of (fresh_live id objects workers) = same ∙ ap promise_of is in
     record {
       setup = setup ∙ ap (λ (x : Board). record { tables = fresh; room = x.objects / 2 }) is;
-      workers = ap (λ (p : Promise). p.rest.workers) rest;
+      all = ap (λ (p : Promise). p.rest.workers) rest;
       history = ap (λ (p : Promise). p.rest.log.history) rest;
       version = ap (λ (p : Promise). p.rest.log.version) rest;
       none = λ n. ap (λ (p : Promise). slice_index_or p.rest.out n false) rest ∙ all_off 8 n;

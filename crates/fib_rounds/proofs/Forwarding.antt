@@ -1,6 +1,8 @@
 -- A round from the calls on its workers.
-use Rattle.std.proofs.Common.{◌≡◌, ◌<◌, ◌≤◌, ◌+◌, ◌-◌, ◌*◌, ◌/◌, ◌^◌, ◌++◌, [], ℕ, List, false, rules, length, take, drop, arith, refl, ap, ap₂, ◌∙◌, sym, subst, Option}
+use Rattle.std.proofs.Common.{◌≡◌, ◌<◌, ◌≤◌, ◌+◌, ◌-◌, ◌*◌, ◌/◌, ◌^◌, ◌++◌, ◌∷◌, [], ℕ, suc, List, Bool, true, false, not, rules, length, take, drop, arith, refl, ap, ap₂, ◌∙◌, sym, subst, Option}
 use Rattle.std.specs.Prelude.{All, slice_index, slice_index_or}
+use Rattle.std.specs.List.{list_any}
+use Rattle.fib_shared.specs.Shares.{is_alone}
 use Rattle.std.proofs.lemmas.List.{append-nil, drop_all}
 use Rattle.std.proofs.Math.Seq.{take-append_seam}
 use Rattle.fib_resolve.specs.declared.types.Tables.{Tables}
@@ -38,6 +40,18 @@ board_setup c d b e = ap (λ (x : Control). x.setup) e
 
 pub count_is : (ps : List Packet) (first to : ℕ) → first ≤ to → to ≤ length ps → frames (span ps first to) ≡ (to - first + 255) / 256
 count_is ps first to le lt = ap (λ n. (n + 255) / 256) (length_span ps first to le lt)
+
+-- where nobody is out the control plane is alone
+none_away : (away : List Bool) → ((n : ℕ) → slice_index_or away n false ≡ false) → list_any (λ is. is) away ≡ false
+none_away [] home = refl
+none_away (true ∷ away) home = absurd (off (home 0))
+  where
+    off : true ≡ false → ⊥
+    off e = cc
+none_away (false ∷ away) home = none_away away (λ n. home (suc n))
+
+pub alone_again : (b : Board) → NoneOut b → is_alone b ≡ true
+alone_again b home = ap not (none_away b.out home)
 
 -- enough passes are left for a round
 pub enough_left : (workers place count : ℕ) (c : Control) → IsAtRest workers place c → place ≤ 65535 → count ≤ 2 ^ 24 → (n : ℕ) → n < workers → 256 * (count + 1) ≤ left_of (slice_index c.plane.board.rests n)
@@ -113,7 +127,7 @@ alone_home k first base workers ps a b none trails claims = subst (λ qs. IsHome
 })
   where
     no_frame : (f : ℕ) → frame {A = Packet} [] f ≡ []
-    no_frame f = ap (take 256) (drop_all (256 * f) ([] {A = Packet}) (omega arith))
+    no_frame f = ap (take 256) (drop_all {X = Packet} (256 * f) [] (omega arith))
 
 pub alone_ran : (script : List (List ℕ)) (ps : List Packet) (round : Opening) (workers : ℕ) (A B : Control) (early late : Progress) (old new : List ℕ) (stop : Stop) → round.first ≡ round.to → IsAtRest workers round.place A → KeepsCrew A B
     → GoesOn script round.place (stage_of A early) old stop.place (stage_of B late) new → StopsAt (drop stop.place script) (router_of B late) stop.asked → round.place ≤ stop.place → stop.place ≤ length script → stop.place ≤ 65535

@@ -152,7 +152,7 @@ history_fresh workers room c p f is = subst IsHistory (sym (stage_fresh workers 
 
 pub rests_fresh : (workers room : ℕ) (c : Control) → IsNew workers room c → IsAtRest workers 0 c
 rests_fresh workers room c f = record {
-  all = f.workers;
+  all = f.all;
   none = f.none;
   few = omega (arith, ap length f.gathered);
   passes = λ n lt. omega (arith, f.left n lt);

@@ -55,7 +55,7 @@ GainsRun workers room script packets c before after =
 -- a control plane before its first change, with that room and so many workers, who never left it
 pub record IsNew (workers room : ℕ) (c : Control) : Type 0 where
   pub setup : c.setup ≡ record { tables = fresh; room = room }
-  pub workers : c.plane.board.workers ≡ workers
+  pub all : c.plane.board.workers ≡ workers
   pub history : history_in c ≡ fresh ∷ []
   pub version : c.plane.board.log.version ≡ version_at 0
   pub none : NoneOut c.plane.board

@@ -10,7 +10,7 @@ use Rattle.fib_rounds.proofs.Forwarding.{board_setup, count_is, enough_left, for
 use Rattle.fib_rounds.proofs.round.forward_round.Goals as goal
 
 pub beside-stop-requires-clause-ready : goal.beside-stop-requires-clause-ready
-beside-stop-requires-clause-ready g c =
+beside-stop-requires-clause-ready g c κs within =
     let o = c.args.round in
     let ps = c.args.packets.now.packets in
     let k = c.version.result.applied in
