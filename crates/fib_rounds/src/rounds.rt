@@ -11,7 +11,7 @@ ghost use Rattle.fib_rounds.specs.Writes.{Gains};
 use crate::fault::RunFault;
 use crate::opening::Opening;
 use crate::put::{put_all, put_last, write_frames};
-use crate::round::{Ran, run_round};
+use crate::round::run_round;
 use crate::summary::Summary;
 use fib_capture::Capture;
 use fib_cells::{Cells, LiveBoard};
@@ -59,11 +59,7 @@ pub fn run_on<'a, R: Threads + Wait + Sync, K: Sink, G: Gate>(
     });
     'rounds: while let Some(round) = next {
         text.clear();
-        let Ran {
-            next: later,
-            places,
-            refused,
-        } = run_round(
+        let ran = run_round(
             rt,
             alloc,
             gate,
@@ -84,10 +80,10 @@ pub fn run_on<'a, R: Threads + Wait + Sync, K: Sink, G: Gate>(
             packets,
             round.first,
             round.to,
-            places.as_slice(),
+            ran.places.as_slice(),
         )?;
-        refused_lines = refused;
-        next = later;
+        refused_lines = ran.refused;
+        next = ran.next;
     }
     text.clear();
     put_last(&mut text, packets)?;

@@ -47,38 +47,38 @@ returns-in_err-run_round-clause-some g c =
 pub returns-in_err-put_all-clause-some : goal.returns-in_err-put_all-clause-some
 returns-in_err-put_all-clause-some g c =
     let inv = c.rounds.invariant in
-    let told = c.in_ok-run_round.ensures in
+    let told = c.in_ok-ran.ensures in
     let going = rw c.in-Some.is at inv.going in
     let part = subst (AppendsSome _ _) c.deref.ensures.value c.in_err-put_all.ensures.err in
     on_err c.from_residual-in_err-put_all.result
-    (round_cut c.args.settings.workers (c.args.settings.objects / 2) c.args.script.now c.args.packets.now (stage_of c.rounds.control c.rounds.progress) (closed_by (stage_of c.run_round.new.control c.run_round.new.progress) c.in_ok-run_round.field-0.next) c.in-Some.round c.in_ok-run_round.field-0.next c.rounds.control.plane.board _ _ _ _ _ going told.ran
-    (closed_history _ c.in_ok-run_round.field-0.next told.history) (some_of_first _ _ c.run_round.new.text.items _ part))
+    (round_cut c.args.settings.workers (c.args.settings.objects / 2) c.args.script.now c.args.packets.now (stage_of c.rounds.control c.rounds.progress) (closed_by (stage_of c.run_round.new.control c.run_round.new.progress) c.in_ok-ran.ran.next) c.in-Some.round c.in_ok-ran.ran.next c.rounds.control.plane.board _ _ _ _ _ going told.ran
+    (closed_history _ c.in_ok-ran.ran.next told.history) (some_of_first _ _ c.run_round.new.text.items _ part))
 
 pub write_frames-requires-clause-laid : goal.write_frames-requires-clause-laid
 write_frames-requires-clause-laid g c =
-    let told = c.in_ok-run_round.ensures in
+    let told = c.in_ok-ran.ensures in
     let may = rw c.in-Some.is at c.rounds.invariant.may in
     subst (AreLaid c.args.packets.now.packets c.in-Some.round.first c.in-Some.round.to) (sym c.as_slice.ensures.value)
-    (laid_start _ _ _ c.args.packets.now.packets c.in-Some.round.first c.in-Some.round.to c.in_ok-run_round.field-0.places.items may.order may.inside told.filled)
+    (laid_start _ _ _ c.args.packets.now.packets c.in-Some.round.first c.in-Some.round.to c.in_ok-ran.ran.places.items may.order may.inside told.filled)
 
 pub returns-in_err-write_frames-clause-some : goal.returns-in_err-write_frames-clause-some
 returns-in_err-write_frames-clause-some g c =
     let inv = c.rounds.invariant in
-    let told = c.in_ok-run_round.ensures in
+    let told = c.in_ok-ran.ensures in
     let o = c.in-Some.round in
     let going = rw c.in-Some.is at inv.going in
     let first = subst (Appends _ _) c.deref.ensures.value c.in_ok-put_all.ensures.ok in
     let same = ap₂ (λ T xs. packets_text T o.first (span c.args.packets.now.packets o.first o.to) (joined (parts_of xs))) c.tables.ensures.value c.as_slice.ensures.value in
     let part = subst (AppendsSome _ _) same c.in_err-write_frames.ensures.err in
     on_err c.from_residual-in_err-write_frames.result
-    (round_cut c.args.settings.workers (c.args.settings.objects / 2) c.args.script.now c.args.packets.now (stage_of c.rounds.control c.rounds.progress) (closed_by (stage_of c.run_round.new.control c.run_round.new.progress) c.in_ok-run_round.field-0.next) o c.in_ok-run_round.field-0.next c.rounds.control.plane.board _ _ _ _ _ going told.ran
-    (closed_history _ c.in_ok-run_round.field-0.next told.history) (some_of_both _ _ _ c.run_round.new.text.items _ first part))
+    (round_cut c.args.settings.workers (c.args.settings.objects / 2) c.args.script.now c.args.packets.now (stage_of c.rounds.control c.rounds.progress) (closed_by (stage_of c.run_round.new.control c.run_round.new.progress) c.in_ok-ran.ran.next) o c.in_ok-ran.ran.next c.rounds.control.plane.board _ _ _ _ _ going told.ran
+    (closed_history _ c.in_ok-ran.ran.next told.history) (some_of_both _ _ _ c.run_round.new.text.items _ first part))
 
 pub rounds-preserved : goal.rounds-preserved
 rounds-preserved g c =
     let inv = c.rounds.invariant in
-    let ran = c.in_ok-run_round.field-0 in
-    let told = c.in_ok-run_round.ensures in
+    let ran = c.in_ok-ran.ran in
+    let told = c.in_ok-ran.ensures in
     let o = c.in-Some.round in
     let going = rw c.in-Some.is at inv.going in
     let counts = rw c.in-Some.is at inv.counts in
