@@ -1,5 +1,5 @@
 -- A run so far.
-use Rattle.std.proofs.Common.{◌≡◌, ◌+◌, ◌-◌, ◌++◌, ◌∷◌, [], ℕ, List, length, take, drop, arith, refl, ap, ◌∙◌, sym, subst, Option, Some, None}
+use Rattle.std.proofs.Common.{◌≡◌, ◌+◌, ◌-◌, ◌++◌, ◌∷◌, [], ℕ, List, length, take, drop, arith, refl, ap, ap₂, ◌∙◌, sym, subst, Option, Some, None}
 use Rattle.std.proofs.lemmas.List.{append_assoc, append-nil, take-append-drop, length-append}
 use Rattle.fib_results.specs.declared.record.Record.{Record}
 use Rattle.fib_capture.specs.Captures.{Capture}
@@ -25,12 +25,13 @@ use Rattle.fib_rounds.specs.Packets.{last_text}
 use Rattle.fib_rounds.specs.Output.{OutputWith, FirstOutput}
 use Rattle.fib_rounds.specs.Writes.{AppendsSome, Gains}
 use Rattle.fib_rounds.specs.Runs.{Brought, GainsRun, IsNew, rounds_of, stage_after}
-use Rattle.fib_rounds.specs.Rounds.{round_at, PrintsFrom, rounds_at, history_at, counts_from, stage_of, HasRun}
+use Rattle.fib_rounds.specs.Rounds.{round_at, PrintsFrom, rounds_at, history_at, closed_by, counts_from, stage_of, HasRun}
 use Rattle.fib_rounds.specs.inner.Forwarded.{IsAtRest}
 use Rattle.fib_rounds.proofs.Moves.{Appends-more, Appends-none}
 use Rattle.fib_rounds.proofs.Writing.{cut_off}
 use Rattle.fib_rounds.specs.Frozen.{frozen_output}
 use Rattle.fib_rounds.proofs.Histories.{start_is}
+use Rattle.fib_rounds.proofs.Turning.{end_counts}
 use Rattle.fib_rounds.proofs.Outputs.{frozen_is_one, frozen_output_is_one}
 
 -- what was printed and brought home, and what is left
@@ -109,6 +110,17 @@ going_ends workers room script packets at control before mid now g told history 
       },
       Appends-more before mid now g.text (last_text packets.cut) g.told told,
     )
+
+-- the counts at the end are those of the rounds and of the router
+pub counts_end : (packets : Capture) (script : List (List ℕ)) (at : Stage) (next : Option Opening) (c : Summary) (accepted refused : ℕ) (whole : Summary) → next ≡ None
+    → counts_from packets script (closed_by at next) next c ≡ whole → accepted ≡ at.router.changes → refused ≡ (closed_by at next).router.refused
+    → record c { accepted = accepted; refused = refused } ≡ whole
+counts_end packets script at (Some o) c accepted refused whole none is changes lines = absurd (some_none none)
+  where
+    some_none : Some o ≡ None → ⊥
+    some_none e = cc
+counts_end packets script at None c accepted refused whole none is changes lines =
+    ap₂ (λ (x y : ℕ). record c { accepted = x; refused = y }) (changes ∙ sym (end_counts at.router)) lines ∙ is
 
 -- ---- the beginning
 

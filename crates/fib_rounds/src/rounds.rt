@@ -113,7 +113,8 @@ pub fn run<R: Threads + Wait + Sync, K: Sink, G: Gate>(
     ensures counted { K.faults out.old ≤ K.faults out.new }
 {
     let (cells, seat) = Cells::new(alloc, settings.objects, settings.workers)?;
-    let mut control = Control::new(alloc, LiveBoard::new(&cells, seat))?;
+    let board = LiveBoard::new(&cells, seat);
+    let mut control = Control::new(alloc, board)?;
     run_on(
         rt,
         alloc,

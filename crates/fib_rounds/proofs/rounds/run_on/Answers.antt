@@ -13,7 +13,7 @@ use Rattle.fib_rounds.specs.Writes.{AppendsSome, AreLaid}
 use Rattle.fib_rounds.proofs.Moves.{Appends-more}
 use Rattle.fib_rounds.proofs.Writing.{on_err}
 use Rattle.fib_rounds.proofs.Rounding.{closed_history, laid_start}
-use Rattle.fib_rounds.proofs.Running.{counts_fresh, going_cut, going_ends, going_fresh, going_more, going_stops, history_fresh, rests_fresh, round_cut, some_of_both, some_of_first}
+use Rattle.fib_rounds.proofs.Running.{counts_end, counts_fresh, going_cut, going_ends, going_fresh, going_more, going_stops, history_fresh, rests_fresh, round_cut, some_of_both, some_of_first}
 use Rattle.fib_rounds.proofs.rounds.run_on.Goals as goal
 
 pub rounds-init : goal.rounds-init
@@ -38,8 +38,8 @@ rounds-init g c =
       counted = omega arith;
     }
 
-pub returns-in_err-run_round-clause-some : goal.returns-in_err-run_round-clause-some
-returns-in_err-run_round-clause-some g c =
+pub returns-in_err-ran-clause-some : goal.returns-in_err-ran-clause-some
+returns-in_err-ran-clause-some g c =
     let inv = c.rounds.invariant in
     let going = rw c.in-Some.is at inv.going in
     on_err c.from_residual.result (going_stops c.args.settings.workers (c.args.settings.objects / 2) c.args.script.now c.args.packets.now _ _ c.rounds.control.plane.board _ _ going inv.history)
@@ -122,3 +122,8 @@ returns-clause-ok g c =
     let text = c.deref-2.ensures.value ∙ (c.in_ok-put_last.ensures ∙ ap (λ t. t ++ last_text c.args.packets.now.cut) c.clear-2.ensures.items) in
     let told = subst (Appends _ _) text c.in_ok-put_all-2.ensures.ok in
     going_ends c.args.settings.workers (c.args.settings.objects / 2) c.args.script.now c.args.packets.now _ c.rounds.control _ _ _ going told refl inv.settled
+
+pub returns-clause-summary : goal.returns-clause-summary
+returns-clause-summary g c =
+    let inv = c.rounds.invariant in
+    counts_end c.args.packets.now c.args.script.now (stage_of c.rounds.control c.rounds.progress) c.rounds.next c.rounds.counts c.version.result.applied c.rounds.refused_lines _ c.in_default.is inv.counts (ap (λ v. v.applied) c.version.ensures) inv.refused
