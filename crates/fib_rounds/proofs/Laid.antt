@@ -54,8 +54,7 @@ frames_more before mid now T ps at next to places i s kept whole lt is some le m
     let piece = packets_text T at (span ps at next) (results_of kept.list) in
     let rest = packets_text T next (span ps next to) (joined (parts_of (drop (i + 1) places))) in
     let text : packets_text T at (span ps at to) (joined (parts_of (drop i places))) ≡ piece ++ rest =
-    laid_text T ps at to places i s kept lt is some le me laid ∙ ap (λ (n : ℕ). packets_text T at (span ps at n) (results_of kept.list) ++ packets_text T n (span ps n to) (joined (parts_of (drop (i + 1) places)))) (sym same) in
-    (
+    laid_text T ps at to places i s kept lt is some le me laid ∙ ap (λ (n : ℕ). packets_text T at (span ps at n) (results_of kept.list) ++ packets_text T n (span ps n to) (joined (parts_of (drop (i + 1) places)))) (sym same) in (
       subst (λ n. AreLaid ps n to (drop (i + 1) places)) (sym same) (laid_next ps at to places i s kept lt is some laid),
       (w.0 ++ piece, Appends-more before mid now w.0 piece w.1 told, append_assoc w.0 piece rest ∙ (ap (λ t. w.0 ++ t) (sym text) ∙ w.2)),
     )

@@ -85,8 +85,8 @@ has_counted packets script o before mid after old mid_text place quiet asked nex
     let here = round_at packets.packets k o in
     let still : is_still_quiet true o.place place ≡ quiet = still_is o.place place ∙ sym is_quiet in
     let frozen : quiet ≡ true → mine ≡ answers k S here.taken = λ yes.
-        let same : mid ≡ before = on.quiet (eq_of_test place o.place (sym is_quiet ∙ yes)) in
-        all_settled before.history k S here.taken mine history.newest history.count (subst (λ (s : Stage). Matched (IsAnswer k s.history) here.taken mine) same answered) in
+    let same : mid ≡ before = on.quiet (eq_of_test place o.place (sym is_quiet ∙ yes)) in
+    all_settled before.history k S here.taken mine history.newest history.count (subst (λ (s : Stage). Matched (IsAnswer k s.history) here.taken mine) same answered) in
     let n : o.to - o.first ≡ length here.taken = sym (length_span packets.packets o.first o.to le lt) in
     let is : d ≡ with_round c quiet here S = is_d ∙ (if_same quiet c (o.to - o.first) mine (answers k S here.taken) frozen ∙ ap (λ m. with_results c quiet m (answers k S here.taken)) n) in
     ap₂ (λ (s : Stage) (x : Option Opening). counts_from packets script s x d) is_after is_next
@@ -103,12 +103,12 @@ frame_past ps f le = ap (take 256) (drop_all (256 * f) ps le)
 frame_at : (ps : List Packet) (first to f at : ℕ) → first ≤ to → to ≤ length ps → at ≡ min (first + 256 * f) to → frame (span ps first to) f ≡ span ps at (at + min (to - at) 256)
 frame_at ps first to f at le lt is = dite (ℕ_discrete (first + 256 * f - to) 0)
     (λ e.
-        let here : at ≡ first + 256 * f = omega (arith, is, e) in
-        frame_is ps first to f (min (to - (first + 256 * f)) 256) (omega (arith, e)) refl ∙ ap (λ n. span ps n (n + min (to - n) 256)) (sym here))
+    let here : at ≡ first + 256 * f = omega (arith, is, e) in
+    frame_is ps first to f (min (to - (first + 256 * f)) 256) (omega (arith, e)) refl ∙ ap (λ n. span ps n (n + min (to - n) 256)) (sym here))
     (λ ne.
-        let here : at ≡ to = omega (arith, is, ne) in
-        let none : at + min (to - at) 256 ≡ at = omega (arith, here) in
-        frame_past (span ps first to) f (omega (arith, ne, le, lt, length_span ps first to le lt)) ∙ (sym (span_none ps at) ∙ ap (λ n. span ps at n) (sym none)))
+    let here : at ≡ to = omega (arith, is, ne) in
+    let none : at + min (to - at) 256 ≡ at = omega (arith, here) in
+    frame_past (span ps first to) f (omega (arith, ne, le, lt, length_span ps first to le lt)) ∙ (sym (span_none ps at) ∙ ap (λ n. span ps at n) (sym none)))
 
 pub laid_of : (k low : ℕ) (H : List Tables) (ps : List Packet) (first to f at : ℕ) (places : List (Option Kept)) → first ≤ to → to ≤ length ps → at ≡ min (first + 256 * f) to → AreFilled k low H (span ps first to) f places → AreLaid ps at to places
 laid_of k low H ps first to f at [] le lt is filled =
@@ -116,11 +116,10 @@ laid_of k low H ps first to f at [] le lt is filled =
     let size : length (span ps at (at + min (to - at) 256)) ≡ min (to - at) 256 = omega (arith, length_span ps at (at + min (to - at) 256) (omega arith) (omega (arith, is, lt))) in
     omega (arith, none, size, is)
 laid_of k low H ps first to f at (None ∷ places) le lt is filled = absurd filled
-laid_of k low H ps first to f at (Some kept ∷ places) le lt is filled =
-    (
-      subst (λ qs. Matched IsOf qs (results_of kept.list)) (frame_at ps first to f at le lt is) (matched_weaker (IsRightOf k H) IsOf (λ a h r m. m.asked.of) (frame (span ps first to) f) (results_of kept.list) filled.0.answered),
-      laid_of k low H ps first to (f + 1) (at + min (to - at) 256) places le lt (omega (arith, is)) filled.1,
-    )
+laid_of k low H ps first to f at (Some kept ∷ places) le lt is filled = (
+  subst (λ qs. Matched IsOf qs (results_of kept.list)) (frame_at ps first to f at le lt is) (matched_weaker (IsRightOf k H) IsOf (λ a h r m. m.asked.of) (frame (span ps first to) f) (results_of kept.list) filled.0.answered),
+  laid_of k low H ps first to (f + 1) (at + min (to - at) 256) places le lt (omega (arith, is)) filled.1,
+)
 
 pub laid_start : (k low : ℕ) (H : List Tables) (ps : List Packet) (first to : ℕ) (places : List (Option Kept)) → first ≤ to → to ≤ length ps → AreFilled k low H (span ps first to) 0 places → AreLaid ps first to places
 laid_start k low H ps first to places le lt filled = laid_of k low H ps first to 0 first places le lt (omega (arith, le)) filled

@@ -97,19 +97,18 @@ going_cut workers room script packets at next crew out before mid now later more
 -- the end
 pub going_ends : (workers room : ℕ) (script : List (List ℕ)) (packets : Capture) (at : Stage) (control : Control) (before mid now : Option (List ℕ)) → Going workers room script packets at None control.plane.board before mid
     → Appends mid now (last_text packets.cut) → history_in control ≡ at.history → control.plane.board.log.version.settled ≡ applied_in control → GainsRun workers room script packets control before now
-going_ends workers room script packets at control before mid now g told history settled =
-    (
-      g.results ++ [],
-      g.text ++ last_text packets.cut,
-      record {
-        output = g.output [] (last_text packets.cut) (refl, refl);
-        brought = subst (λ ts. Brought workers 0 (rounds_of room script packets) (g.results ++ []) control.plane.board.gathered ts) (append-nil control.plane.board.trails)
-            (subst (λ cs. Brought workers 0 (rounds_of room script packets) (g.results ++ []) cs (control.plane.board.trails ++ [])) (append-nil control.plane.board.gathered) (g.brought [] [] [] (refl, refl, refl)));
-        history = history ∙ g.history;
-        settled = settled;
-      },
-      Appends-more before mid now g.text (last_text packets.cut) g.told told,
-    )
+going_ends workers room script packets at control before mid now g told history settled = (
+  g.results ++ [],
+  g.text ++ last_text packets.cut,
+  record {
+    output = g.output [] (last_text packets.cut) (refl, refl);
+    brought = subst (λ ts. Brought workers 0 (rounds_of room script packets) (g.results ++ []) control.plane.board.gathered ts) (append-nil control.plane.board.trails)
+        (subst (λ cs. Brought workers 0 (rounds_of room script packets) (g.results ++ []) cs (control.plane.board.trails ++ [])) (append-nil control.plane.board.gathered) (g.brought [] [] [] (refl, refl, refl)));
+    history = history ∙ g.history;
+    settled = settled;
+  },
+  Appends-more before mid now g.text (last_text packets.cut) g.told told,
+)
 
 -- the counts at the end are those of the rounds and of the router
 pub counts_end : (packets : Capture) (script : List (List ℕ)) (at : Stage) (next : Option Opening) (c : Summary) (accepted refused : ℕ) (whole : Summary) → next ≡ None

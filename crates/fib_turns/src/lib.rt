@@ -12,6 +12,3 @@ mod turn;
 pub use means::Means;
 pub use progress::Progress;
 pub use turn::{finish, run_line};
-
-#[cfg(test)]
-mod tests;

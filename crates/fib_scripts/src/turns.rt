@@ -1,8 +1,8 @@
 // The public calls once, over a plain board; what they print is tested by whole files, in the crates above.
-use super::*;
 use fib_control::Control;
 use fib_outside::FreeGate;
 use fib_plainboard::PlainBoard;
+use fib_turns::{Means, Progress, finish, run_line};
 use std::alloc::Global;
 use std::sync::Wait;
 use std::test::Fail;
