@@ -1,34 +1,32 @@
 -- A round from its parts.
-use Rattle.std.proofs.Common.{◌≡◌, ◌<◌, ◌≤◌, ◌+◌, ◌-◌, ◌++◌, ◌∷◌, ℕ, List, Bool, true, false, length, take, drop, arith, refl, ap, ap₂, ◌∙◌, sym, Option, Some, None}
+use Rattle.std.proofs.Common.{◌≡◌, ◌<◌, ◌≤◌, ◌+◌, ◌-◌, ◌++◌, ◌∷◌, [], ℕ, List, Bool, true, false, length, take, drop, arith, refl, ap, ap₂, ◌∙◌, sym, subst, Option, Some, None}
 use Rattle.std.specs.Prelude.{IfSome, min, if◌then◌else◌, ◌==◌}
-use Rattle.std.proofs.lemmas.List.{append_assoc, append-nil, drop-drop, length-drop}
+use Rattle.std.proofs.lemmas.Bool.Decides.{nat_tests}
+use Rattle.std.proofs.lemmas.List.{append-nil, drop-drop, length-drop}
 use Rattle.fib_resolve.specs.declared.types.Tables.{Tables}
 use Rattle.fib_results.specs.declared.record.Record.{Record}
 use Rattle.fib_capture.specs.Captures.{Capture}
 use Rattle.fib_capture.specs.declared.packet.Packet.{Packet}
-use Rattle.fib_turns.specs.declared.router.Router.{Router}
-use Rattle.fib_turns.specs.declared.router.Batch.{Batch}
-use Rattle.fib_turns.specs.Routers.{Fits, BatchFits}
-use Rattle.fib_turns.specs.Turns.{asks, end_turn}
+use Rattle.fib_turns.specs.Routers.{Router}
+use Rattle.fib_turns.specs.Turns.{asks, end_turn, turn_of}
 use Rattle.fib_rounds.specs.Counts.{IsSmall}
-use Rattle.fib_rounds.specs.declared.round.Opening.{Opening}
+use Rattle.fib_rounds.specs.declared.opening.Opening.{Opening}
 use Rattle.fib_rounds.specs.declared.summary.Summary.{Summary}
-use Rattle.fib_rounds.specs.Stages.{Round, opened_by}
-use Rattle.fib_crew.specs.Packets.{span}
-use Rattle.fib_rounds.specs.Packets.{answers, last_text}
-use Rattle.fib_rounds.specs.Frozen.{frozen, by_asked, round_text}
-use Rattle.fib_rounds.specs.Summaries.{counted, with_round, with_results}
-use Rattle.fib_rounds.specs.Rounds.{StopsAt, KeepsText, KeepsCounts, is_still_quiet, round_at, text_from, counts_from, closed_router, closed_text, MayOpen, next_opening}
-use Rattle.fib_rounds.proofs.Turning.{end_keeps}
+use Rattle.fib_rounds.specs.Stages.{Stage, Round, opened_by, after_line, grown}
+use Rattle.fib_crew.specs.Packets.{Matched, span}
+use Rattle.fib_rounds.specs.Packets.{packets_text, IsAnswer}
+use Rattle.fib_rounds.specs.Frozen.{by_asked}
+use Rattle.fib_rounds.specs.Output.{Prints, ByAsked, Closes}
+use Rattle.fib_rounds.specs.Summaries.{counted, with_round}
+use Rattle.fib_rounds.specs.Runs.{stage_after, rounds_from}
+use Rattle.fib_rounds.specs.Rounds.{StopsAt, is_still_quiet, round_at, PrintsFrom, rounds_at, history_at, counts_from, closed_router, closed_text, MayOpen, next_opening}
+use Rattle.fib_rounds.proofs.Turning.{end_keeps, asked_stays}
 use Rattle.fib_crew.proofs.Spans.{length_span}
 use Rattle.fib_rounds.proofs.Spans.{span_taken}
 
 pub closed_keeps : (r : Router) (asked : Option ℕ) → (closed_router r asked).config.tables ≡ r.config.tables
 closed_keeps r None = end_keeps r
 closed_keeps r (Some k) = refl
-
-assoc_4 : (a b c d : List ℕ) → a ++ (b ++ (c ++ d)) ≡ ((a ++ b) ++ c) ++ d
-assoc_4 a b c d = sym (append_assoc a b (c ++ d)) ∙ sym (append_assoc (a ++ b) c d)
 
 drop_next : {A : Type 0} (xs : List A) (i : ℕ) (x : A) (rest : List A) → drop i xs ≡ x ∷ rest → drop (i + 1) xs ≡ rest
 drop_next xs i x rest is = sym (drop-drop 1 i xs) ∙ ap (drop 1) is
@@ -44,48 +42,23 @@ round_next ps v w k place o le lt =
 by_some : {A : Type 0} (a : Option ℕ) (k : ℕ) (x : A) (f : ℕ → A) → a ≡ Some k → by_asked a x f ≡ f k
 by_some a k x f e = ap (λ b. by_asked b x f) e
 
-frozen_asked : (packets : Capture) (n : ℕ) (o : Round) (S : Tables) (r : Router) (line : List ℕ) (rest : List (List ℕ)) (k : ℕ) → asks r line ≡ Some k
-    → frozen packets n o S r (line ∷ rest) ≡ round_text o S r.config.tables ++ frozen packets (n + 1) (opened_by k packets.packets o r.changes) r.config.tables r rest
-unfolding frozen
-frozen_asked packets n o S r line rest k is = by_some (asks r line) k _ _ is
-
 counted_asked : (packets : Capture) (n : ℕ) (quiet : Bool) (o : Round) (S : Tables) (r : Router) (line : List ℕ) (rest : List (List ℕ)) (c : Summary) (k : ℕ) → asks r line ≡ Some k
     → counted packets n quiet o S r (line ∷ rest) c ≡ counted packets (n + 1) true (opened_by k packets.packets o r.changes) r.config.tables r rest (with_round c quiet o S)
 unfolding counted
 counted_asked packets n quiet o S r line rest c k is = by_some (asks r line) k _ _ is
 
--- a round's lines were run and its text is printed: what is left is what the next round leaves
-pub text_closes : (packets : Capture) (script : List (List ℕ)) (o : Opening) (v : ℕ) (S : Tables) (place : ℕ) (r : Router) (mid : List ℕ) (asked : Option ℕ) → o.first ≤ o.to → o.to ≤ length packets.packets
-    → StopsAt (drop place script) r asked
-    → ((mid ++ closed_text r asked) ++ round_text (round_at packets.packets v o) S r.config.tables) ++ text_from packets script (closed_router r asked) (next_opening packets.packets place o.to asked)
-    ≡ mid ++ frozen packets (place + 1) (round_at packets.packets v o) S r (drop place script)
-unfolding frozen
-text_closes packets script o v S place r mid None le lt stops =
-    let end : frozen packets (place + 1) (round_at packets.packets v o) S r (drop place script) ≡ (end_turn r).1 ++ (round_text (round_at packets.packets v o) S r.config.tables ++ last_text packets.cut) =
-    ap (frozen packets (place + 1) (round_at packets.packets v o) S r) stops in
-    sym (ap (λ t. mid ++ t) end ∙ assoc_4 mid (end_turn r).1 (round_text (round_at packets.packets v o) S r.config.tables) (last_text packets.cut))
-text_closes packets script o v S place r mid (Some k) le lt stops =
-    let line = stops.0 in
-    let rest = stops.1 in
-    let here = round_at packets.packets v o in
-    let next : Opening = record { place = place + 1; first = o.to; to = o.to + min k (length packets.packets - o.to) } in
-    let text = round_text here S r.config.tables in
-    let same : opened_by k packets.packets here r.changes ≡ round_at packets.packets r.changes next = round_next packets.packets r.changes v k place o le lt in
-    let left : rest ≡ drop (place + 1) script = sym (drop_next script place line rest stops.2) in
-    let first : frozen packets (place + 1) here S r (drop place script) ≡ text ++ frozen packets (place + 1 + 1) (opened_by k packets.packets here r.changes) r.config.tables r rest =
-    ap (frozen packets (place + 1) here S r) stops.2 ∙ frozen_asked packets (place + 1) here S r line rest k stops.3 in
-    let later : frozen packets (place + 1 + 1) (opened_by k packets.packets here r.changes) r.config.tables r rest ≡ text_from packets script r (Some next) =
-    ap₂ (λ (x : Round) (ls : List (List ℕ)). frozen packets (place + 1 + 1) x r.config.tables r ls) same left in
-    ap (λ t. (t ++ text) ++ text_from packets script r (Some next)) (append-nil mid)
-    ∙ (append_assoc mid text (text_from packets script r (Some next)) ∙ ap (λ t. mid ++ t) (ap (λ t. text ++ t) (sym later) ∙ sym first))
+-- the stage at the close
+abbrev pub closed_stage : Stage → Option ℕ → Stage
+closed_stage at asked = record { router = closed_router at.router asked; history = at.history }
 
-pub counts_close : (packets : Capture) (script : List (List ℕ)) (o : Opening) (v : ℕ) (S : Tables) (place : ℕ) (r : Router) (quiet : Bool) (c : Summary) (asked : Option ℕ) → o.first ≤ o.to → o.to ≤ length packets.packets
-    → StopsAt (drop place script) r asked
-    → counts_from packets script (closed_router r asked) (next_opening packets.packets place o.to asked) (with_round c quiet (round_at packets.packets v o) S)
-    ≡ counted packets (place + 1) quiet (round_at packets.packets v o) S r (drop place script) c
+pub counts_close : (packets : Capture) (script : List (List ℕ)) (o : Opening) (v : ℕ) (S : Tables) (place : ℕ) (mid : Stage) (quiet : Bool) (c : Summary) (asked : Option ℕ) → o.first ≤ o.to → o.to ≤ length packets.packets
+    → StopsAt (drop place script) mid.router asked
+    → counts_from packets script (closed_stage mid asked) (next_opening packets.packets place o.to asked) (with_round c quiet (round_at packets.packets v o) S)
+    ≡ counted packets (place + 1) quiet (round_at packets.packets v o) S mid.router (drop place script) c
 unfolding counted
-counts_close packets script o v S place r quiet c None le lt stops = ap (λ ls. counted packets (place + 1) quiet (round_at packets.packets v o) S r ls c) (sym stops)
-counts_close packets script o v S place r quiet c (Some k) le lt stops =
+counts_close packets script o v S place mid quiet c None le lt stops = ap (λ ls. counted packets (place + 1) quiet (round_at packets.packets v o) S mid.router ls c) (sym stops)
+counts_close packets script o v S place mid quiet c (Some k) le lt stops =
+    let r = mid.router in
     let line = stops.0 in
     let rest = stops.1 in
     let here = round_at packets.packets v o in
@@ -119,40 +92,86 @@ pub next_small : (ps : List Packet) (place to : ℕ) (asked : Option ℕ) (c : S
 next_small ps place to None c h = tt
 next_small ps place to (Some k) c h = h
 
-pub next_fits : (ps : List Packet) (place to : ℕ) (asked : Option ℕ) (r : Router) → Fits (place + 1) r → IfSome (next_opening ps place to asked) (λ o. Fits (o.place + 1) (closed_router r asked))
-next_fits ps place to None r h = tt
-next_fits ps place to (Some k) r h = record { few = omega (arith, h.few); refused = omega (arith, h.refused); batch = batch_later r.batch h.batch }
+-- ---- what is printed
+
+by_same : (H more : List Tables) (a : ℕ) → (if a == a then H else more) ≡ H
+by_same H more a = grind (arith, nat_tests)
+
+-- a line that asks for packets leaves the stage
+abbrev stage_with : Router → List Tables → Stage
+stage_with r H = record { router = r; history = H }
+
+asked_leaves : (n : ℕ) (at : Stage) (line : List ℕ) (k : ℕ) → asks at.router line ≡ Some k → after_line n at line ≡ at
+asked_leaves n at line k is =
+    let same : (turn_of n at.router line).0 ≡ at.router = ap (λ t. t.0) (asked_stays n at.router line k is) in
+    ap (λ (r : Router). stage_with r (grown at.history at.router r)) same ∙ ap (stage_with at.router) (by_same at.history (at.history ++ at.router.config.tables ∷ []) at.router.changes)
+
+rounds_asked : (packets : Capture) (n : ℕ) (o : Round) (at : Stage) (line : List ℕ) (rest : List (List ℕ)) (k : ℕ) → asks at.router line ≡ Some k
+    → rounds_from packets n o at (line ∷ rest) ≡ o ∷ rounds_from packets (n + 1) (opened_by k packets.packets o at.router.changes) at rest
+rounds_asked packets n o at line rest k is = by_some (asks at.router line) k _ _ is
+
+prints_asked : (packets : Capture) (n : ℕ) (o : Round) (at : Stage) (line : List ℕ) (lines : List (List ℕ)) (results mine later : List Record) (out text rest : List ℕ) (k : ℕ) (a : Option ℕ) → a ≡ Some k
+    → Closes o at mine text → Prints packets (n + 1) (opened_by k packets.packets o at.router.changes) at lines later rest → results ≡ mine ++ later → out ≡ text ++ rest
+    → ByAsked a
+    ((r : List ℕ) × Prints packets (n + 1) o (after_line n at line) lines results r × (out ≡ (turn_of n at.router line).1 ++ r))
+    (λ j. (m l : List Record) × (t r : List ℕ) × Closes o at m t × Prints packets (n + 1) (opened_by j packets.packets o at.router.changes) at lines l r × (results ≡ m ++ l) × (out ≡ t ++ r))
+prints_asked packets n o at line lines results mine later out text rest k None e c p rs ts = absurd (none_some e)
   where
-    batch_later : (b : Option Batch) → BatchFits (place + 1) b → BatchFits (place + 1 + 1) b
-    batch_later None h = tt
-    batch_later (Some b) h = (h.0, omega (arith, h.1))
+    none_some : None ≡ Some k → ⊥
+    none_some e = cc
+prints_asked packets n o at line lines results mine later out text rest k (Some j) e c p rs ts =
+    let same : k ≡ j = some_same (sym e) in
+    (mine, later, text, rest, c, subst (λ i. Prints packets (n + 1) (opened_by i packets.packets o at.router.changes) at lines later rest) same p, rs, ts)
+  where
+    some_same : {x y : ℕ} → Some x ≡ Some y → x ≡ y
+    some_same e = cc
 
--- the text of a round from its parts
-pub text_of_round : (packets : Capture) (script : List (List ℕ)) (o : Opening) (r₀ r₁ r₂ : Router) (old mid fin new crew : List ℕ) (place : ℕ) (asked : Option ℕ) (next : Option Opening)
-    → o.first ≤ o.to → o.to ≤ length packets.packets → KeepsText script o.place r₀ old place r₁ mid → StopsAt (drop place script) r₁ asked
-    → fin ≡ mid ++ closed_text r₁ asked → r₂ ≡ closed_router r₁ asked → new ≡ fin ++ crew
-    → crew ≡ round_text (round_at packets.packets r₀.changes o) r₀.config.tables r₁.config.tables → next ≡ next_opening packets.packets place o.to asked
-    → new ++ text_from packets script r₂ next ≡ old ++ text_from packets script r₀ (Some o)
-text_of_round packets script o r₀ r₁ r₂ old mid fin new crew place asked next le lt keeps stops is_fin is_r is_new is_crew is_next =
-    let here = round_at packets.packets r₀.changes o in
-    let S = r₀.config.tables in
-    let printed : new ≡ (mid ++ closed_text r₁ asked) ++ round_text here S r₁.config.tables = is_new ∙ ap₂ (λ a b. a ++ b) is_fin is_crew in
-    let left : text_from packets script r₂ next ≡ text_from packets script (closed_router r₁ asked) (next_opening packets.packets place o.to asked) = ap₂ (text_from packets script) is_r is_next in
-    ap₂ (λ a b. a ++ b) printed left ∙ (text_closes packets script o r₀.changes S place r₁ mid asked le lt stops ∙ keeps packets here S)
+-- a round closes: what is left is what the next round leaves
+pub closes_prints : (packets : Capture) (script : List (List ℕ)) (o : Opening) (v place : ℕ) (mid : Stage) (asked : Option ℕ) (mine later : List Record) (rest : List ℕ) → o.first ≤ o.to → o.to ≤ length packets.packets
+    → StopsAt (drop place script) mid.router asked → Matched (IsAnswer v mid.history) (span packets.packets o.first o.to) mine
+    → PrintsFrom packets script (closed_stage mid asked) (next_opening packets.packets place o.to asked) later rest
+    → Prints packets (place + 1) (round_at packets.packets v o) mid (drop place script) (mine ++ later) (closed_text mid.router asked ++ (packets_text mid.router.config.tables o.first (span packets.packets o.first o.to) mine ++ rest))
+closes_prints packets script o v place mid None mine later rest le lt stops answered p =
+    let here = round_at packets.packets v o in
+    let text = packets_text mid.router.config.tables o.first here.taken mine in
+    let all : mine ≡ mine ++ later = sym (append-nil mine) ∙ ap (λ rs. mine ++ rs) (sym p.0) in
+    let closes : Closes here mid (mine ++ later) text = record { answered = subst (Matched (IsAnswer v mid.history) here.taken) all answered; text = ap (packets_text mid.router.config.tables o.first here.taken) all } in
+    subst (λ ls. Prints packets (place + 1) here mid ls (mine ++ later) ((end_turn mid.router).1 ++ (text ++ rest))) (sym stops) (text, closes, ap (λ t. (end_turn mid.router).1 ++ (text ++ t)) p.1)
+closes_prints packets script o v place mid (Some k) mine later rest le lt stops answered p =
+    let here = round_at packets.packets v o in
+    let r = mid.router in
+    let line = stops.0 in
+    let lines = stops.1 in
+    let text = packets_text r.config.tables o.first here.taken mine in
+    let next : Opening = record { place = place + 1; first = o.to; to = o.to + min k (length packets.packets - o.to) } in
+    let same : round_at packets.packets r.changes next ≡ opened_by k packets.packets here r.changes = sym (round_next packets.packets r.changes v k place o le lt) in
+    let left : drop (place + 1) script ≡ lines = drop_next script place line lines stops.2 in
+    let q : Prints packets (place + 1 + 1) (opened_by k packets.packets here r.changes) mid lines later rest =
+    subst (λ ls. Prints packets (place + 1 + 1) (opened_by k packets.packets here r.changes) mid ls later rest) left (subst (λ (x : Round). Prints packets (place + 1 + 1) x mid (drop (place + 1) script) later rest) same p) in
+    let closes : Closes here mid mine text = record { answered = answered; text = refl } in
+    subst (λ ls. Prints packets (place + 1) here mid ls (mine ++ later) (text ++ rest)) (sym stops.2)
+    (prints_asked packets (place + 1) here mid line lines (mine ++ later) mine later (text ++ rest) text rest k (asks r line) stops.3 closes q refl refl)
 
--- and its counts
-pub counts_of_round : (packets : Capture) (script : List (List ℕ)) (o : Opening) (r₀ r₁ r₂ : Router) (c d : Summary) (place : ℕ) (quiet : Bool) (asked : Option ℕ) (next : Option Opening) (results : List Record)
-    → o.first ≤ o.to → o.to ≤ length packets.packets → KeepsCounts script o.place r₀ place r₁ → StopsAt (drop place script) r₁ asked
-    → r₂ ≡ closed_router r₁ asked → quiet ≡ (place == o.place) → d ≡ with_results c quiet (o.to - o.first) results
-    → results ≡ answers r₀.changes r₀.config.tables (span packets.packets o.first o.to) → next ≡ next_opening packets.packets place o.to asked
-    → counts_from packets script r₂ next d ≡ counts_from packets script r₀ (Some o) c
-counts_of_round packets script o r₀ r₁ r₂ c d place quiet asked next results le lt keeps stops is_r is_quiet is_d is_results is_next =
-    let here = round_at packets.packets r₀.changes o in
-    let S = r₀.config.tables in
-    let n : o.to - o.first ≡ length (span packets.packets o.first o.to) = sym (length_span packets.packets o.first o.to le lt) in
-    let still : quiet ≡ is_still_quiet true o.place place = is_quiet ∙ sym (still_is o.place place) in
-    let is : d ≡ with_round c (is_still_quiet true o.place place) here S =
-    is_d ∙ (ap₂ (λ m rs. with_results c quiet m rs) n is_results ∙ ap (λ q. with_round c q here S) still) in
-    ap₂ (λ r x. counts_from packets script r x d) is_r is_next
-    ∙ (ap (counts_from packets script (closed_router r₁ asked) (next_opening packets.packets place o.to asked)) is
-    ∙ (counts_close packets script o r₀.changes S place r₁ (is_still_quiet true o.place place) c asked le lt stops ∙ keeps packets here S true c))
+pub closes_rounds : (packets : Capture) (script : List (List ℕ)) (o : Opening) (v place : ℕ) (mid : Stage) (asked : Option ℕ) → o.first ≤ o.to → o.to ≤ length packets.packets → StopsAt (drop place script) mid.router asked
+    → rounds_from packets (place + 1) (round_at packets.packets v o) mid (drop place script) ≡ round_at packets.packets v o ∷ rounds_at packets script (closed_stage mid asked) (next_opening packets.packets place o.to asked)
+closes_rounds packets script o v place mid None le lt stops = ap (rounds_from packets (place + 1) (round_at packets.packets v o) mid) stops
+closes_rounds packets script o v place mid (Some k) le lt stops =
+    let here = round_at packets.packets v o in
+    let r = mid.router in
+    let line = stops.0 in
+    let lines = stops.1 in
+    let next : Opening = record { place = place + 1; first = o.to; to = o.to + min k (length packets.packets - o.to) } in
+    let same : opened_by k packets.packets here r.changes ≡ round_at packets.packets r.changes next = round_next packets.packets r.changes v k place o le lt in
+    let left : lines ≡ drop (place + 1) script = sym (drop_next script place line lines stops.2) in
+    ap (rounds_from packets (place + 1) here mid) stops.2
+    ∙ (rounds_asked packets (place + 1) here mid line lines k stops.3 ∙ ap (λ rs. here ∷ rs) (ap₂ (λ (x : Round) (ls : List (List ℕ)). rounds_from packets (place + 1 + 1) x mid ls) same left))
+
+pub closes_history : (script : List (List ℕ)) (packets : Capture) (to place : ℕ) (mid : Stage) (asked : Option ℕ) → StopsAt (drop place script) mid.router asked
+    → history_at script (closed_stage mid asked) (next_opening packets.packets place to asked) ≡ (stage_after (place + 1) mid (drop place script)).history
+closes_history script packets to place mid None stops = ap (λ ls. (stage_after (place + 1) mid ls).history) (sym stops)
+closes_history script packets to place mid (Some k) stops =
+    let line = stops.0 in
+    let lines = stops.1 in
+    let left : drop (place + 1) script ≡ lines = drop_next script place line lines stops.2 in
+    ap (λ ls. (stage_after (place + 1 + 1) mid ls).history) left
+    ∙ (ap (λ (s : Stage). (stage_after (place + 1 + 1) s lines).history) (sym (asked_leaves (place + 1) mid line k stops.3)) ∙ ap (λ ls. (stage_after (place + 1) mid ls).history) (sym stops.2))

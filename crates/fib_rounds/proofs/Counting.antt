@@ -5,6 +5,7 @@ use Rattle.std.proofs.lemmas.List.{drop_more, drop_all}
 use Rattle.fib_resolve.specs.declared.types.End.{End}
 use Rattle.fib_resolve.specs.declared.types.End.TheVariants as ends
 use Rattle.fib_results.specs.declared.record.Record.{Record}
+use Rattle.fib_crew.specs.Results.{results_of}
 use Rattle.fib_rounds.specs.declared.summary.Summary.{Summary}
 use Rattle.fib_rounds.specs.Summaries.{with_end, with_ends}
 use Rattle.fib_rounds.specs.Counts.{IsSmall}
@@ -20,14 +21,14 @@ pub smaller : (n m : ℕ) (c : Summary) → n ≤ m → IsSmall n c → IsSmall 
 smaller n m c le h = record { packets = omega (arith, le, h.packets); quiet = omega (arith, le, h.quiet); drops = omega (arith, le, h.drops); receives = omega (arith, le, h.receives); gleans = omega (arith, le, h.gleans); adjs = omega (arith, le, h.adjs); incompletes = omega (arith, le, h.incompletes) }
 
 -- the counts after the first of the results that are left
-pub with_ends_head : (c : Summary) (results : List Record) (i : ℕ) (d : Record) → i < length results
-    → with_ends c (drop i results) ≡ with_ends (with_end c (slice_index_or results i d).end) (drop (i + 1) results)
+pub with_ends_head : (c : Summary) (list : List (ℕ × Record)) (i : ℕ) (d : ℕ × Record) → i < length list
+    → with_ends c (results_of (drop i list)) ≡ with_ends (with_end c (slice_index_or list i d).1.end) (results_of (drop (i + 1) list))
 unfolding with_ends
-with_ends_head c results i d lt = ap (with_ends c) (drop_more results i d lt)
+with_ends_head c list i d lt = ap (λ xs. with_ends c (results_of xs)) (drop_more list i d lt)
 
-pub ends_none : (c : Summary) (results : List Record) (i : ℕ) → length results ≤ i → with_ends c (drop i results) ≡ c
+pub ends_none : (c : Summary) (list : List (ℕ × Record)) (i : ℕ) → length list ≤ i → with_ends c (results_of (drop i list)) ≡ c
 unfolding with_ends
-ends_none c results i le = ap (with_ends c) (drop_all i results le)
+ends_none c list i le = ap (λ xs. with_ends c (results_of xs)) (drop_all i list le)
 
 pub with_no_ends : (c : Summary) → with_ends c [] ≡ c
 unfolding with_ends

@@ -6,14 +6,9 @@ use Rattle.std.proofs.Math.Seq.{get_or-append_seam}
 use Rattle.std.proofs.lemmas.Option.{slice_get_within, slice_get-get_or, get_or_from_slice_get}
 use Rattle.std.proofs.lemmas.Bool.Decides.{nat_tests}
 use Rattle.fib_resolve.specs.declared.types.Tables.{Tables}
-use Rattle.fib_turns.specs.declared.router.Router.{Router}
-use Rattle.fib_rounds.specs.Stages.{Stage, start, grown}
+use Rattle.fib_turns.specs.Routers.{Router}
+use Rattle.fib_rounds.specs.Stages.{IsHistory, Stage, start, grown}
 use Rattle.fib_rounds.proofs.Turning.{Steps}
-
--- the history ends with the tables as they are
-pub record IsHistory (at : Stage) : Type 0 where
-  pub count : length at.history ≡ at.router.changes + 1
-  pub newest : slice_get at.history at.router.changes ≡ Some at.router.config.tables
 
 pub kept : (H more : List Tables) (k : ℕ) (S : Tables) → slice_get H k ≡ Some S → slice_get (H ++ more) k ≡ Some S
 kept H more k S e =

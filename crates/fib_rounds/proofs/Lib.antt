@@ -7,8 +7,11 @@ pub mod Moves
 pub mod Spans
 pub mod Lining
 pub mod Writing
-pub mod Shares
-pub mod Crews
 pub mod Closing
+pub mod Laid
+pub mod Forwarding
+pub mod Rounding
+pub mod Running
+pub mod Beginning
 pub mod Quiet
 pub mod Tallies

@@ -54,7 +54,7 @@ answer_is_settled H k a h S r held last is =
 cons_is : (r s : Record) (rs ss : List Record) → r ≡ s → rs ≡ ss → r ∷ rs ≡ s ∷ ss
 cons_is r s rs ss e es = cc
 
-all_settled : (H : List Tables) (k : ℕ) (S : Tables) (ps : List Packet) (rs : List Record) → slice_get H k ≡ Some S → length H ≡ k + 1 → Matched (IsAnswer k H) ps rs → rs ≡ answers k S ps
+pub all_settled : (H : List Tables) (k : ℕ) (S : Tables) (ps : List Packet) (rs : List Record) → slice_get H k ≡ Some S → length H ≡ k + 1 → Matched (IsAnswer k H) ps rs → rs ≡ answers k S ps
 unfolding answers
 all_settled H k S [] [] held last m = refl
 all_settled H k S [] (r ∷ rs) held last m = absurd m

@@ -6,13 +6,13 @@ use Rattle.std.proofs.lemmas.Option.{slice_get_within, get_or_from_slice_get}
 use Rattle.std.proofs.Math.Seq.{take-add}
 use Rattle.fib_resolve.specs.declared.types.Tables.{Tables}
 use Rattle.fib_results.specs.declared.record.Record.{Record}
-use Rattle.fib_results.specs.Trails.{settled_answer}
+use Rattle.fib_crew.specs.Packets.{Matched, IsOf, span}
+use Rattle.fib_crew.specs.Results.{results_of}
 use Rattle.fib_print.specs.Packets.{packet_text, not_ipv4_text, bad_header_text}
 use Rattle.fib_capture.specs.declared.packet.Packet.{Packet}
 use Rattle.fib_capture.specs.declared.packet.Packet.TheVariants.{Flow, NotIpv4, BadHeader}
-use Rattle.fib_crew.specs.Packets.{span}
-use Rattle.fib_crew.proofs.Spans.{length_span, span_head, span_none}
-use Rattle.fib_rounds.specs.Packets.{packets_text, answers}
+use Rattle.fib_crew.proofs.Spans.{length_span, span_head, span_join, span_none}
+use Rattle.fib_rounds.specs.Packets.{packets_text}
 
 -- the packets that are left, or fewer
 pub span_taken : (ps : List Packet) (a n : ℕ) → a ≤ length ps → span ps a (a + min n (length ps - a)) ≡ take n (drop a ps)
@@ -31,43 +31,50 @@ pub text_none : (T : Tables) (n : ℕ) (ps : List Packet) (a b : ℕ) (rs : List
 unfolding packets_text
 text_none T n ps a b rs e = ap (λ qs. packets_text T n qs rs) (ap (λ k. span ps k b) e ∙ span_none ps b)
 
--- ---- the answers of frozen workers
+-- ---- results of spans
 
-pub answers_append : (k : ℕ) (S : Tables) (ps qs : List Packet) → answers k S (ps ++ qs) ≡ answers k S ps ++ answers k S qs
-unfolding answers
-answers_append k S [] qs = refl
-answers_append k S (NotIpv4 ∷ ps) qs = answers_append k S ps qs
-answers_append k S (BadHeader ∷ ps) qs = answers_append k S ps qs
-answers_append k S (Flow a h ∷ ps) qs = ap (λ rs. settled_answer S k a h ∷ rs) (answers_append k S ps qs)
+pub length_results : (list : List (ℕ × Record)) → length (results_of list) ≡ length list
+length_results [] = refl
+length_results (p ∷ list) = omega (arith, length_results list)
 
-pub answers_few : (k : ℕ) (S : Tables) (ps : List Packet) → length (answers k S ps) ≤ length ps
-unfolding answers
-answers_few k S [] = omega arith
-answers_few k S (NotIpv4 ∷ ps) = omega (arith, answers_few k S ps)
-answers_few k S (BadHeader ∷ ps) = omega (arith, answers_few k S ps)
-answers_few k S (Flow a h ∷ ps) = omega (arith, answers_few k S ps)
+pub matched_few : (P : ℕ → ℕ → Record → Type 0) (ps : List Packet) (rs : List Record) → Matched P ps rs → length rs ≤ length ps
+matched_few P [] [] m = omega arith
+matched_few P [] (r ∷ rs) m = absurd m
+matched_few P (NotIpv4 ∷ ps) rs m = omega (arith, matched_few P ps rs m)
+matched_few P (BadHeader ∷ ps) rs m = omega (arith, matched_few P ps rs m)
+matched_few P (Flow a h ∷ ps) [] m = absurd m
+matched_few P (Flow a h ∷ ps) (r ∷ rs) m = omega (arith, matched_few P ps rs m.1)
 
 -- the lines of two parts of the packets
-pub text_append : (T : Tables) (k : ℕ) (S : Tables) (n : ℕ) (ps qs : List Packet)
-    → packets_text T n (ps ++ qs) (answers k S (ps ++ qs)) ≡ packets_text T n ps (answers k S ps) ++ packets_text T (n + length ps) qs (answers k S qs)
-unfolding packets_text answers
-text_append T k S n [] qs = ap (λ m. packets_text T m qs (answers k S qs)) same
+pub text_append : (T : Tables) (n : ℕ) (ps qs : List Packet) (rs ss : List Record) → Matched IsOf ps rs
+    → packets_text T n (ps ++ qs) (rs ++ ss) ≡ packets_text T n ps rs ++ packets_text T (n + length ps) qs ss
+unfolding packets_text
+text_append T n [] qs [] ss m = ap (λ k. packets_text T k qs ss) same
   where
     same : n ≡ n + length {A = Packet} []
     same = omega arith
-text_append T k S n (NotIpv4 ∷ ps) qs =
+text_append T n [] qs (r ∷ rs) ss m = absurd m
+text_append T n (NotIpv4 ∷ ps) qs rs ss m =
     let e : (n + 1) + length ps ≡ n + length (NotIpv4 ∷ ps) = omega arith in
-    ap (λ t. not_ipv4_text n ++ t) (text_append T k S (n + 1) ps qs) ∙ (sym (append_assoc (not_ipv4_text n) _ _)
-    ∙ ap (λ m. (not_ipv4_text n ++ packets_text T (n + 1) ps (answers k S ps)) ++ packets_text T m qs (answers k S qs)) e)
-text_append T k S n (BadHeader ∷ ps) qs =
+    ap (λ t. not_ipv4_text n ++ t) (text_append T (n + 1) ps qs rs ss m) ∙ (sym (append_assoc (not_ipv4_text n) _ _)
+    ∙ ap (λ k. (not_ipv4_text n ++ packets_text T (n + 1) ps rs) ++ packets_text T k qs ss) e)
+text_append T n (BadHeader ∷ ps) qs rs ss m =
     let e : (n + 1) + length ps ≡ n + length (BadHeader ∷ ps) = omega arith in
-    ap (λ t. bad_header_text n ++ t) (text_append T k S (n + 1) ps qs) ∙ (sym (append_assoc (bad_header_text n) _ _)
-    ∙ ap (λ m. (bad_header_text n ++ packets_text T (n + 1) ps (answers k S ps)) ++ packets_text T m qs (answers k S qs)) e)
-text_append T k S n (Flow a h ∷ ps) qs =
-    let r = settled_answer S k a h in
+    ap (λ t. bad_header_text n ++ t) (text_append T (n + 1) ps qs rs ss m) ∙ (sym (append_assoc (bad_header_text n) _ _)
+    ∙ ap (λ k. (bad_header_text n ++ packets_text T (n + 1) ps rs) ++ packets_text T k qs ss) e)
+text_append T n (Flow a h ∷ ps) qs [] ss m = absurd m
+text_append T n (Flow a h ∷ ps) qs (r ∷ rs) ss m =
     let e : (n + 1) + length ps ≡ n + length (Flow a h ∷ ps) = omega arith in
-    ap (λ t. packet_text T n r ++ t) (text_append T k S (n + 1) ps qs) ∙ (sym (append_assoc (packet_text T n r) _ _)
-    ∙ ap (λ m. (packet_text T n r ++ packets_text T (n + 1) ps (answers k S ps)) ++ packets_text T m qs (answers k S qs)) e)
+    ap (λ t. packet_text T n r ++ t) (text_append T (n + 1) ps qs rs ss m.1) ∙ (sym (append_assoc (packet_text T n r) _ _)
+    ∙ ap (λ k. (packet_text T n r ++ packets_text T (n + 1) ps rs) ++ packets_text T k qs ss) e)
+
+-- the lines of the next frame, and the rest
+pub text_next : (T : Tables) (ps : List Packet) (at next to : ℕ) (rs ss : List Record) → at ≤ next → next ≤ to → to ≤ length ps → Matched IsOf (span ps at next) rs
+    → packets_text T at (span ps at to) (rs ++ ss) ≡ packets_text T at (span ps at next) rs ++ packets_text T next (span ps next to) ss
+text_next T ps at next to rs ss le me lt m =
+    let e : at + length (span ps at next) ≡ next = omega (arith, le, length_span ps at next le (omega (arith, me, lt))) in
+    ap (λ qs. packets_text T at qs (rs ++ ss)) (sym (span_join ps at next to le me))
+    ∙ (text_append T at (span ps at next) (span ps next to) rs ss m ∙ ap (λ n. packets_text T at (span ps at next) rs ++ packets_text T n (span ps next to) ss) e)
 
 pub text_at_not_ipv4 : (T : Tables) (n : ℕ) (ps : List Packet) (a b : ℕ) (rs : List Record) → a < b → slice_get ps a ≡ Some NotIpv4
     → packets_text T n (span ps a b) rs ≡ not_ipv4_text n ++ packets_text T (n + 1) (span ps (a + 1) b) rs
@@ -95,6 +102,6 @@ short_none (x ∷ xs) h = absurd (omega (arith, h))
 pub append_step : (text new out rest all : List ℕ) → new ≡ text ++ out → text ++ (out ++ rest) ≡ all → new ++ rest ≡ all
 append_step text new out rest all grown is = ap (λ t. t ++ rest) grown ∙ (append_assoc text out rest ∙ is)
 
-pub first_rest : (xs : List Record) (x : Record) → 1 ≤ length xs → x ≡ slice_index_or xs 0 x → xs ≡ x ∷ drop 1 xs
+pub first_rest : (xs : List (ℕ × Record)) (x : ℕ × Record) → 1 ≤ length xs → x ≡ slice_index_or xs 0 x → xs ≡ x ∷ drop 1 xs
 first_rest [] x h is = absurd (omega (arith, h))
 first_rest (y ∷ xs) x h is = ap (λ z. z ∷ xs) (sym is)

@@ -8,9 +8,8 @@ use Rattle.fib_resolve.specs.declared.types.Tables.{Tables}
 use Rattle.fib_commands.specs.Lines.{line_of}
 use Rattle.fib_commands.specs.declared.types.Line.{Line}
 use Rattle.fib_commands.specs.declared.types.Line.TheVariants as lines
-use Rattle.fib_turns.specs.declared.router.Batch.{Batch}
-use Rattle.fib_turns.specs.declared.router.Router.{Router}
-use Rattle.fib_turns.specs.Routers.{with_batch}
+use Rattle.fib_turns.specs.declared.progress.Batch.{Batch}
+use Rattle.fib_turns.specs.Routers.{Router, with_batch}
 use Rattle.fib_turns.specs.Turns.{Turn, by_refusal, change_turn, alone, by_first_refused, commit_turn, within, turn_in, turn_of, asks_in, asks, left_turn, end_turn, refusal_turn}
 use Rattle.fib_print.specs.Lines.{batch_text}
 use Rattle.fib_print.specs.declared.lines.BatchFault.TheVariants as faults
@@ -103,3 +102,12 @@ left_keeps r (Some b) = refl
 pub end_keeps : (r : Router) → (end_turn r).0.config.tables ≡ r.config.tables
 unfolding end_turn
 end_keeps r = left_keeps r r.batch
+
+left_counts : (r : Router) (o : Option Batch) → (left_turn r o).0.changes ≡ r.changes
+left_counts r None = refl
+left_counts r (Some b) = refl
+
+-- and is none
+pub end_counts : (r : Router) → (end_turn r).0.changes ≡ r.changes
+unfolding end_turn
+end_counts r = left_counts r r.batch

@@ -5,7 +5,8 @@ pub mod Frozen
 pub mod Summaries
 pub mod Closed
 pub mod Counts
-pub mod Crew
+pub mod Runs
 pub mod Rounds
 pub mod Writes
 pub mod Quiet
+pub mod inner

@@ -1,16 +1,20 @@
 -- A run between two lines, and the round that is open.
-use Rattle.std.specs.Prelude.{ℕ, ◌+◌, ◌==◌, ◌++◌, ◌∷◌, [], List, if◌then◌else◌, length, take, drop}
+use Rattle.std.specs.Prelude.{ℕ, ◌≡◌, ◌+◌, ◌==◌, ◌++◌, ◌∷◌, [], List, Some, if◌then◌else◌, length, slice_get, take, drop}
 use Rattle.fib_resolve.specs.Tables.{fresh}
 use Rattle.fib_resolve.specs.declared.types.Tables.{Tables}
 use Rattle.fib_capture.specs.declared.packet.Packet.{Packet}
-use Rattle.fib_turns.specs.declared.router.Router.{Router}
-use Rattle.fib_turns.specs.Routers.{new_router}
+use Rattle.fib_turns.specs.Routers.{Router, new_router}
 use Rattle.fib_turns.specs.Turns.{turn_of}
 
 -- the router between two lines, and all tables so far: their place is the number of their version
 pub record Stage : Type 0 where
   pub router : Router
   pub history : List Tables
+
+-- the history has the tables of each version, and ends with the tables as they are
+pub record IsHistory (at : Stage) : Type 0 where
+  pub count : length at.history ≡ at.router.changes + 1
+  pub newest : slice_get at.history at.router.changes ≡ Some at.router.config.tables
 
 -- before the first line, with that room for objects
 abbrev pub start : ℕ → Stage

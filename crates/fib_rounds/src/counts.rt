@@ -1,5 +1,6 @@
 // The counts of a round that closes.
 ghost use Rattle.std.specs.Prelude.{◌≡◌, ◌+◌, ◌-◌, ◌<◌, ◌≤◌, ◌^◌, ℕ, length};
+ghost use Rattle.fib_crew.specs.Results.{results_of};
 ghost use Rattle.fib_rounds.specs.Summaries.{with_end, with_ends};
 ghost use Rattle.fib_rounds.specs.Counts.{IsSmall};
 
@@ -21,13 +22,13 @@ fn count_end(counts: &mut Summary, end: &End)
     }
 }
 
-/// Counts the ends of these results.
-pub fn count_ends(counts: &mut Summary, results: &[Record])
-    requires small { (n : ℕ) × IsSmall n counts.old × (n + length results.now < 2 ^ 64 - 1) }
-    ensures counts { counts.new ≡ with_ends counts.old results.now }
-    ensures small { (n : ℕ) → IsSmall n counts.old → IsSmall (n + length results.now) counts.new }
+/// Counts the ends of these results, each of which stands with its packet's number.
+pub fn count_ends(counts: &mut Summary, results: &[(u32, Record)])
+    requires small { (n : ℕ) × IsSmall n counts.old × (n + length (results_of results.now) < 2 ^ 64 - 1) }
+    ensures counts { counts.new ≡ with_ends counts.old (results_of results.now) }
+    ensures small { (n : ℕ) → IsSmall n counts.old → IsSmall (n + length (results_of results.now)) counts.new }
 {
-    for answer in results {
-        count_end(counts, &answer.end);
+    for kept in results {
+        count_end(counts, &kept.1.end);
     }
 }

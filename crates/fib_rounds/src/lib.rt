@@ -1,22 +1,20 @@
 //! The rounds of a script: its lines run while workers forward a capture's packets.
 //!
-//! [`run`] runs a whole script. `specs/Output.antt` says what it may print, in a form that leaves the interleaving of lines and
-//! packets open; `specs/Frozen.antt` is the run whose workers forward by the tables at their round's opening, which is what this
-//! crate does, and `specs/Summaries.antt` has its counts.
+//! `specs/Output.antt` says what a script may print, in a form that leaves the interleaving of lines and packets open; `specs/Frozen.antt` is the
+//! run whose workers forward by the tables at their round's opening, and `specs/Summaries.antt` has its counts.
 #![tactic(auto)]
 
 mod counts;
-mod crew;
+mod fault;
 pub mod laws;
 mod lines;
+mod opening;
 mod put;
 mod round;
 mod rounds;
 mod summary;
 
+pub use fault::RunFault;
 pub use put::put_all;
-pub use rounds::{RunFault, run};
+pub use rounds::{run, run_on};
 pub use summary::Summary;
-
-#[cfg(test)]
-mod tests;

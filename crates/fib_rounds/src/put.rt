@@ -1,13 +1,17 @@
 // What a run writes.
-ghost use Rattle.std.specs.Prelude.{◌≡◌, ◌<◌, ◌≤◌, ◌+◌, ◌++◌, ℕ, length, OnOk, OnErr};
+ghost use Rattle.std.specs.Prelude.{◌≡◌, ◌<◌, ◌≤◌, ◌+◌, ◌++◌, ℕ, length, OnOk, OnErr, IsErrOf};
 ghost use Rattle.fib_outside.specs.Outside.{HasRisen, Appends};
 ghost use Rattle.fib_crew.specs.Packets.{span};
+ghost use Rattle.fib_crew.specs.Results.{results_of};
+ghost use Rattle.fib_homing.specs.Places.{joined, parts_of};
 ghost use Rattle.fib_rounds.specs.Packets.{packets_text, last_text};
-ghost use Rattle.fib_rounds.specs.Writes.{AppendsSome};
+ghost use Rattle.fib_rounds.specs.Writes.{AppendsSome, AreLaid};
 
+use crate::fault::RunFault;
 use fib_capture::{Capture, Packet};
+use fib_crew::Results;
 use fib_outside::{Failed, Sink};
-use fib_print::{put_bad_header, put_cut, put_not_ipv4, put_packet};
+use fib_print::{put_bad_header, put_cut, put_not_ipv4, write_packet};
 use fib_resolve::Tables;
 use fib_results::Record;
 use std::alloc::AllocError;
@@ -27,17 +31,17 @@ pub fn put_all<K: Sink>(out: &mut K, bytes: &[u8]) -> Result<(), Failed>
 }
 
 /// Appends a line for each packet from one place up to another; the flows print the results in turn.
-pub fn put_span(
+fn put_span(
     text: &mut Vec<u8>,
     tables: &Tables,
     packets: &Capture,
     from: u32,
     to: u32,
-    results: &[Record],
+    results: &[(u32, Record)],
 ) -> Result<(), AllocError>
     requires order { from ≤ to }
     requires inside { to ≤ length packets.now.packets }
-    ensures { OnOk result (text.new.items ≡ text.old.items ++ packets_text tables.now from (span packets.now.packets from to) results.now) }
+    ensures { OnOk result (text.new.items ≡ text.old.items ++ packets_text tables.now from (span packets.now.packets from to) (results_of results.now)) }
 {
     let mut rest = results;
     for at in from..to {
@@ -45,10 +49,10 @@ pub fn put_span(
             Packet::NotIpv4 => put_not_ipv4(text, at)?,
             Packet::BadHeader => put_bad_header(text, at)?,
             Packet::Flow { .. } => {
-                let [answer, others @ ..] = rest else {
+                let [kept, others @ ..] = rest else {
                     return Ok(());
                 };
-                put_packet(text, tables, at, answer)?;
+                write_packet(text, tables, at, &kept.1)?;
                 rest = others;
             }
         }
@@ -64,4 +68,57 @@ pub fn put_last(text: &mut Vec<u8>, packets: &Capture) -> Result<(), AllocError>
         Some(number) => put_cut(text, number),
         None => Ok(()),
     }
+}
+
+// Writes a line for each packet from one place up to another.
+fn write_frame<K: Sink>(
+    out: &mut K,
+    text: &mut Vec<u8>,
+    tables: &Tables,
+    packets: &Capture,
+    from: u32,
+    to: u32,
+    results: &Results,
+) -> Result<(), RunFault>
+    requires order { from ≤ to }
+    requires inside { to ≤ length packets.now.packets }
+    ensures ok { OnOk result (Appends (K.written out.old) (K.written out.new) (packets_text tables.now from (span packets.now.packets from to) (results_of results.now.list))) }
+    ensures err { OnErr result (AppendsSome (K.written out.old) (K.written out.new) (packets_text tables.now from (span packets.now.packets from to) (results_of results.now.list))) }
+    ensures write { IsErrOf result RunFault.Write → HasRisen (K.faults out.old) (K.faults out.new) }
+    ensures counted { K.faults out.old ≤ K.faults out.new }
+{
+    text.clear();
+    put_span(text, tables, packets, from, to, results.list())?;
+    put_all(out, text)?;
+    Ok(())
+}
+
+/// Writes a line for each packet from one place up to another, frame by frame; the flows print the frames' results. Memory is taken for the text of one
+/// frame at most.
+pub fn write_frames<K: Sink>(
+    out: &mut K,
+    text: &mut Vec<u8>,
+    tables: &Tables,
+    packets: &Capture,
+    from: u32,
+    to: u32,
+    places: &[Option<Results>],
+) -> Result<(), RunFault>
+    requires order { from ≤ to }
+    requires inside { to ≤ length packets.now.packets }
+    requires laid { AreLaid packets.now.packets from to places.now }
+    ensures ok { OnOk result (Appends (K.written out.old) (K.written out.new) (packets_text tables.now from (span packets.now.packets from to) (joined (parts_of places.now)))) }
+    ensures err { OnErr result (AppendsSome (K.written out.old) (K.written out.new) (packets_text tables.now from (span packets.now.packets from to) (joined (parts_of places.now)))) }
+    ensures write { IsErrOf result RunFault.Write → HasRisen (K.faults out.old) (K.faults out.new) }
+    ensures counted { K.faults out.old ≤ K.faults out.new }
+{
+    let mut at = from;
+    'frames: for place in places {
+        if let Some(results) = place {
+            let next = at + (to - at).min(256);
+            write_frame(out, text, tables, packets, at, next, results)?;
+            at = next;
+        }
+    }
+    Ok(())
 }

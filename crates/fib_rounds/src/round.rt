@@ -1,246 +1,350 @@
 // One round.
-ghost use Rattle.std.specs.Prelude.{◌≡◌, ◌<◌, ◌≤◌, ◌+◌, ◌-◌, ◌^◌, ◌++◌, ℕ, All, length, drop, min, IfOk, IfSome, OnOk, Some, None, false, slice_index_or};
-ghost use Rattle.std.specs.List.{list_any};
-ghost use Rattle.fib_turns.specs.Routers.{Fits};
+ghost use Rattle.std.specs.Prelude.{◌≡◌, ◌<◌, ◌≤◌, ◌+◌, ◌-◌, ◌^◌, ◌++◌, [], ℕ, All, length, drop, IfOk, IfSome, OnOk, Some};
+ghost use Rattle.fib_board.specs.Boards.{Board};
+ghost use Rattle.fib_control.specs.Controls.{Control as ControlValue, tables_in};
+ghost use Rattle.fib_crew.specs.Frames.{frames};
 ghost use Rattle.fib_crew.specs.Packets.{span};
-ghost use Rattle.fib_rounds.specs.Packets.{packets_text, answers};
+ghost use Rattle.fib_homing.specs.Homes.{IsHome, NoneOut};
+ghost use Rattle.fib_homing.specs.Places.{AreFilled, joined, parts_of, results_at};
+ghost use Rattle.fib_homing.specs.Stations.{AreBack, IsCrew, IsReady};
+ghost use Rattle.fib_turns.specs.Routers.{KeepsCrew, applied_in, history_in, router_of};
+ghost use Rattle.fib_turns.specs.Changes.{Stays};
 ghost use Rattle.fib_rounds.specs.Counts.{IsSmall};
-ghost use Rattle.fib_rounds.specs.Crew.{MayForward, HasForwarded, IsBack, NoneFailed, crew_text, crew_results};
+ghost use Rattle.fib_rounds.specs.Packets.{packets_text};
+ghost use Rattle.fib_rounds.specs.Stages.{IsHistory};
 ghost use Rattle.fib_rounds.specs.Summaries.{with_ends, with_results};
-ghost use Rattle.fib_rounds.specs.Rounds.{StopsAt, KeepsText, KeepsCounts, text_from, counts_from, closed_router, closed_text, MayOpen, next_opening};
-ghost use Rattle.fib_rounds.specs.declared.crew.Station.{Station};
+ghost use Rattle.fib_rounds.specs.Rounds.{GoesOn, HasRun, MayOpen, StopsAt, closed_by, closed_router, closed_text, counts_from, lines_run, stage_of};
+ghost use Rattle.fib_rounds.specs.inner.Forwarded.{HasForwardedRound, IsAtRest};
 
 use crate::counts::count_ends;
-use crate::crew::{Station, forward_all, muster};
 use crate::lines::{Stop, run_lines};
-use crate::put::put_span;
+use crate::opening::{Opening, next_round};
 use crate::summary::Summary;
 use fib_capture::Capture;
+use fib_cells::LiveBoard;
 use fib_commands::Script;
+use fib_control::Control;
+use fib_crew::{Results, Taken};
+use fib_homing::{Station, bring_home, forward_all, send_out};
 use fib_outside::Gate;
-use fib_plain::Snapshot;
-use fib_resolve::Tables;
-use fib_turns::{Router, finish};
+use fib_settings::Settings;
+use fib_turns::{Means, Progress, finish};
 use std::alloc::{AllocError, Global};
+use std::sync::Wait;
 use std::thread::{Threads, join_mut};
 
-/// A round as it opens: how many lines stand before its own, and the numbers of its first packet and of the next round's.
-#[derive(Clone, Copy, Debug, PartialEq, Eq)]
-pub struct Opening {
-    pub place: u32,
-    pub first: u32,
-    pub to: u32,
+/// How a round ended: the one that comes next, None at the script's end, the results of its frames, and how many lines are refused so far.
+#[derive(Drop)]
+pub struct Ran {
+    pub next: Option<Opening>,
+    pub places: Vec<Option<Results>>,
+    pub refused: u32,
 }
 
-// The workers forward by the snapshot while the lines from a place on are run. Where no thread can be made the lines are run first.
-fn beside<R: Threads + Sync, G: Gate>(
+// Where a round's lines stopped, and the results of its frames.
+#[derive(Drop)]
+struct Forwarded {
+    stop: Stop,
+    places: Vec<Option<Results>>,
+}
+
+// The workers forward while the lines from a place on are run. Where no thread can be made the lines are run first.
+fn beside<'a, 'b, R: Threads + Wait + Sync, G: Gate>(
     rt: &R,
     alloc: Global,
     gate: &G,
-    router: &mut Router,
+    walk: u32,
+    control: &mut Control<LiveBoard<'a>>,
+    progress: &mut Progress,
     text: &mut Vec<u8>,
     script: &Script,
     from: u32,
-    version: u32,
-    snapshot: &Snapshot<'_>,
     packets: &Capture,
-    crew: &mut [Station],
+    taken: Taken,
+    crew: &mut Vec<Station<'b>>,
 ) -> Result<Stop, AllocError>
-    requires ready { All (MayForward packets.now.packets) crew.old }
+    requires order { taken.first ≤ taken.to }
+    requires packets { taken.to ≤ length packets.now.packets }
+    requires ready { All (IsReady taken.opened (frames (span packets.now.packets taken.first taken.to))) crew.old.items }
     requires inside { from ≤ length script.now }
-    requires fits { Fits (from + 1) router.old }
-    ensures done { (i : ℕ) (d : Station) → i < length crew.old → HasForwarded version snapshot.now packets.now.packets (slice_index_or crew.old i d) (slice_index_or crew.new i d) }
-    ensures text { IfOk result (λ stop. KeepsText script.now from router.old text.old.items stop.place router.new text.new.items) }
-    ensures counts { IfOk result (λ stop. KeepsCounts script.now from router.old stop.place router.new) }
-    ensures stops { IfOk result (λ stop. StopsAt (drop stop.place script.now) router.new stop.asked) }
+    requires lines { progress.old.lines ≡ from }
+    requires few { applied_in control.old ≤ from }
+    ensures long { length crew.new.items ≡ length crew.old.items }
+    ensures back { (b : Board) → IsCrew b 0 crew.old.items → AreBack b.id b.rests taken.opened taken.first taken.base 0 (span packets.now.packets taken.first taken.to) crew.new.items }
+    ensures on { IfOk result (λ stop. GoesOn script.now from (stage_of control.old progress.old) text.old.items stop.place (stage_of control.new progress.new) text.new.items) }
+    ensures stops { IfOk result (λ stop. StopsAt (drop stop.place script.now) (router_of control.new progress.new) stop.asked) }
     ensures later { IfOk result (λ stop. from ≤ stop.place) }
     ensures inside { IfOk result (λ stop. stop.place ≤ length script.now) }
-    ensures few { IfOk result (λ stop. stop.place ≤ 65535) }
-    ensures fits { IfOk result (λ stop. Fits (stop.place + 1) router.new) }
+    ensures short { IfOk result (λ stop. stop.place ≤ 65535) }
+    ensures few { IfOk result (λ stop. applied_in control.new ≤ stop.place) }
+    ensures lines { IfOk result (λ stop. progress.new.lines ≡ lines_run stop.place stop.asked) }
+    ensures history { IfOk result (λ stop. IsHistory (stage_of control.old progress.old) → IsHistory (stage_of control.new progress.new)) }
+    ensures keeps { KeepsCrew control.old control.new }
 {
     let (_, stop) = join_mut(
         rt,
         &mut || -> ()
-            requires { All (MayForward packets.now.packets) crew.now }
-            ensures { (i : ℕ) (d : Station) → i < length crew.entry.now → HasForwarded version snapshot.entry.now packets.entry.now.packets (slice_index_or crew.entry.now i d) (slice_index_or crew.exit.now i d) }
-        { forward_all(rt, alloc, version, snapshot, packets, gate, crew) },
+            requires { (taken.first ≤ taken.to) × (taken.to ≤ length packets.now.packets) × All (IsReady taken.opened (frames (span packets.now.packets taken.first taken.to))) crew.now.items }
+            ensures { (length crew.exit.now.items ≡ length crew.entry.now.items) × ((b : Board) → IsCrew b 0 crew.entry.now.items → AreBack b.id b.rests taken.opened taken.first taken.base 0 (span packets.entry.now.packets taken.first taken.to) crew.exit.now.items) }
+        { forward_all(rt, alloc, packets, taken, gate, crew) },
         &mut || -> Result<Stop, AllocError>
-            requires { (from ≤ length script.now) × Fits (from + 1) router.now }
-        { run_lines(alloc, gate, router, text, script, from) },
+            requires { (from ≤ length script.now) × (progress.now.lines ≡ from) × (applied_in control.now ≤ from) }
+        {
+            let means = Means {
+                rt,
+                alloc,
+                gate,
+                walk,
+            };
+            run_lines(&means, control, progress, text, script, from)
+        },
     );
     stop
 }
 
-// Runs a round's lines while its workers forward its packets, each by the tables at the round's opening.
-fn run_beside<R: Threads + Sync, G: Gate>(
+// A place for each of so many frames.
+fn places_for(alloc: Global, count: u32) -> Result<Vec<Option<Results>>, AllocError>
+    ensures { IfOk result (λ v. length v.items ≡ count) }
+{
+    let mut places = Vec::with_capacity(alloc, count as usize)?;
+    for _place in 0..count {
+        places.push(None)?;
+    }
+    Ok(places)
+}
+
+// Runs a round's lines while its workers forward its packets, and brings them home. Places and stations are made before a worker leaves.
+fn forward_round<'a, R: Threads + Wait + Sync, G: Gate>(
     rt: &R,
     alloc: Global,
-    workers: u32,
     gate: &G,
-    router: &mut Router,
+    settings: Settings,
+    control: &mut Control<LiveBoard<'a>>,
+    progress: &mut Progress,
     text: &mut Vec<u8>,
     script: &Script,
     packets: &Capture,
     round: Opening,
-) -> Result<(Stop, Vec<Station>), AllocError>
-    requires workers { (0 < workers) × (workers ≤ 8) }
-    requires inside { round.place ≤ length script.now }
-    requires fits { Fits (round.place + 1) router.old }
-    requires order { round.first ≤ round.to }
-    requires packets { round.to ≤ length packets.now.packets }
-    ensures crew { IfOk result (λ ran. IsBack router.old.changes router.old.config.tables packets.now.packets round.first round.to ran.1.items) }
-    ensures text { IfOk result (λ ran. KeepsText script.now round.place router.old text.old.items ran.0.place router.new text.new.items) }
-    ensures counts { IfOk result (λ ran. KeepsCounts script.now round.place router.old ran.0.place router.new) }
-    ensures stops { IfOk result (λ ran. StopsAt (drop ran.0.place script.now) router.new ran.0.asked) }
-    ensures later { IfOk result (λ ran. round.place ≤ ran.0.place) }
-    ensures inside { IfOk result (λ ran. ran.0.place ≤ length script.now) }
-    ensures few { IfOk result (λ ran. ran.0.place ≤ 65535) }
-    ensures fits { IfOk result (λ ran. Fits (ran.0.place + 1) router.new) }
+) -> Result<Forwarded, AllocError>
+    requires may { MayOpen script.now packets.now.packets round }
+    requires any { round.first < round.to }
+    requires lines { progress.old.lines ≡ round.place }
+    requires few { applied_in control.old ≤ round.place }
+    requires rests { IsAtRest settings.workers round.place control.old }
+    requires workers { 0 < settings.workers }
+    requires most { settings.workers ≤ 8 }
+    requires short { round.place ≤ 65535 }
+    ensures none { NoneOut control.new.plane.board }
+    ensures ran { IfOk result (λ f. HasForwardedRound script.now packets.now.packets round control.old progress.old text.old.items f.stop control.new progress.new text.new.items f.places.items) }
 {
-    if round.first == round.to {
-        let stop = run_lines(alloc, gate, router, text, script, round.place)?;
-        return Ok((stop, Vec::new(alloc)));
-    }
-    let version = router.changes;
-    let opening = router.config.copy()?;
-    let snapshot = Snapshot::new(alloc, opening.tables())?;
-    let mut crew = muster(alloc, workers, round.first, round.to)?;
+    let taken = Taken {
+        opened: control.version().applied,
+        first: round.first,
+        to: round.to,
+        base: control.gathered(),
+    };
+    let mut places = places_for(alloc, taken.frames())?;
+    let mut crew = Vec::with_capacity(alloc, settings.workers as usize)?;
+    send_out(alloc, control, settings.workers, &mut crew);
     let stop = beside(
         rt,
         alloc,
         gate,
-        router,
+        settings.walk,
+        control,
+        progress,
         text,
         script,
         round.place,
-        version,
-        &snapshot,
         packets,
-        crew.as_mut_slice(),
-    )?;
-    Ok((stop, crew))
-}
-
-// Whether a worker wanted memory.
-fn has_failed(crew: &[Station]) -> bool
-    ensures { result ≡ list_any (λ s. s.failed) crew.now }
-{
-    crew.iter().any(|station| station.failed)
-}
-
-// Prints a line for each packet of a crew's shares.
-fn put_crew(
-    text: &mut Vec<u8>,
-    tables: &Tables,
-    packets: &Capture,
-    crew: &[Station],
-) -> Result<(), AllocError>
-    requires { All (MayForward packets.now.packets) crew.now }
-    ensures { OnOk result (text.new.items ≡ text.old.items ++ crew_text tables.now packets.now.packets crew.now) }
-{
-    for station in crew {
-        put_span(
-            text,
-            tables,
-            packets,
-            station.from,
-            station.to,
-            &station.results,
-        )?;
+        taken,
+        &mut crew,
+    );
+    let done = bring_home(control, crew, packets, taken, places.as_mut_slice());
+    let stop = stop?;
+    if !done {
+        return Err(AllocError);
     }
-    Ok(())
+    Ok(Forwarded { stop, places })
 }
 
-// Counts the ends of a crew's results.
-fn count_crew(counts: &mut Summary, crew: &[Station])
-    requires small { (n : ℕ) × IsSmall n counts.old × (n + length (crew_results crew.now) < 2 ^ 64 - 1) }
-    ensures counts { counts.new ≡ with_ends counts.old (crew_results crew.now) }
-    ensures small { (n : ℕ) → IsSmall n counts.old → IsSmall (n + length (crew_results crew.now)) counts.new }
+// A round without packets sends no worker out.
+fn run_alone<R: Wait, G: Gate>(
+    means: &Means<'_, R, G>,
+    control: &mut Control<LiveBoard<'_>>,
+    progress: &mut Progress,
+    text: &mut Vec<u8>,
+    script: &Script,
+    packets: &Capture,
+    round: Opening,
+) -> Result<Forwarded, AllocError>
+    requires may { MayOpen script.now packets.now.packets round }
+    requires none { round.first ≡ round.to }
+    requires lines { progress.old.lines ≡ round.place }
+    requires few { applied_in control.old ≤ round.place }
+    requires rests { (n : ℕ) × IsAtRest n round.place control.old }
+    ensures none { NoneOut control.new.plane.board }
+    ensures ran { IfOk result (λ f. HasForwardedRound script.now packets.now.packets round control.old progress.old text.old.items f.stop control.new progress.new text.new.items f.places.items) }
 {
-    for station in crew {
-        count_ends(counts, &station.results);
+    let _packets = packets;
+    let stop = run_lines(means, control, progress, text, script, round.place)?;
+    Ok(Forwarded {
+        stop,
+        places: Vec::new(means.alloc),
+    })
+}
+
+// Counts the ends of a frame's results.
+fn count_place(counts: &mut Summary, place: &Option<Results>)
+    requires small { (n : ℕ) × IsSmall n counts.old × (n + length (results_at place.now) < 2 ^ 64 - 1) }
+    ensures counts { counts.new ≡ with_ends counts.old (results_at place.now) }
+    ensures small { (n : ℕ) → IsSmall n counts.old → IsSmall (n + length (results_at place.now)) counts.new }
+{
+    if let Some(results) = place {
+        count_ends(counts, results.list());
+    }
+}
+
+// Counts the ends of a round's results.
+fn count_places(counts: &mut Summary, places: &[Option<Results>])
+    requires small { (n : ℕ) × IsSmall n counts.old × (n + length (joined (parts_of places.now)) < 2 ^ 64 - 1) }
+    ensures counts { counts.new ≡ with_ends counts.old (joined (parts_of places.now)) }
+    ensures small { (n : ℕ) → IsSmall n counts.old → IsSmall (n + length (joined (parts_of places.now))) counts.new }
+{
+    for place in places {
+        count_place(counts, place);
     }
 }
 
 // Counts the packets of a round that closes, and their ends where it had no line.
-fn count_round(counts: &mut Summary, quiet: bool, round: Opening, crew: &[Station])
+fn count_round(counts: &mut Summary, quiet: bool, round: Opening, places: &[Option<Results>])
     requires order { round.first ≤ round.to }
     requires small { IsSmall (round.first + round.first) counts.old }
-    requires few { length (crew_results crew.now) ≤ round.to - round.first }
-    ensures counts { counts.new ≡ with_results counts.old quiet (round.to - round.first) (crew_results crew.now) }
+    requires few { length (joined (parts_of places.now)) ≤ round.to - round.first }
+    ensures counts { counts.new ≡ with_results counts.old quiet (round.to - round.first) (joined (parts_of places.now)) }
     ensures small { IsSmall (round.to + round.to) counts.new }
 {
     let taken = u64::from(round.to - round.first);
     counts.packets += taken;
     if quiet {
         counts.quiet += taken;
-        count_crew(counts, crew);
+        count_places(counts, places);
     }
 }
 
-// The round that a line opens which asks for so many packets: it takes the next ones, or those that are left.
-fn next_round(packets: &Capture, stop: Stop, to: u32) -> Option<Opening>
-    requires place { stop.place < 2 ^ 32 - 1 }
-    requires inside { to ≤ length packets.now.packets }
-    ensures { result ≡ next_opening packets.now.packets stop.place to stop.asked }
-{
-    let count = stop.asked?;
-    Some(Opening {
-        place: stop.place + 1,
-        first: to,
-        to: to + count.min(packets.count() - to),
-    })
-}
-
-// At the script's end a batch that is left is refused.
+// Where no line asks for packets the script is at its end, and a batch that is left is refused. Answers how many lines are refused in all.
 fn finish_at_end(
-    router: &mut Router,
+    progress: &Progress,
     text: &mut Vec<u8>,
     asked: Option<u32>,
-) -> Result<(), AllocError>
-    requires { router.old.refused < 2 ^ 32 - 1 }
-    ensures router { OnOk result (router.new ≡ closed_router router.old asked) }
-    ensures text { OnOk result (text.new.items ≡ text.old.items ++ closed_text router.old asked) }
+) -> Result<u32, AllocError>
+    ensures refused { IfOk result (λ n. (c : ControlValue) → n ≡ (closed_router (router_of c progress.now) asked).refused) }
+    ensures text { OnOk result ((c : ControlValue) → text.new.items ≡ text.old.items ++ closed_text (router_of c progress.now) asked) }
 {
     match asked {
-        Some(_) => Ok(()),
-        None => finish(router, text),
+        Some(_) => Ok(progress.refused()),
+        None => finish(progress, text),
     }
 }
 
-/// Runs a round: its lines, beside them its workers, and then a line for each of its packets. Answers the next round, or None at the
-/// script's end.
-pub fn run_round<R: Threads + Sync, G: Gate>(
+// Runs a round's lines and, where it has packets, its workers beside them.
+fn run_beside<'a, R: Threads + Wait + Sync, G: Gate>(
     rt: &R,
     alloc: Global,
-    workers: u32,
     gate: &G,
-    router: &mut Router,
+    settings: Settings,
+    control: &mut Control<LiveBoard<'a>>,
+    progress: &mut Progress,
+    text: &mut Vec<u8>,
+    script: &Script,
+    packets: &Capture,
+    round: Opening,
+) -> Result<Forwarded, AllocError>
+    requires may { MayOpen script.now packets.now.packets round }
+    requires lines { progress.old.lines ≡ round.place }
+    requires few { applied_in control.old ≤ round.place }
+    requires rests { IsAtRest settings.workers round.place control.old }
+    requires workers { 0 < settings.workers }
+    requires most { settings.workers ≤ 8 }
+    requires short { round.place ≤ 65535 }
+    ensures none { NoneOut control.new.plane.board }
+    ensures ran { IfOk result (λ f. HasForwardedRound script.now packets.now.packets round control.old progress.old text.old.items f.stop control.new progress.new text.new.items f.places.items) }
+{
+    if round.first == round.to {
+        let means = Means {
+            rt,
+            alloc,
+            gate,
+            walk: settings.walk,
+        };
+        return run_alone(&means, control, progress, text, script, packets, round);
+    }
+    forward_round(
+        rt, alloc, gate, settings, control, progress, text, script, packets, round,
+    )
+}
+
+// Settles where all workers are home.
+fn settle_home(control: &mut Control<LiveBoard<'_>>) -> Result<(), AllocError>
+    requires { NoneOut control.old.plane.board }
+    ensures stays { Stays control.old control.new }
+    ensures keeps { KeepsCrew control.old control.new }
+    ensures settled { OnOk result (control.new.plane.board.log.version.settled ≡ applied_in control.new) }
+{
+    match control.settle_alone() {
+        Ok(_) => Ok(()),
+        Err(_) => Err(AllocError),
+    }
+}
+
+/// Runs a round: its lines, beside them its workers, and brings them home and settles.
+pub fn run_round<'a, R: Threads + Wait + Sync, G: Gate>(
+    rt: &R,
+    alloc: Global,
+    gate: &G,
+    settings: Settings,
+    control: &mut Control<LiveBoard<'a>>,
+    progress: &mut Progress,
     text: &mut Vec<u8>,
     counts: &mut Summary,
     script: &Script,
     packets: &Capture,
     round: Opening,
-) -> Result<Option<Opening>, AllocError>
-    requires workers { (0 < workers) × (workers ≤ 8) }
+) -> Result<Ran, AllocError>
     requires may { MayOpen script.now packets.now.packets round }
-    requires fits { Fits (round.place + 1) router.old }
+    requires lines { progress.old.lines ≡ round.place }
+    requires few { applied_in control.old ≤ round.place }
     requires small { IsSmall (round.first + round.first) counts.old }
-    ensures text { IfOk result (λ next. text.new.items ++ text_from packets.now script.now router.new next ≡ text.old.items ++ text_from packets.now script.now router.old (Some round)) }
-    ensures counts { IfOk result (λ next. counts_from packets.now script.now router.new next counts.new ≡ counts_from packets.now script.now router.old (Some round) counts.old) }
-    ensures may { IfOk result (λ next. IfSome next (MayOpen script.now packets.now.packets)) }
-    ensures later { IfOk result (λ next. IfSome next (λ o. round.place < o.place)) }
-    ensures fits { IfOk result (λ next. IfSome next (λ o. Fits (o.place + 1) router.new)) }
-    ensures small { IfOk result (λ next. IfSome next (λ o. IsSmall (o.first + o.first) counts.new)) }
+    requires rests { IsAtRest settings.workers round.place control.old }
+    requires workers { 0 < settings.workers }
+    requires most { settings.workers ≤ 8 }
+    requires script { length script.now ≤ 65535 }
+    requires none { text.old.items ≡ [] }
+    requires history { IsHistory (stage_of control.old progress.old) }
+    ensures none { NoneOut control.new.plane.board }
+    ensures ran { IfOk result (λ r. HasRun script.now packets.now (stage_of control.old progress.old) round (closed_by (stage_of control.new progress.new) r.next) r.next (joined (parts_of r.places.items)) (text.new.items ++ packets_text (tables_in control.new) round.first (span packets.now.packets round.first round.to) (joined (parts_of r.places.items)))) }
+    ensures home { IfOk result (λ r. IsHome (applied_in control.old) round.first (length control.old.plane.board.gathered) settings.workers (span packets.now.packets round.first round.to) control.old.plane.board control.new.plane.board r.places.items) }
+    ensures refused { IfOk result (λ r. r.refused ≡ (closed_by (stage_of control.new progress.new) r.next).router.refused) }
+    ensures settled { IfOk result (λ r. control.new.plane.board.log.version.settled ≡ applied_in control.new) }
+    ensures counts { IfOk result (λ r. counts_from packets.now script.now (closed_by (stage_of control.new progress.new) r.next) r.next counts.new ≡ counts_from packets.now script.now (stage_of control.old progress.old) (Some round) counts.old) }
+    ensures may { IfOk result (λ r. IfSome r.next (MayOpen script.now packets.now.packets)) }
+    ensures later { IfOk result (λ r. IfSome r.next (λ o. round.place < o.place)) }
+    ensures lines { IfOk result (λ r. IfSome r.next (λ o. progress.new.lines ≡ o.place)) }
+    ensures few { IfOk result (λ r. IfSome r.next (λ o. applied_in control.new ≤ o.place)) }
+    ensures small { IfOk result (λ r. IfSome r.next (λ o. IsSmall (o.first + o.first) counts.new)) }
+    ensures rests { IfOk result (λ r. IfSome r.next (λ o. IsAtRest settings.workers o.place control.new)) }
+    ensures history { IfOk result (λ r. IsHistory (stage_of control.new progress.new)) }
+    ensures filled { IfOk result (λ r. AreFilled (applied_in control.old) round.first (history_in control.new) (span packets.now.packets round.first round.to) 0 r.places.items) }
 {
-    let (stop, crew) = run_beside(
-        rt, alloc, workers, gate, router, text, script, packets, round,
+    let Forwarded { stop, places } = run_beside(
+        rt, alloc, gate, settings, control, progress, text, script, packets, round,
     )?;
-    if has_failed(&crew) {
-        return Err(AllocError);
-    }
-    finish_at_end(router, text, stop.asked)?;
-    put_crew(text, router.config.tables(), packets, &crew)?;
-    count_round(counts, stop.place == round.place, round, &crew);
-    Ok(next_round(packets, stop, round.to))
+    settle_home(control)?;
+    let refused = finish_at_end(progress, text, stop.asked)?;
+    count_round(counts, stop.place == round.place, round, places.as_slice());
+    Ok(Ran {
+        next: next_round(packets, stop, round.to),
+        places,
+        refused,
+    })
 }

@@ -1,82 +1,71 @@
 // The rounds of a script.
-ghost use Rattle.std.specs.Prelude.{◌≡◌, ◌<◌, ◌≤◌, ◌+◌, ◌/◌, ◌^◌, ◌++◌, ℕ, List, length, drop, OnOk, OnErr, IfOk, IsErrOf};
-ghost use Rattle.fib_outside.specs.Outside.{HasRisen, Appends};
+ghost use Rattle.std.specs.Prelude.{◌≡◌, ◌≤◌, ◌/◌, length, OnOk, OnErr, IfOk, IsErrOf};
+ghost use Rattle.fib_outside.specs.Outside.{HasRisen};
 ghost use Rattle.fib_settings.specs.Ranges.{InRange};
-ghost use Rattle.fib_rounds.specs.Writes.{AppendsSome, Gains};
-ghost use Rattle.fib_rounds.specs.Output.{Output, FirstOutput};
-ghost use Rattle.fib_rounds.specs.Frozen.{frozen_output};
+ghost use Rattle.fib_homing.specs.Homes.{NoneOut};
+ghost use Rattle.fib_rounds.specs.Output.{FirstOutput, Output};
+ghost use Rattle.fib_rounds.specs.Runs.{GainsRun, IsNew};
 ghost use Rattle.fib_rounds.specs.Summaries.{summary_of};
-ghost use Rattle.fib_rounds.specs.declared.rounds.RunFault.TheVariants.{Write, Memory};
+ghost use Rattle.fib_rounds.specs.Writes.{Gains};
 
-use crate::put::{put_all, put_last};
-use crate::round::{Opening, run_round};
+use crate::fault::RunFault;
+use crate::opening::Opening;
+use crate::put::{put_all, put_last, write_frames};
+use crate::round::run_round;
 use crate::summary::Summary;
 use fib_capture::Capture;
+use fib_cells::{Cells, LiveBoard};
 use fib_commands::Script;
-use fib_outside::{Failed, Gate, Sink};
+use fib_control::Control;
+use fib_outside::{Gate, Sink};
 use fib_settings::Settings;
-use fib_turns::Router;
-use std::alloc::{AllocError, Global};
+use fib_turns::Progress;
+use std::alloc::Global;
 use std::sync::Wait;
 use std::thread::Threads;
 
-/// Why a run did not come to its end.
-#[derive(Clone, Copy, Debug, PartialEq, Eq)]
-pub enum RunFault {
-    /// A write failed.
-    Write,
-    /// Memory was wanted.
-    Memory,
-}
-
-impl From<AllocError> for RunFault {
-    ghost from_gives = { λ _ e. e ≡ Memory };
-
-    fn from(_: AllocError) -> Self {
-        RunFault::Memory
-    }
-}
-
-impl From<Failed> for RunFault {
-    ghost from_gives = { λ _ e. e ≡ Write };
-
-    fn from(_: Failed) -> Self {
-        RunFault::Write
-    }
-}
-
-// The rounds of a script in turn, and then the line on a cut packet.
-fn run_rounds<R: Threads + Sync, K: Sink, G: Gate>(
+/// Runs a script over a capture's packets on a control plane before its first change, and answers the run's counts.
+///
+/// The lines of each round are run in one thread while its packets are forwarded on the control plane's workers in others, which claim them by frames of
+/// 256; where no thread can be made, the caller does that work. After a fault, as after Ok, no worker is out.
+pub fn run_on<'a, R: Threads + Wait + Sync, K: Sink, G: Gate>(
     rt: &R,
     alloc: Global,
     settings: Settings,
     script: &Script,
     packets: &Capture,
+    control: &mut Control<LiveBoard<'a>>,
     out: &mut K,
     gate: &G,
 ) -> Result<Summary, RunFault>
-    requires { InRange settings }
-    ensures ok { OnOk result (Appends (K.written out.old) (K.written out.new) (frozen_output (settings.objects / 2) script.now packets.now)) }
+    requires settings { InRange settings }
+    requires fresh { IsNew settings.workers (settings.objects / 2) control.old }
+    requires few { length script.now ≤ 65535 }
+    ensures ok { OnOk result (GainsRun settings.workers (settings.objects / 2) script.now packets.now control.new (K.written out.old) (K.written out.new)) }
     ensures summary { IfOk result (λ s. s ≡ summary_of (settings.objects / 2) script.now packets.now) }
-    ensures some { OnErr result (AppendsSome (K.written out.old) (K.written out.new) (frozen_output (settings.objects / 2) script.now packets.now)) }
+    ensures some { OnErr result (Gains (FirstOutput (settings.objects / 2) script.now packets.now) (K.written out.old) (K.written out.new)) }
     ensures write { IsErrOf result RunFault.Write → HasRisen (K.faults out.old) (K.faults out.new) }
     ensures counted { K.faults out.old ≤ K.faults out.new }
+    ensures none { NoneOut control.new.plane.board }
 {
-    let mut router = Router::new(alloc, settings.objects / 2)?;
+    let mut progress = Progress::new();
     let mut counts = Summary::zero();
     let mut text = Vec::new(alloc);
+    let mut refused_lines = 0;
     let mut next = Some(Opening {
         place: 0,
         first: 0,
         to: 0,
     });
     'rounds: while let Some(round) = next {
-        next = run_round(
+        text.clear();
+        let ran = run_round(
             rt,
             alloc,
-            settings.workers,
             gate,
-            &mut router,
+            settings,
+            control,
+            &mut progress,
             &mut text,
             &mut counts,
             script,
@@ -84,20 +73,28 @@ fn run_rounds<R: Threads + Sync, K: Sink, G: Gate>(
             round,
         )?;
         put_all(out, &text)?;
-        text.clear();
+        write_frames(
+            out,
+            &mut text,
+            control.tables(),
+            packets,
+            round.first,
+            round.to,
+            ran.places.as_slice(),
+        )?;
+        refused_lines = ran.refused;
+        next = ran.next;
     }
+    text.clear();
     put_last(&mut text, packets)?;
     put_all(out, &text)?;
-    counts.accepted = router.changes;
-    counts.refused = router.refused;
+    counts.accepted = control.version().applied;
+    counts.refused = refused_lines;
     Ok(counts)
 }
 
-/// Runs a script over a capture's packets, with these settings, and answers the run's counts.
-///
-/// The lines of each round are run in one thread while its packets are forwarded on `settings.workers` others; where no thread can be
-/// made, the caller does that work. Half of `settings.objects` is the room for the tables. The sink gains an output that the
-/// definitions allow; after a fault, a first part of one. Write comes only where the sink's count of faults rose.
+/// Runs a script over a capture's packets with these settings, and answers the run's counts: makes the cells, the board and the control plane, and calls
+/// [`run_on`].
 pub fn run<R: Threads + Wait + Sync, K: Sink, G: Gate>(
     rt: &R,
     alloc: Global,
@@ -107,12 +104,25 @@ pub fn run<R: Threads + Wait + Sync, K: Sink, G: Gate>(
     out: &mut K,
     gate: &G,
 ) -> Result<Summary, RunFault>
-    requires { InRange settings }
+    requires settings { InRange settings }
+    requires few { length script.now ≤ 65535 }
     ensures ok { OnOk result (Gains (Output (settings.objects / 2) script.now packets.now) (K.written out.old) (K.written out.new)) }
     ensures summary { IfOk result (λ s. s ≡ summary_of (settings.objects / 2) script.now packets.now) }
     ensures some { OnErr result (Gains (FirstOutput (settings.objects / 2) script.now packets.now) (K.written out.old) (K.written out.new)) }
     ensures write { IsErrOf result RunFault.Write → HasRisen (K.faults out.old) (K.faults out.new) }
     ensures counted { K.faults out.old ≤ K.faults out.new }
 {
-    run_rounds(rt, alloc, settings, script, packets, out, gate)
+    let (cells, seat) = Cells::new(alloc, settings.objects, settings.workers)?;
+    let board = LiveBoard::new(&cells, seat);
+    let mut control = Control::new(alloc, board)?;
+    run_on(
+        rt,
+        alloc,
+        settings,
+        script,
+        packets,
+        &mut control,
+        out,
+        gate,
+    )
 }

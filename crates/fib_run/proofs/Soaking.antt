@@ -22,9 +22,8 @@ use Rattle.fib_soak.proofs.Again.{script_again}
 use Rattle.fib_soak.proofs.Changing.{change_forms, forward_asks}
 use Rattle.fib_soak.proofs.Counts.{all_lines, all_flows, length-lines_for}
 use Rattle.fib_soak.proofs.Parts.{first_lines, first_state, script_parts, length-first, each-first, each-changes}
-use Rattle.fib_turns.specs.declared.router.Batch.{Batch}
-use Rattle.fib_turns.specs.declared.router.Router.{Router}
-use Rattle.fib_turns.specs.Routers.{new_router}
+use Rattle.fib_turns.specs.declared.progress.Batch.{Batch}
+use Rattle.fib_turns.specs.Routers.{Router, new_router}
 use Rattle.fib_turns.specs.Turns.{alone, by_refusal, change_turn, turn_in, turn_of, asks_in, asks, end_turn}
 use Rattle.fib_rounds.specs.declared.summary.Summary.{Summary}
 use Rattle.fib_rounds.specs.Stages.{Round, first_round, next_packet, opened_by}

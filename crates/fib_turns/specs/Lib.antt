@@ -1,2 +1,4 @@
 pub mod Routers
 pub mod Turns
+pub mod Changes
+pub mod inner

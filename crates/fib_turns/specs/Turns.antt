@@ -15,9 +15,8 @@ use Rattle.fib_print.specs.declared.lines.BatchFault.TheVariants as faults
 use Rattle.fib_listing.specs.Entries.{fib_text}
 use Rattle.fib_listing.specs.PathLists.{lists_text}
 use Rattle.fib_listing.specs.Adjacencies.{adjacencies_text}
-use Rattle.fib_turns.specs.declared.router.Batch.{Batch}
-use Rattle.fib_turns.specs.declared.router.Router.{Router}
-use Rattle.fib_turns.specs.Routers.{changed, refusing, with_batch, new_batch, spoiled, with_edit}
+use Rattle.fib_turns.specs.declared.progress.Batch.{Batch}
+use Rattle.fib_turns.specs.Routers.{Router, changed, refusing, with_batch, new_batch, spoiled, with_edit}
 
 -- the router after a line, and what the line prints
 abbrev pub Turn : Type 0

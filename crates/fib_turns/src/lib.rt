@@ -1,12 +1,14 @@
-//! What one line of a script does to a router, and what it prints.
+//! What one line of a script does to a control plane, and what it prints.
+//!
+//! `specs/Turns.antt` says it over routers, `specs/Routers.antt` which router a control plane is with what is kept of the script.
 #![tactic(auto)]
 
 mod batches;
-mod router;
+mod changes;
+mod means;
+mod progress;
 mod turn;
 
-pub use router::{Batch, Router};
+pub use means::Means;
+pub use progress::Progress;
 pub use turn::{finish, run_line};
-
-#[cfg(test)]
-mod tests;

@@ -1,76 +1,62 @@
 // What a line does outside a batch, and the call for every line.
-ghost use Rattle.std.specs.Prelude.{◌≡◌, ◌++◌, ◌+◌, ◌<◌, ◌≤◌, ◌^◌, ◌-◌, OnOk, IfOk, IfSome, None, Some, codes, [], ◌∷◌};
+ghost use Rattle.std.specs.Prelude.{◌≡◌, ◌++◌, ◌+◌, ◌-◌, ◌<◌, ◌≤◌, ◌^◌, OnOk, IfOk, IfSome, None, Some, codes};
 ghost use Rattle.fib_commands.specs.Lines.{line_of, IsWrittenLine};
 ghost use Rattle.fib_resolve.specs.Reachable.{IsWritten};
-ghost use Rattle.fib_turns.specs.Routers.{Fits, BatchFits, changed, refusing, with_batch, new_batch};
-ghost use Rattle.fib_turns.specs.Turns.{change_turn, by_refusal, lookup_text, alone, turn_of, turn_in, asks, asks_in, end_turn};
+ghost use Rattle.fib_resolve.specs.Tables.{IsSound};
 ghost use Rattle.fib_print.specs.Ends.{end_text};
 ghost use Rattle.fib_listing.specs.Entries.{fib_text};
 ghost use Rattle.fib_listing.specs.PathLists.{lists_text};
 ghost use Rattle.fib_listing.specs.Adjacencies.{adjacencies_text};
-ghost use Rattle.fib_resolve.specs.Tables.{IsSound};
+ghost use Rattle.fib_control.specs.Controls.{Control as ControlValue, tables_in};
+ghost use Rattle.fib_turns.specs.Changes.{Stays};
+ghost use Rattle.fib_turns.specs.Routers.{HasGrown, KeepsCrew, Stands, applied_in, router_of};
+ghost use Rattle.fib_turns.specs.inner.Done.{HasTurned};
+ghost use Rattle.fib_turns.specs.Turns.{change_turn, lookup_text, alone, turn_in, turn_of, asks, asks_in, end_turn};
 
 use crate::batches::within;
-use crate::router::{Batch, Router};
+use crate::changes::{apply, settle, walk_on};
+use crate::means::Means;
+use crate::progress::Progress;
 use fib_addr::Addr;
+use fib_board::Board;
 use fib_commands::{Line, LineError, read_line};
-use fib_config::EditError;
+use fib_control::Control;
 use fib_listing::{put_adjacencies, put_entries, put_path_lists};
 use fib_outside::Gate;
-use fib_plain::{Snapshot, resolve};
+use fib_plain::Snapshot;
 use fib_print::{BatchFault, put_batch, put_end, put_message, put_refusal};
-use fib_resolve::{Edit, End, List, Tables};
+use fib_resolve::{Edit, End, Tables};
 use std::alloc::{AllocError, Global};
+use std::sync::Wait;
 
-/// A change outside a batch.
+// A change outside a batch.
 #[tactic(auto, unfolding(crate::specs::Turns::change_turn))]
-fn change<G: Gate>(
-    gate: &G,
-    router: &mut Router,
+fn change<R: Wait, G: Gate, B: Board>(
+    means: &Means<'_, R, G>,
+    control: &mut Control<B>,
+    progress: &mut Progress,
     out: &mut Vec<u8>,
-    number: u32,
     edit: &Edit,
 ) -> Result<(), AllocError>
     requires written { IsWritten edit.now }
-    requires few { router.old.changes < 2 ^ 32 - 1 }
-    requires fewer { router.old.refused < 2 ^ 32 - 1 }
-    requires alone { router.old.batch ≡ None }
-    ensures few { OnOk result (router.new.changes ≤ router.old.changes + 1) }
-    ensures fewer { OnOk result (router.new.refused ≤ router.old.refused + 1) }
-    ensures alone { OnOk result (router.new.batch ≡ None) }
-    ensures router { OnOk result (router.new ≡ (change_turn number router.old edit.now).0) }
-    ensures text { OnOk result (out.new.items ≡ out.old.items ++ (change_turn number router.old edit.now).1) }
+    requires few { applied_in control.old < progress.old.lines }
+    requires fewer { progress.old.refused < progress.old.lines }
+    requires alone { progress.old.batch ≡ None }
+    ensures did { HasTurned (router_of control.old progress.old) (change_turn progress.old.lines (router_of control.old progress.old) edit.now) control.old control.new progress.new out.old.items out.new.items result }
+    ensures lines { progress.new.lines ≡ progress.old.lines }
 {
-    let next = router.changes + 1;
-    gate.changing(next);
-    match router.config.edit(edit) {
-        Ok(()) => {
-            router.changes = next;
-            gate.applied(next);
-            Ok(())
+    let number = progress.lines();
+    let next = control.version().applied + 1;
+    means.gate.changing(next);
+    match apply(means.rt, control, edit)? {
+        None => {
+            means.gate.applied(next);
+            walk_on(control, means.walk)
         }
-        Err(EditError::Refused(refusal)) => {
-            router.refused += 1;
+        Some(refusal) => {
+            progress.refuse();
             put_refusal(out, number, refusal)
         }
-        Err(EditError::Memory) => Err(AllocError),
-    }
-}
-
-#[tactic(auto, unfolding(crate::specs::Turns::lookup_text))]
-fn lookup(
-    alloc: Global,
-    tables: &Tables,
-    out: &mut Vec<u8>,
-    addr: Addr,
-    hash: u32,
-) -> Result<(), AllocError>
-    requires { IsSound tables.now }
-    ensures { OnOk result (out.new.items ≡ out.old.items ++ lookup_text tables.now addr hash) }
-{
-    match resolve(alloc, tables, addr, hash) {
-        Ok(end) => put_answer(out, tables, &end),
-        Err(_) => Err(AllocError),
     }
 }
 
@@ -81,7 +67,25 @@ fn put_answer(out: &mut Vec<u8>, tables: &Tables, end: &End) -> Result<(), Alloc
     out.extend_from_slice(b"\n")
 }
 
-fn show_fib(alloc: Global, tables: &Tables, out: &mut Vec<u8>) -> Result<(), AllocError>
+// Settles, and answers from the control plane.
+#[tactic(auto, unfolding(crate::specs::Turns::lookup_text))]
+fn lookup<R: Wait, B: Board>(
+    rt: &R,
+    control: &mut Control<B>,
+    out: &mut Vec<u8>,
+    addr: Addr,
+    hash: u32,
+) -> Result<(), AllocError>
+    ensures text { OnOk result (out.new.items ≡ out.old.items ++ lookup_text (tables_in control.old) addr hash) }
+    ensures stays { Stays control.old control.new }
+    ensures keeps { KeepsCrew control.old control.new }
+{
+    settle(rt, control)?;
+    let end = control.lookup(addr, hash);
+    put_answer(out, control.tables(), &end)
+}
+
+fn put_fib(alloc: Global, tables: &Tables, out: &mut Vec<u8>) -> Result<(), AllocError>
     requires { IsSound tables.now }
     ensures { OnOk result (out.new.items ≡ out.old.items ++ fib_text tables.now) }
 {
@@ -89,7 +93,7 @@ fn show_fib(alloc: Global, tables: &Tables, out: &mut Vec<u8>) -> Result<(), All
     put_entries(out, alloc, &snapshot)
 }
 
-fn show_path_lists(alloc: Global, tables: &Tables, out: &mut Vec<u8>) -> Result<(), AllocError>
+fn put_lists(alloc: Global, tables: &Tables, out: &mut Vec<u8>) -> Result<(), AllocError>
     requires { IsSound tables.now }
     ensures { OnOk result (out.new.items ≡ out.old.items ++ lists_text tables.now) }
 {
@@ -97,7 +101,7 @@ fn show_path_lists(alloc: Global, tables: &Tables, out: &mut Vec<u8>) -> Result<
     put_path_lists(out, alloc, &snapshot)
 }
 
-fn show_adj(alloc: Global, tables: &Tables, out: &mut Vec<u8>) -> Result<(), AllocError>
+fn put_adj(alloc: Global, tables: &Tables, out: &mut Vec<u8>) -> Result<(), AllocError>
     requires { IsSound tables.now }
     ensures { OnOk result (out.new.items ≡ out.old.items ++ adjacencies_text tables.now) }
 {
@@ -105,55 +109,80 @@ fn show_adj(alloc: Global, tables: &Tables, out: &mut Vec<u8>) -> Result<(), All
     put_adjacencies(out, alloc, &snapshot)
 }
 
-/// Opens a batch at the line of that number.
-fn begin(alloc: Global, router: &mut Router, number: u32)
-    ensures { router.new ≡ with_batch router.old (Some (new_batch number)) }
+// A listing, once all changes are settled.
+fn show_fib<R: Wait, G: Gate, B: Board>(
+    means: &Means<'_, R, G>,
+    control: &mut Control<B>,
+    out: &mut Vec<u8>,
+) -> Result<(), AllocError>
+    ensures text { OnOk result (out.new.items ≡ out.old.items ++ fib_text (tables_in control.old)) }
+    ensures stays { Stays control.old control.new }
+    ensures keeps { KeepsCrew control.old control.new }
 {
-    router.batch = Some(Batch {
-        begun: number,
-        spoiled: false,
-        lines: List::new(alloc),
-        edits: List::new(alloc),
-    });
+    settle(means.rt, control)?;
+    put_fib(means.alloc, control.tables(), out)
 }
 
-/// A line outside a batch, and how many packets it asks for.
-fn alone<G: Gate>(
-    alloc: Global,
-    gate: &G,
-    router: &mut Router,
+fn show_lists<R: Wait, G: Gate, B: Board>(
+    means: &Means<'_, R, G>,
+    control: &mut Control<B>,
     out: &mut Vec<u8>,
-    number: u32,
+) -> Result<(), AllocError>
+    ensures text { OnOk result (out.new.items ≡ out.old.items ++ lists_text (tables_in control.old)) }
+    ensures stays { Stays control.old control.new }
+    ensures keeps { KeepsCrew control.old control.new }
+{
+    settle(means.rt, control)?;
+    put_lists(means.alloc, control.tables(), out)
+}
+
+fn show_adj<R: Wait, G: Gate, B: Board>(
+    means: &Means<'_, R, G>,
+    control: &mut Control<B>,
+    out: &mut Vec<u8>,
+) -> Result<(), AllocError>
+    ensures text { OnOk result (out.new.items ≡ out.old.items ++ adjacencies_text (tables_in control.old)) }
+    ensures stays { Stays control.old control.new }
+    ensures keeps { KeepsCrew control.old control.new }
+{
+    settle(means.rt, control)?;
+    put_adj(means.alloc, control.tables(), out)
+}
+
+// A line outside a batch, and how many packets it asks for.
+fn alone<R: Wait, G: Gate, B: Board>(
+    means: &Means<'_, R, G>,
+    control: &mut Control<B>,
+    progress: &mut Progress,
+    out: &mut Vec<u8>,
     line: Line,
 ) -> Result<Option<u32>, AllocError>
     requires written { IsWrittenLine line }
-    requires least { 0 < number }
-    requires few { router.old.changes < number }
-    requires fewer { router.old.refused < number }
-    requires alone { router.old.batch ≡ None }
-    ensures fits { OnOk result (Fits (number + 1) router.new) }
-    ensures router { OnOk result (router.new ≡ (alone number router.old (Some line)).0) }
-    ensures text { OnOk result (out.new.items ≡ out.old.items ++ (alone number router.old (Some line)).1) }
+    requires few { applied_in control.old < progress.old.lines }
+    requires fewer { progress.old.refused < progress.old.lines }
+    requires alone { progress.old.batch ≡ None }
+    ensures did { HasTurned (router_of control.old progress.old) (alone progress.old.lines (router_of control.old progress.old) (Some line)) control.old control.new progress.new out.old.items out.new.items result }
+    ensures lines { progress.new.lines ≡ progress.old.lines }
     ensures asks { IfOk result (λ count. count ≡ asks_in None (Some line)) }
 {
     match line {
         Line::Nothing => {}
-        Line::Change(edit) => change(gate, router, out, number, &edit)?,
-        Line::Lookup(addr, hash) => lookup(alloc, router.config.tables(), out, addr, hash)?,
-        Line::ShowFib => show_fib(alloc, router.config.tables(), out)?,
-        Line::ShowPathLists => show_path_lists(alloc, router.config.tables(), out)?,
-        Line::ShowAdj => show_adj(alloc, router.config.tables(), out)?,
+        Line::Change(edit) => change(means, control, progress, out, &edit)?,
+        Line::Lookup(addr, hash) => lookup(means.rt, control, out, addr, hash)?,
+        Line::ShowFib => show_fib(means, control, out)?,
+        Line::ShowPathLists => show_lists(means, control, out)?,
+        Line::ShowAdj => show_adj(means, control, out)?,
         Line::Forward(count) => return Ok(Some(count)),
-        Line::Begin => begin(alloc, router, number),
+        Line::Begin => progress.open(means.alloc),
         Line::Commit => {
-            router.refused += 1;
-            put_batch(out, number, BatchFault::NoBatch)?;
+            progress.refuse();
+            put_batch(out, progress.lines(), BatchFault::NoBatch)?;
         }
     }
     Ok(None)
 }
 
-/// What a line says, or None where it is no line of the grammar.
+// What a line says, or None where it is no line of the grammar.
 fn said(alloc: Global, line: &[u8]) -> Result<Option<Line>, AllocError>
     ensures value { IfOk result (λ said. said ≡ line_of line.now) }
     ensures written { IfOk result (λ said. IfSome said IsWrittenLine) }
@@ -165,58 +194,100 @@ fn said(alloc: Global, line: &[u8]) -> Result<Option<Line>, AllocError>
     }
 }
 
-/// Does what a line says, and appends what it prints. Lines are numbered from 1.
-///
-/// Answers how many packets the line asks for: Some exactly at a line that forwards packets, outside a batch. It changes nothing and
-/// prints nothing.
-///
-/// The gate is told the version that a change would give before it is tried, and after it was accepted. Want of memory may leave the
-/// router between two states.
-#[tactic(auto, unfolding(crate::specs::Turns::turn_of, crate::specs::Turns::asks))]
-pub fn run_line<G: Gate>(
-    alloc: Global,
-    gate: &G,
-    router: &mut Router,
+// A line of the grammar outside a batch, or one that is none.
+fn alone_or_syntax<R: Wait, G: Gate, B: Board>(
+    means: &Means<'_, R, G>,
+    control: &mut Control<B>,
+    progress: &mut Progress,
     out: &mut Vec<u8>,
-    number: u32,
-    line: &[u8],
+    said: Option<Line>,
 ) -> Result<Option<u32>, AllocError>
-    requires fits { Fits number router.old }
-    requires least { 0 < number }
-    requires most { number < 2 ^ 32 - 1 }
-    ensures router { OnOk result (router.new ≡ (turn_of number router.old line.now).0) }
-    ensures text { OnOk result (out.new.items ≡ out.old.items ++ (turn_of number router.old line.now).1) }
-    ensures asks { IfOk result (λ count. count ≡ asks router.old line.now) }
-    ensures fits { OnOk result (Fits (number + 1) router.new) }
+    requires written { IfSome said IsWrittenLine }
+    requires few { applied_in control.old < progress.old.lines }
+    requires fewer { progress.old.refused < progress.old.lines }
+    requires alone { progress.old.batch ≡ None }
+    ensures did { HasTurned (router_of control.old progress.old) (alone progress.old.lines (router_of control.old progress.old) said) control.old control.new progress.new out.old.items out.new.items result }
+    ensures lines { progress.new.lines ≡ progress.old.lines }
+    ensures asks { IfOk result (λ count. count ≡ asks_in None said) }
 {
-    let said = said(alloc, line)?;
-    if let Some(batch) = router.batch.take() {
-        within(gate, router, batch, out, number, said)?;
-        return Ok(None);
-    }
     match said {
-        Some(line) => alone(alloc, gate, router, out, number, line),
+        Some(line) => alone(means, control, progress, out, line),
         None => {
-            router.refused += 1;
-            put_message(out, number, "syntax")?;
+            progress.refuse();
+            put_message(out, progress.lines(), "syntax")?;
             Ok(None)
         }
     }
 }
 
-/// Appends what the script's end prints: the `begin` of a batch that it leaves is refused.
-#[tactic(auto, unfolding(crate::specs::Turns::end_turn))]
-pub fn finish(router: &mut Router, out: &mut Vec<u8>) -> Result<(), AllocError>
-    requires { router.old.refused < 2 ^ 32 - 1 }
-    ensures router { OnOk result (router.new ≡ (end_turn router.old).0) }
-    ensures text { OnOk result (out.new.items ≡ out.old.items ++ (end_turn router.old).1) }
+// A line that was read, which is counted first.
+fn run<R: Wait, G: Gate, B: Board>(
+    means: &Means<'_, R, G>,
+    control: &mut Control<B>,
+    progress: &mut Progress,
+    out: &mut Vec<u8>,
+    said: Option<Line>,
+) -> Result<Option<u32>, AllocError>
+    requires written { IfSome said IsWrittenLine }
+    requires few { applied_in control.old ≤ progress.old.lines }
+    requires most { progress.old.lines < 2 ^ 32 - 1 }
+    ensures did { HasTurned (router_of control.old progress.old) (turn_in progress.old.batch (progress.old.lines + 1) (router_of control.old progress.old) said) control.old control.new progress.new out.old.items out.new.items result }
+    ensures asks { IfOk result (λ count. count ≡ asks_in progress.old.batch said) }
+    ensures lines { progress.new.lines ≡ progress.old.lines + 1 }
 {
-    match &router.batch {
+    match progress.next_line() {
         Some(batch) => {
-            let begun = batch.begun;
-            router.refused += 1;
-            put_batch(out, begun, BatchFault::NotCommitted)
+            within(means, control, progress, batch, out, said)?;
+            Ok(None)
         }
-        None => Ok(()),
+        None => alone_or_syntax(means, control, progress, out, said),
+    }
+}
+
+/// Does what a line says, and appends what it prints. Lines are numbered from 1: this one's number is that of the lines so far and one. As many
+/// changes were made as lines were run, or fewer.
+///
+/// Answers how many packets the line asks for: Some exactly at a line that forwards packets, outside a batch. It changes nothing and
+/// prints nothing.
+///
+/// The gate is told the version that a change would give before it is tried, and after it was accepted; a batch is one change. Then come at most
+/// `walk` turns, a scan and a retry. Lookups and listings settle first, which may wait for passes that run. Workers may be out: nothing is done to
+/// them. After want of memory the tables are those before the line or those after it, and the history is that of their versions.
+#[tactic(auto, unfolding(crate::specs::Turns::turn_of, crate::specs::Turns::asks))]
+pub fn run_line<R: Wait, G: Gate, B: Board>(
+    means: &Means<'_, R, G>,
+    control: &mut Control<B>,
+    progress: &mut Progress,
+    out: &mut Vec<u8>,
+    line: &[u8],
+) -> Result<Option<u32>, AllocError>
+    requires few { applied_in control.old ≤ progress.old.lines }
+    requires most { progress.old.lines < 2 ^ 32 - 1 }
+    ensures router { OnOk result (router_of control.new progress.new ≡ (turn_of (progress.old.lines + 1) (router_of control.old progress.old) line.now).0) }
+    ensures text { OnOk result (out.new.items ≡ out.old.items ++ (turn_of (progress.old.lines + 1) (router_of control.old progress.old) line.now).1) }
+    ensures asks { IfOk result (λ count. count ≡ asks (router_of control.old progress.old) line.now) }
+    ensures stands { Stands control.new (router_of control.old progress.old) (turn_of (progress.old.lines + 1) (router_of control.old progress.old) line.now).0 }
+    ensures grown { HasGrown control.old control.new }
+    ensures lines { OnOk result (progress.new.lines ≡ progress.old.lines + 1) }
+    ensures few { OnOk result (applied_in control.new ≤ progress.new.lines) }
+    ensures keeps { KeepsCrew control.old control.new }
+{
+    let said = said(means.alloc, line)?;
+    run(means, control, progress, out, said)
+}
+
+/// Appends what the script's end prints: the `begin` of a batch that it leaves is refused. Answers how many lines are refused in all.
+#[tactic(auto, unfolding(crate::specs::Turns::end_turn))]
+pub fn finish(progress: &Progress, out: &mut Vec<u8>) -> Result<u32, AllocError>
+    ensures refused { IfOk result (λ n. (c : ControlValue) → n ≡ (end_turn (router_of c progress.now)).0.refused) }
+    ensures text { OnOk result ((c : ControlValue) → out.new.items ≡ out.old.items ++ (end_turn (router_of c progress.now)).1) }
+{
+    match progress.begun() {
+        Some(begun) => {
+            let _lines = progress.lines();
+            put_batch(out, begun, BatchFault::NotCommitted)?;
+            Ok(progress.refused() + 1)
+        }
+        None => Ok(progress.refused()),
     }
 }

@@ -1,62 +1,82 @@
-use Rattle.std.proofs.Common.{◌≡◌, arith, refl, sym, subst, ap, ap₂, ◌∙◌, length}
-use Rattle.std.specs.Prelude.{All}
-use Rattle.std.specs.List.{list_any}
-use Rattle.fib_resolve.specs.declared.types.Tables.{Tables}
-use Rattle.fib_rounds.specs.Crew.{MayForward, NoneFailed, crew_text, crew_results}
+use Rattle.std.proofs.Common.{◌≡◌, ◌-◌, ◌++◌, arith, refl, subst, ap, ap₂, ◌∙◌, sym, length}
+use Rattle.std.specs.Prelude.{◌==◌}
+use Rattle.fib_config.specs.Config.{Setup}
 use Rattle.fib_crew.specs.Packets.{span}
-use Rattle.fib_rounds.specs.Packets.{answers, packets_text}
-use Rattle.fib_rounds.proofs.Crews.{back_may, results_all, text_all}
+use Rattle.fib_homing.specs.Homes.{IsHome}
+use Rattle.fib_homing.specs.Places.{joined, parts_of}
+use Rattle.fib_turns.specs.Routers.{history_in}
+use Rattle.fib_rounds.specs.Stages.{IsHistory, Stage}
+use Rattle.fib_rounds.specs.Summaries.{with_results}
+use Rattle.fib_rounds.specs.Packets.{packets_text, IsAnswer}
+use Rattle.fib_rounds.specs.Rounds.{GoesOn, stage_of}
+use Rattle.fib_rounds.proofs.Spans.{matched_few}
 use Rattle.fib_crew.proofs.Spans.{length_span}
-use Rattle.fib_rounds.proofs.Spans.{answers_few}
-use Rattle.fib_rounds.proofs.Closing.{closed_keeps, text_of_round, counts_of_round}
+use Rattle.fib_rounds.proofs.Rounding.{all_answered, closed_is, closed_next, has_counted, has_run, next_few, next_lines, next_rests, stage_stays}
 use Rattle.fib_rounds.proofs.round.run_round.Goals as goal
-
-pub finish_at_end-requires : goal.finish_at_end-requires
-finish_at_end-requires g c = omega (arith, c.in_ok-stop.ensures.fits.refused, c.in_ok-stop.ensures.few)
-
-pub put_crew-requires : goal.put_crew-requires
-put_crew-requires g c =
-    let back = c.in_ok-stop.ensures.crew in
-    subst (All (MayForward c.args.packets.now.packets)) (sym c.deref-2.ensures.value) (back_may _ _ _ _ _ _ back c.requires.may.inside)
 
 pub count_round-requires-clause-few : goal.count_round-requires-clause-few
 count_round-requires-clause-few g c =
-    let ps = c.args.packets.now.packets in
     let o = c.args.round in
-    let v = c.args.router.now.changes in
-    let S = c.args.router.now.config.tables in
-    let none : NoneFailed c.in_ok-stop.crew.items = ap (list_any (λ s. s.failed)) (sym c.deref.ensures.value) ∙ (sym c.has_failed.ensures ∙ c.if-has_failed.false) in
-    let all = results_all v S ps o.first o.to c.in_ok-stop.crew.items c.in_ok-stop.ensures.crew none in
-    let same : crew_results c.deref-3.result.now ≡ answers v S (span ps o.first o.to) = ap crew_results c.deref-3.ensures.value ∙ all in
-    omega (arith, ap length same, answers_few v S (span ps o.first o.to), length_span ps o.first o.to c.requires.may.order c.requires.may.inside)
-
-pub next_round-requires-clause-place : goal.next_round-requires-clause-place
-next_round-requires-clause-place g c = omega (arith, c.in_ok-stop.ensures.few)
-
-pub returns-clause-text : goal.returns-clause-text
-returns-clause-text g c =
     let ps = c.args.packets.now.packets in
+    let f = c.in_ok-stop.ensures.ran in
+    let places = c.in_ok-stop.field-0.places.items in
+    let answered = all_answered _ _ (span ps o.first o.to) places f.home.answered in
+    let same : c.as_slice.result.now ≡ places = c.as_slice.ensures.value in
+    omega (arith, ap (λ xs. length (joined (parts_of xs))) same, matched_few (IsAnswer _ _) (span ps o.first o.to) (joined (parts_of places)) answered, length_span ps o.first o.to c.requires.may.order c.requires.may.inside)
+
+pub returns-clause-ran : goal.returns-clause-ran
+returns-clause-ran g c =
     let o = c.args.round in
-    let v = c.args.router.now.changes in
-    let S = c.args.router.now.config.tables in
-    let crew = c.in_ok-stop.crew.items in
-    let r = c.run_beside.new.router in
-    let none : NoneFailed crew = ap (list_any (λ s. s.failed)) (sym c.deref.ensures.value) ∙ (sym c.has_failed.ensures ∙ c.if-has_failed.false) in
-    let tables : c.tables.result.now ≡ r.config.tables = c.tables.ensures.value ∙ (ap (λ s. s.config.tables) c.in_ok-finish_at_end.ensures.router ∙ closed_keeps r c.in_ok-stop.stop.asked) in
-    let text : crew_text c.tables.result.now ps c.deref-2.result.now ≡ packets_text r.config.tables o.first (span ps o.first o.to) (answers v S (span ps o.first o.to)) =
-    ap₂ (λ (T : Tables) xs. crew_text T ps xs) tables c.deref-2.ensures.value ∙ text_all r.config.tables v S ps o.first o.to crew c.in_ok-stop.ensures.crew none c.requires.may.inside in
-    text_of_round c.args.packets.now c.args.script.now o c.args.router.now r c.finish_at_end.new.router c.args.text.now.items c.run_beside.new.text.items c.finish_at_end.new.text.items c.put_crew.new.text.items
-    (crew_text c.tables.result.now ps c.deref-2.result.now) c.in_ok-stop.stop.place c.in_ok-stop.stop.asked c.next_round.result
-    c.requires.may.order c.requires.may.inside c.in_ok-stop.ensures.text c.in_ok-stop.ensures.stops c.in_ok-finish_at_end.ensures.text c.in_ok-finish_at_end.ensures.router c.in_ok-put_crew.ensures text c.next_round.ensures
+    let ps = c.args.packets.now.packets in
+    let f = c.in_ok-stop.ensures.ran in
+    let stop = c.in_ok-stop.field-0.stop in
+    let A = c.args.control.now in
+    let B = c.run_beside.new.control in
+    let C = c.settle_home.new.control in
+    let late = c.run_beside.new.progress in
+    let places = c.in_ok-stop.field-0.places.items in
+    let mine = joined (parts_of places) in
+    let stays = c.in_ok-settle_home.ensures.stays in
+    let on = subst (λ t. GoesOn c.args.script.now o.place (stage_of A c.args.progress.now) t stop.place (stage_of B late) c.run_beside.new.text.items) c.requires.none f.on in
+    let answered = all_answered _ _ (span ps o.first o.to) places f.home.answered in
+    let after = closed_is B C late ps stop.place o.to stop.asked c.next_round.result stays c.next_round.ensures in
+    let text = ap₂ (λ a (S : Setup). a ++ packets_text S.tables o.first (span ps o.first o.to) mine) (c.in_ok-refused.ensures.text B) stays.setup in
+    has_run c.args.script.now c.args.packets.now o (stage_of A c.args.progress.now) (stage_of B late) _ c.run_beside.new.text.items _ stop.place stop.asked c.next_round.result mine
+    c.requires.may.order c.requires.may.inside on f.stops answered after c.next_round.ensures text
 
 pub returns-clause-counts : goal.returns-clause-counts
 returns-clause-counts g c =
-    let ps = c.args.packets.now.packets in
     let o = c.args.round in
-    let v = c.args.router.now.changes in
-    let S = c.args.router.now.config.tables in
-    let r = c.run_beside.new.router in
-    let none : NoneFailed c.in_ok-stop.crew.items = ap (list_any (λ s. s.failed)) (sym c.deref.ensures.value) ∙ (sym c.has_failed.ensures ∙ c.if-has_failed.false) in
-    let all : crew_results c.deref-3.result.now ≡ answers v S (span ps o.first o.to) = ap crew_results c.deref-3.ensures.value ∙ results_all v S ps o.first o.to c.in_ok-stop.crew.items c.in_ok-stop.ensures.crew none in
-    counts_of_round c.args.packets.now c.args.script.now o c.args.router.now r c.finish_at_end.new.router c.args.counts.now c.count_round.new.counts c.in_ok-stop.stop.place _ c.in_ok-stop.stop.asked c.next_round.result
-    (crew_results c.deref-3.result.now) c.requires.may.order c.requires.may.inside c.in_ok-stop.ensures.counts c.in_ok-stop.ensures.stops c.in_ok-finish_at_end.ensures.router refl c.count_round.ensures.counts all c.next_round.ensures
+    let ps = c.args.packets.now.packets in
+    let f = c.in_ok-stop.ensures.ran in
+    let stop = c.in_ok-stop.field-0.stop in
+    let A = c.args.control.now in
+    let B = c.run_beside.new.control in
+    let C = c.settle_home.new.control in
+    let late = c.run_beside.new.progress in
+    let places = c.in_ok-stop.field-0.places.items in
+    let stays = c.in_ok-settle_home.ensures.stays in
+    let answered = all_answered _ _ (span ps o.first o.to) places f.home.answered in
+    let after = closed_is B C late ps stop.place o.to stop.asked c.next_round.result stays c.next_round.ensures in
+    let counted = c.count_round.ensures.counts ∙ ap (λ xs. with_results c.args.counts.now (stop.place == o.place) (o.to - o.first) (joined (parts_of xs))) c.as_slice.ensures.value in
+    has_counted c.args.packets.now c.args.script.now o (stage_of A c.args.progress.now) (stage_of B late) _ c.args.text.now.items c.run_beside.new.text.items stop.place (stop.place == o.place) stop.asked c.next_round.result c.args.counts.now c.count_round.new.counts (joined (parts_of places))
+    c.requires.may.order c.requires.may.inside c.requires.history f.on f.stops answered after c.next_round.ensures refl counted
+
+pub returns-clause-rests : goal.returns-clause-rests
+returns-clause-rests g c =
+    next_rests c.args.script.now c.args.packets.now.packets c.args.round c.args.settings.workers c.args.control.now c.run_beside.new.control c.settle_home.new.control c.args.progress.now c.run_beside.new.progress c.args.text.now.items c.run_beside.new.text.items c.in_ok-stop.field-0.stop c.in_ok-stop.field-0.places.items c.next_round.result
+    c.requires.rests c.requires.most c.in_ok-stop.ensures.ran c.in_ok-settle_home.ensures.keeps c.in_ok-settle_home.ensures.settled c.next_round.ensures
+
+pub returns-clause-lines : goal.returns-clause-lines
+returns-clause-lines g c =
+    next_lines c.args.packets.now.packets c.in_ok-stop.field-0.stop.place c.args.round.to c.run_beside.new.progress.lines c.in_ok-stop.field-0.stop.asked c.next_round.result c.in_ok-stop.ensures.ran.lines c.next_round.ensures
+
+pub returns-clause-history : goal.returns-clause-history
+returns-clause-history g c =
+    subst IsHistory (sym (stage_stays c.run_beside.new.control c.settle_home.new.control c.run_beside.new.progress c.in_ok-settle_home.ensures.stays)) (c.in_ok-stop.ensures.ran.history c.requires.history)
+
+pub returns-clause-refused : goal.returns-clause-refused
+returns-clause-refused g c =
+    let at = stage_of c.settle_home.new.control c.run_beside.new.progress in
+    let stop = c.in_ok-stop.field-0.stop in
+    c.in_ok-refused.ensures.refused c.settle_home.new.control ∙ ap (λ (s : Stage). s.router.refused) (sym (closed_next at c.args.packets.now.packets stop.place c.args.round.to stop.asked c.next_round.result c.next_round.ensures))

@@ -1,0 +1,51 @@
+-- A control plane over fresh cells, on which a run begins.
+use Rattle.std.proofs.Common.{◌≡◌, ◌+◌, ◌-◌, ◌/◌, ◌^◌, ◌++◌, ◌∷◌, [], ℕ, List, Option, Result, Ok, Err, OnOk, false, refl, ap, ◌∙◌, zero, suc}
+use Rattle.std.specs.Prelude.{replicate, slice_index, slice_index_or}
+use Rattle.fib_resolve.specs.Tables.{fresh}
+use Rattle.fib_lawful.specs.State.{left_of}
+use Rattle.fib_board.specs.Boards.{Board}
+use Rattle.fib_board.specs.Told.{IsWithinLimits}
+use Rattle.fib_cells.specs.Seats.{fresh_live}
+use Rattle.fib_joined.specs.Promise.{Promise}
+use Rattle.fib_shared.specs.Shares.{promise_of}
+use Rattle.fib_control.specs.Controls.{Control, promise_in}
+use Rattle.fib_capture.specs.Captures.{Capture}
+use Rattle.fib_settings.specs.Ranges.{InRange}
+use Rattle.fib_settings.specs.declared.sizes.Settings.{Settings}
+use Rattle.fib_rounds.specs.Output.{Output}
+use Rattle.fib_rounds.specs.Runs.{GainsRun, IsNew}
+use Rattle.fib_rounds.specs.Writes.{Gains}
+
+all_off : (m n : ℕ) → slice_index_or (replicate m false) n false ≡ false
+all_off zero n = refl
+all_off (suc m) zero = refl
+all_off (suc m) (suc n) = all_off m n
+
+all_nought : (m n : ℕ) → slice_index (replicate m 0) n ≡ 0
+all_nought zero n = refl
+all_nought (suc m) zero = refl
+all_nought (suc m) (suc n) = all_nought m n
+
+pub within_limits : (s : Settings) → InRange s → IsWithinLimits s.objects s.workers
+within_limits s r = record { least = r.enough_objects; most = r.objects_fit; even = r.even_objects; some = r.some_worker; eight = r.few_workers }
+
+pub new_over : (objects workers : ℕ) (id : List ℕ) (b : Board) (c : Control) → b ≡ fresh_live id objects workers → c.setup ≡ record { tables = fresh; room = b.objects / 2 }
+    → promise_in c ≡ promise_of b → IsNew workers (objects / 2) c
+new_over objects workers id b c is setup same =
+    let rest : promise_in c ≡ promise_of (fresh_live id objects workers) = same ∙ ap promise_of is in
+    record {
+      setup = setup ∙ ap (λ (x : Board). record { tables = fresh; room = x.objects / 2 }) is;
+      all = ap (λ (p : Promise). p.rest.workers) rest;
+      history = ap (λ (p : Promise). p.rest.log.history) rest;
+      version = ap (λ (p : Promise). p.rest.log.version) rest;
+      none = λ n. ap (λ (p : Promise). slice_index_or p.rest.out n false) rest ∙ all_off 8 n;
+      trails = ap (λ (p : Promise). p.rest.trails) rest;
+      gathered = ap (λ (p : Promise). p.rest.gathered) rest;
+      left = λ n lt. ap (λ (p : Promise). left_of (slice_index p.rest.rests n)) rest ∙ ap left_of (all_nought 8 n);
+    }
+
+-- a run's output is one that the script may have
+pub gains_output : {A E : Type 0} (workers room : ℕ) (script : List (List ℕ)) (packets : Capture) (c : Control) (before after : Option (List ℕ)) (r : Result A E)
+    → OnOk r (GainsRun workers room script packets c before after) → OnOk r (Gains (Output room script packets) before after)
+gains_output workers room script packets c before after (Ok x) g = (g.1, (g.0, g.2.output), g.3)
+gains_output workers room script packets c before after (Err e) g = tt

@@ -1,0 +1,17 @@
+use Rattle.std.proofs.Common.{◌≡◌, ◌≤◌, ◌++◌, ℕ, List, drop}
+use Rattle.fib_outside.specs.Outside.{Appends}
+use Rattle.fib_homing.specs.Places.{joined, parts_of}
+use Rattle.fib_crew.specs.Packets.{span}
+use Rattle.fib_rounds.specs.Packets.{packets_text}
+use Rattle.fib_rounds.specs.Writes.{AreLaid}
+use Rattle.fib_rounds.proofs.put.write_frames.Given as goal
+
+-- what was written, and then the lines that are left, is the whole
+abbrev pub invariant-frames : goal.invariant-frames
+invariant-frames g l = record {
+  high : l.at ≤ l.to;
+  laid : AreLaid l.packets.packets l.at l.to (drop l.place-index l.places);
+  written : (done : List ℕ) × Appends (g.K.Sink.written l.fn.out) (g.K.Sink.written l.out) done
+      × (done ++ packets_text l.tables l.at (span l.packets.packets l.at l.to) (joined (parts_of (drop l.place-index l.places))) ≡ packets_text l.tables l.fn.from (span l.packets.packets l.fn.from l.to) (joined (parts_of l.places)));
+  counted : g.K.Sink.faults l.fn.out ≤ g.K.Sink.faults l.out;
+}
