@@ -12,8 +12,8 @@ command line that knows
 
 and its package `fibref` lies beside it. Each table is a generated command file without lines that forward packets, followed by
 lookups at addresses of its own routes and next hops, and a listing of its entries. Each case of rounds is a generated command file
-with its capture, run with 1 to 6 workers; where a round's lines change the tables, its packets print the oracle's resolution over
-the tables at the round's opening. The long files (a chain, a ring, a line of many paths) are written here too. All other files of
+with its capture, run with 1 to 6 workers. A `forward 0` after each line that forwards has the lines that follow run in a round
+without packets, so that what packets print is one text: the oracle's resolution over the tables at their round's opening. The long files (a chain, a ring, a line of many paths) are written here too. All other files of
 the crate's data are kept, and their answers are made anew by the oracle.
 
 A line of the crate's `args` is the words of one run, joined by colons. A run of the words `follow` and a file has entries follow the
@@ -99,7 +99,7 @@ def table(oracle, profile, seed):
 
 
 def rounds_text(commands, capture):
-    """What a run prints whose workers forward by the tables at their round's opening, by the oracle's own resolution."""
+    """What a run prints no packet of which meets a change, by the oracle's own resolution at each round's opening."""
     from fibref.capture import Flow, read_capture
     from fibref.fib import Fib
     from fibref.listings import Result, Version, cut_text, result_text
@@ -142,6 +142,11 @@ def is_short(crate, words):
     return words.endswith(".fib") and ":" not in words and (crate / "data" / words).read_bytes().count(b"\n") < MOST_FOLLOWED
 
 
+def apart(commands):
+    """The same lines, but those after one that forwards come in a round of their own, without packets."""
+    return re.sub(rb"(?m)^([ \t]*forward[ \t][^\n]*\n)", rb"\1forward 0\n", commands)
+
+
 def is_read(capture):
     from fibref.capture import CaptureRefused, read_capture
 
@@ -165,7 +170,7 @@ def rounds(oracle, crate):
                 if is_read(capture) and b"forward" in commands:
                     break
             name = f"rounds_{profile}_{seed}"
-            (crate / "data" / f"{name}.fib").write_bytes(commands)
+            (crate / "data" / f"{name}.fib").write_bytes(apart(commands))
             (crate / "data" / f"{name}.pcap").write_bytes(capture)
             words.append(f"--workers={case % 8 + 1}:{name}.fib:{name}.pcap")
     return words
