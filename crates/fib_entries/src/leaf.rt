@@ -71,10 +71,12 @@ fn is_far(p: Prefix, n: &Neighbor) -> bool
 pub fn are_far(p: Prefix, neighbors: &[Neighbor]) -> bool
     ensures { IsTrue result → (n : NeighborValue) → Contains neighbors.now n → (n.addr < 2 ^ 32) × (contains p n.addr ≡ false) }
 {
-    match neighbors {
-        [n, neighbors @ ..] => is_far(p, n) && are_far(p, neighbors),
-        [] => true,
+    for n in neighbors {
+        if !is_far(p, n) {
+            return false;
+        }
     }
+    true
 }
 
 /// Whether another entry than that has an edge to the row's.
