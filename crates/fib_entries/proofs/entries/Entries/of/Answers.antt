@@ -53,7 +53,7 @@ invariant_of-result c =
     c.in_ok-listed.ensures.listed c.in_ok-listed.ensures.ordered
     (all_stands c.take_all.new.lists c.in_ok-snapshot.snapshot c.in_ok-snapshot.snapshot c.in_ok-rows.rows.items c.as_slice-2.result.now c.in_ok-listed.listed.items c.in_ok-order.order c.entries.result.now c.in_ok-ids.ids.items c.pairs.result.now
     c.in_ok-objects.objects refl c.in_ok-rows.ensures c.as_slice-2.ensures.value c.in_ok-listed.ensures.listed c.in_ok-listed.ensures.ordered c.entries.ensures c.in_ok-order.ensures c.pairs.ensures c.in_ok-ids.ensures
-    c.in_ok-objects.ensures (subst IsSound (sym c.in_ok-snapshot.ensures) c.requires)) c.count.ensures.interned
+    c.in_ok-objects.ensures (subst IsSound (sym c.in_ok-snapshot.ensures) c.requires)) c.count-count.ensures.interned
 
 pub returns : goal.returns
 returns c =
