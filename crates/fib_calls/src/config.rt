@@ -43,55 +43,101 @@ fn edit_of(alloc: Global, number: u32) -> Result<Edit, Fail>
     }
 }
 
-#[test]
-fn two_links_of_thirty_objects(rt: HostRuntime) -> Result<(), Fail> {
-    let alloc = rt.alloc();
-    let mut config = Config::new(alloc, 32)?;
+// Two links, up to one address.
+fn two_links(alloc: Global, config: &mut Config) -> Result<(), Fail> {
     for number in 0..5 {
-        config.edit(&edit_of(alloc, number)?)?;
+        let edit = edit_of(alloc, number)?;
+        config.edit(&edit)?;
     }
-    let sixth = edit_of(alloc, 5)?;
-    assert_eq!(rt;
-        config.edit(&sixth),
-        Err(EditError::Refused(Refusal::TooLarge))
-    );
-    let mut copy = config.copy()?;
-    assert_eq!(rt; copy.tables().interfaces.len(), 2);
-    assert_eq!(rt; copy.tables().addresses.len(), 1);
-    let edits = [edit_of(alloc, 3)?, sixth];
+    Ok(())
+}
+
+// Whether the second address is too large an edit.
+fn is_too_large(alloc: Global, config: &mut Config) -> Result<bool, Fail> {
+    let edit = edit_of(alloc, 5)?;
+    Ok(config.edit(&edit) == Err(EditError::Refused(Refusal::TooLarge)))
+}
+
+// Whether it is so in a batch, as the second edit.
+fn is_too_large_at_one(alloc: Global, config: &mut Config) -> Result<bool, Fail> {
+    let edits = [edit_of(alloc, 3)?, edit_of(alloc, 5)?];
     let refusal = Refusal::TooLarge;
-    assert_eq!(rt;
-        copy.edit_all(&edits),
-        Err(BatchError::Refused { place: 1, refusal })
-    );
-    assert_eq!(rt; copy.edit_all(&edits[..1]), Ok(()));
-    Ok(())
+    Ok(config.edit_all(&edits) == Err(BatchError::Refused { place: 1, refusal }))
 }
 
-#[test]
-fn an_edit_is_taken_back(rt: HostRuntime) -> Result<(), Fail> {
-    let alloc = rt.alloc();
-    let mut config = Config::new(alloc, 32)?;
-    let made = config.change(&edit_of(alloc, 0)?)?;
-    assert_eq!(rt; config.tables().interfaces.len(), 1);
+// Whether a batch of the first alone is made.
+fn is_made_alone(alloc: Global, config: &mut Config) -> Result<bool, Fail> {
+    let edits = [edit_of(alloc, 3)?];
+    Ok(config.edit_all(&edits) == Ok(()))
+}
+
+fn has_two_links(config: &Config) -> bool {
+    config.tables().interfaces.len() == 2 && config.tables().addresses.len() == 1
+}
+
+// The same of a copy.
+fn copy_is_right(alloc: Global, config: &Config) -> Result<bool, Fail> {
+    let mut copy = config.copy()?;
+    let has_two = has_two_links(&copy);
+    let is_refused = is_too_large_at_one(alloc, &mut copy)?;
+    let is_made = is_made_alone(alloc, &mut copy)?;
+    Ok(has_two && is_refused && is_made)
+}
+
+// What thirty-two objects hold of two links.
+fn links_are_right(alloc: Global, config: &mut Config) -> Result<bool, Fail> {
+    two_links(alloc, config)?;
+    let is_refused = is_too_large(alloc, config)?;
+    let is_copied = copy_is_right(alloc, config)?;
+    Ok(is_refused && is_copied)
+}
+
+// Whether an edit is taken back.
+fn is_taken_back(alloc: Global, config: &mut Config) -> Result<bool, Fail> {
+    let edit = edit_of(alloc, 0)?;
+    let made = config.change(&edit)?;
+    let before = config.tables().interfaces.len();
     config.undo(made.undo);
-    assert_eq!(rt; config.tables().interfaces.len(), 0);
-    Ok(())
+    Ok(before == 1 && config.tables().interfaces.len() == 0)
 }
 
-#[test]
-fn a_batch_is_taken_back(rt: HostRuntime) -> Result<(), Fail> {
-    let alloc = rt.alloc();
-    let mut config = Config::new(alloc, 32)?;
+// Whether a batch is taken back, which keeps one list of interfaces and one of addresses.
+fn are_taken_back(alloc: Global, config: &mut Config) -> Result<bool, Fail> {
     let edits = [edit_of(alloc, 0)?, edit_of(alloc, 2)?, edit_of(alloc, 4)?];
     let EditedAll { changes, undos } = config.change_all(&edits)?;
-    assert_eq!(rt; config.tables().addresses.len(), 1);
-    assert_eq!(rt; changes.len(), 3);
-    assert_eq!(rt; undos.len(), 2);
+    let before = (config.tables().addresses.len(), changes.len(), undos.len());
     config.undo_all(undos);
-    assert_eq!(rt; config.tables().interfaces.len(), 0);
+    Ok(before == (1, 3, 2) && config.tables().interfaces.len() == 0)
+}
+
+// Whether a batch with an interface that is there is refused and leaves none.
+fn is_refused_whole(alloc: Global, config: &mut Config) -> Result<bool, Fail> {
     let twice = [edit_of(alloc, 0)?, edit_of(alloc, 0)?];
-    assert!(rt; config.change_all(&twice).is_err());
-    assert_eq!(rt; config.tables().interfaces.len(), 0);
+    Ok(config.change_all(&twice).is_err() && config.tables().interfaces.len() == 0)
+}
+
+fn is_right(alloc: Global, config: &mut Config, scene: u32) -> Result<bool, Fail> {
+    match scene {
+        0 => links_are_right(alloc, config),
+        1 => is_taken_back(alloc, config),
+        2 => are_taken_back(alloc, config),
+        _ => is_refused_whole(alloc, config),
+    }
+}
+
+// The one owner of a configuration: the prover follows every way out past it.
+fn plays(alloc: Global, scene: u32) -> Result<bool, Fail> {
+    let mut config = Config::new(alloc, 32)?;
+    is_right(alloc, &mut config, scene)
+}
+
+// Two links of thirty-two objects; an edit, a batch and a refused batch that are taken back.
+#[test]
+fn what_a_configuration_does(rt: HostRuntime) -> Result<(), Fail> {
+    for scene in 0..4 {
+        if !plays(rt.alloc(), scene)? {
+            return Err("a scene went otherwise".into());
+        }
+    }
     Ok(())
 }

@@ -1,4 +1,4 @@
-//! The calls of the engine's crates, each made once with ample memory, and the rows that their trials find.
+//! The calls of the engine's crates, each made once with ample memory.
 //!
 //! These tests stand apart from what they call, since a crate's own tests have it proved a second time. `specs/Rested.antt` says what a plain
 //! board's worker at rest is.
@@ -13,10 +13,6 @@ mod entries;
 #[cfg(test)]
 mod plain;
 #[cfg(test)]
-mod plane;
-#[cfg(test)]
 mod quiet;
 #[cfg(test)]
 mod stack;
-#[cfg(test)]
-mod trials;
