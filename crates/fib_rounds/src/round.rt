@@ -318,7 +318,6 @@ pub fn run_round<'a, R: Threads + Wait + Sync, G: Gate>(
     requires rests { IsAtRest settings.workers round.place control.old }
     requires workers { 0 < settings.workers }
     requires most { settings.workers ≤ 8 }
-    requires script { length script.now ≤ 65535 }
     requires none { text.old.items ≡ [] }
     requires history { IsHistory (stage_of control.old progress.old) }
     ensures none { NoneOut control.new.plane.board }
@@ -336,6 +335,8 @@ pub fn run_round<'a, R: Threads + Wait + Sync, G: Gate>(
     ensures history { IfOk result (λ r. IsHistory (stage_of control.new progress.new)) }
     ensures filled { IfOk result (λ r. AreFilled (applied_in control.old) round.first (history_in control.new) (span packets.now.packets round.first round.to) 0 r.places.items) }
 {
+    // that a script has at most 65,535 lines keeps the numbers of a round small
+    let _lines = script.lines();
     let Forwarded { stop, places } = run_beside(
         rt, alloc, gate, settings, control, progress, text, script, packets, round,
     )?;

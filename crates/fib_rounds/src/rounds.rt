@@ -1,5 +1,5 @@
 // The rounds of a script.
-ghost use Rattle.std.specs.Prelude.{◌≡◌, ◌≤◌, ◌/◌, length, OnOk, OnErr, IfOk, IsErrOf};
+ghost use Rattle.std.specs.Prelude.{◌≡◌, ◌≤◌, ◌/◌, OnOk, OnErr, IfOk, IsErrOf};
 ghost use Rattle.fib_outside.specs.Outside.{HasRisen};
 ghost use Rattle.fib_settings.specs.Ranges.{InRange};
 ghost use Rattle.fib_homing.specs.Homes.{NoneOut};
@@ -40,7 +40,6 @@ pub fn run_on<'a, R: Threads + Wait + Sync, K: Sink, G: Gate>(
 ) -> Result<Summary, RunFault>
     requires settings { InRange settings }
     requires fresh { IsNew settings.workers (settings.objects / 2) control.old }
-    requires few { length script.now ≤ 65535 }
     ensures ok { OnOk result (GainsRun settings.workers (settings.objects / 2) script.now packets.now control.new (K.written out.old) (K.written out.new)) }
     ensures summary { IfOk result (λ s. s ≡ summary_of (settings.objects / 2) script.now packets.now) }
     ensures some { OnErr result (Gains (FirstOutput (settings.objects / 2) script.now packets.now) (K.written out.old) (K.written out.new)) }
@@ -105,7 +104,6 @@ pub fn run<R: Threads + Wait + Sync, K: Sink, G: Gate>(
     gate: &G,
 ) -> Result<Summary, RunFault>
     requires settings { InRange settings }
-    requires few { length script.now ≤ 65535 }
     ensures ok { OnOk result (Gains (Output (settings.objects / 2) script.now packets.now) (K.written out.old) (K.written out.new)) }
     ensures summary { IfOk result (λ s. s ≡ summary_of (settings.objects / 2) script.now packets.now) }
     ensures some { OnErr result (Gains (FirstOutput (settings.objects / 2) script.now packets.now) (K.written out.old) (K.written out.new)) }
