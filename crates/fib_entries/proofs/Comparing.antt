@@ -12,6 +12,7 @@ use Rattle.fib_resolve.specs.Keys.{same_source, source_rank}
 use Rattle.fib_resolve.specs.Aims.{kind_aim, kind_counts, marked, marked_list}
 use Rattle.fib_resolve.specs.Pairs.{pairs, entries, chosen, cover}
 use Rattle.fib_resolve.specs.Loops.{looped, looped_kind}
+use Rattle.fib_resolve.specs.Tables.{IsSound}
 use Rattle.fib_resolve.specs.Forwarding.{is_up, is_met}
 use Rattle.fib_resolve.specs.Resolution.{mac_of, hop_end, attached_end}
 use Rattle.fib_resolve.specs.Touched.{pairs_of, same_pairs, is_touched, kind_changes, differ, same_mac, other_mac, other_flag}
@@ -228,6 +229,17 @@ module _ (S T : Tables) (e : Prefix) where
   untouched_by : SamePairs S T e → list_any (λ p. kind_changes S T e p.need p.kind) (chosen S e) ≡ false → is_touched S T e ≡ false
   unfolding is_touched
   untouched_by same none = rw (both_halves S T e same) none
+
+-- what isn't touched keeps the marks of its paths
+module _ (S T : Tables) (e : Prefix) (sound : IsSound T) (u : is_touched S T e ≡ false) where
+  quiet_kind : (p : Path) → Contains (chosen S e) p → kind_changes S T e p.need p.kind ≡ false
+  quiet_kind p c = any_fails (λ q. kind_changes S T e q.need q.kind) (chosen S e) p (changes_none S T e u) c
+
+  pub looped_kept : map (λ p. looped_kind S e p.kind) (chosen S e) ≡ map (λ p. looped_kind T e p.kind) (chosen T e)
+  looped_kept = map_same (λ p. looped_kind S e p.kind) (λ p. looped_kind T e p.kind) (chosen S e) (λ p c. keeps_looped S T e p.need p.kind (quiet_kind p c)) ∙ ap (map (λ p. looped_kind T e p.kind)) (untouched_chosen S T e sound u)
+
+  pub met_kept : map (λ p. kind_met S p.need p.kind) (chosen S e) ≡ map (λ p. kind_met T p.need p.kind) (chosen T e)
+  met_kept = map_same (λ p. kind_met S p.need p.kind) (λ p. kind_met T p.need p.kind) (chosen S e) (λ p c. keeps_met S T e p.need p.kind (quiet_kind p c)) ∙ ap (map (λ p. kind_met T p.need p.kind)) (untouched_chosen S T e sound u)
 
 module _ (v w : Known) (S T : Tables) (h : StandsFor v S) (k : StandsFor w T) (e : Prefix) (r s : Row) (at : row_of v.rows e ≡ Some r) (there : row_of w.rows e ≡ Some s) where
   before_is : IsRow v.lists S r × (e ≡ r.prefix)

@@ -15,3 +15,14 @@ pub mod Woken
 pub mod Edging
 pub mod Grouping
 pub mod Keying
+pub mod Counting
+pub mod Using
+pub mod Leafing
+pub mod Listing
+pub mod LeafRows
+pub mod LeafSizes
+pub mod Linking
+pub mod Ready
+pub mod Replacing
+pub mod Naming
+pub mod Following

@@ -40,12 +40,12 @@ abbrev count : List Path → List Pair → ℕ
 count paths xs = count_by (λ x. pointwise same_path x.paths paths) xs
 
 -- a kept list is found under its number
-found_by : (lists : List PathKept) → AreInterned lists → (k : PathKept) → Contains lists k → kept_of lists k.id ≡ Some k
+pub found_by : (lists : List PathKept) → AreInterned lists → (k : PathKept) → Contains lists k → kept_of lists k.id ≡ Some k
 found_by lists kept k c =
     let at = get_or_at lists c.0 k c.1 c.2 in
     find_only (λ z. z.id == k.id) lists c.0 k at ((Decides-eqb k.id k.id).1 refl) (λ j l there same. kept.numbers_apart j c.0 l k there at ((Decides-eqb l.id k.id).0 same))
 
-is_kept : (lists : List PathKept) (id : ℕ) (k : PathKept) → kept_of lists id ≡ Some k → Contains lists k
+pub is_kept : (lists : List PathKept) (id : ℕ) (k : PathKept) → kept_of lists id ≡ Some k → Contains lists k
 is_kept lists id k h = let f = find_place (λ z. z.id == id) lists k h in contains_at lists f.0 k f.1
 
 module _ (old new : List PathKept) (content : List Path) (id : ℕ) (t : Takes old new content id) (apart : AreInterned new) where

@@ -29,7 +29,7 @@ kind_aimed S e t (kinds.Hop a i) = refl
 kind_aimed S e t (kinds.Recursive a) = sym (or_none (same_prefix t (host a)))
 kind_aimed S e t kinds.Cover = sym (or_none (same_prefix t (cover S e.bits)))
 
-by_marks : (S : Tables) (e t : Prefix) (ps : List Path) → aims_at t (map (marked S e) ps) (map (λ p. looped_kind S e p.kind) ps) ≡ list_any (λ p. is_kept S e p.kind && is_member same_prefix (kind_targets S e p.kind) t) ps
+pub by_marks : (S : Tables) (e t : Prefix) (ps : List Path) → aims_at t (map (marked S e) ps) (map (λ p. looped_kind S e p.kind) ps) ≡ list_any (λ p. is_kept S e p.kind && is_member same_prefix (kind_targets S e p.kind) t) ps
 by_marks S e t [] = refl
 by_marks S e t (p ∷ ps) =
     ap (λ b. (not (looped_kind S e p.kind) && b) || aims_at t (map (marked S e) ps) (map (λ q. looped_kind S e q.kind) ps)) (kind_aimed S e t p.kind)

@@ -3,3 +3,4 @@ pub mod Compare
 pub mod Edges
 pub mod Fields
 pub mod Waking
+pub mod Leaf

@@ -1,5 +1,5 @@
 // Entries that stand for tables.
-ghost use Rattle.std.specs.Prelude.{◌≡◌, ◌<◌, ◌↔◌, IfOk, IfSome, IsSome, Some, ℕ, [], length, map, option_copied, slice_get, Contains};
+ghost use Rattle.std.specs.Prelude.{◌∷◌, ◌-◌, ◌^◌, IfNone, OnErr, ◌≡◌, ◌<◌, ◌↔◌, IfOk, IfSome, IsSome, Some, ℕ, [], length, map, option_copied, slice_get, Contains};
 ghost use Rattle.fib_reach.specs.Walks.{AllDiffer};
 ghost use Rattle.fib_addr.specs.Prefixes.{Prefix as PrefixValue, IsPrefix};
 ghost use Rattle.fib_resolve.specs.Aims.{marked_list};
@@ -11,8 +11,15 @@ ghost use Rattle.fib_entries.specs.Known.{StandsFor, ArePairs, row_of, rank_of, 
 ghost use Rattle.fib_resolve.specs.declared.types.FibSource.{FibSource as Source};
 ghost use Rattle.fib_interned.specs.Interned.{kept_of};
 ghost use Rattle.fib_entries.specs.inner.Compare.{AreKept};
+ghost use Rattle.fib_entries.specs.inner.Leaf.{IsFollowed};
+ghost use Rattle.fib_changes.specs.Differ.{Differ};
+ghost use Rattle.fib_changes.specs.declared.change.Change.TheVariants as changes;
 
+use crate::apply::is_other;
 use crate::build::take_all;
+use crate::change::{Target, change};
+use crate::changes::Followed;
+use crate::leaf::{paths_at, ready, top_rank};
 use crate::look::row;
 use crate::rows::Row;
 use crate::whole;
@@ -65,6 +72,7 @@ impl Entries {
         let listed = order.listed(alloc)?;
         let mut lists = PathLists::new(alloc);
         let ids = take_all(alloc, &mut lists, snapshot.pairs())?;
+        let _count = lists.count();
         let rows = whole::rows_anew(alloc, &snapshot, &lists, ids.as_slice(), listed.as_slice())?;
         let objects = snapshot.size(alloc)?;
         Ok(Entries {
@@ -78,6 +86,43 @@ impl Entries {
 
     pub(crate) fn allocator(&self) -> Global {
         self.alloc
+    }
+
+    /// Follows the change of the route of that prefix and source in its own row, where rows and neighbors tell that the change touches that
+    /// row alone; None where they don't. After want of memory all is as before.
+    pub(crate) fn follow_leaf(
+        &mut self,
+        tables: &Tables,
+        prefix: Prefix,
+        source: FibSource,
+        most: u32,
+    ) -> Result<Option<Followed>, AllocError>
+        requires sound { IsSound tables.now }
+        requires most { most < 2 ^ 32 - 1 }
+        ensures followed { IfOk result (λ o. IfSome o (λ f. (S : TablesValue) → StandsFor self.old S →
+            Differ (changes.Route prefix source ∷ []) S tables.now → IsFollowed self.old self.new S tables.now most f)) }
+        ensures none { IfOk result (λ o. IfNone o (self.new ≡ self.old)) }
+        ensures err { OnErr result (self.new ≡ self.old) }
+    {
+        let Some(at) = ready(self.rows.as_slice(), &self.lists, tables, prefix, source) else {
+            return Ok(None);
+        };
+        let new = paths_at(prefix, source, tables.routes.as_slice());
+        if !is_other(&self.lists, at.1, new) {
+            return Ok(None);
+        }
+        let top = top_rank(self.rows.as_slice(), new);
+        if self.objects > most || top == u32::MAX {
+            return Ok(None);
+        }
+        let to = Target {
+            prefix,
+            source,
+            new,
+            rank: top + 1,
+        };
+        let followed = change(self.alloc, &mut self.rows, &mut self.lists, at, to)?;
+        Ok(Some(followed))
     }
 
     /// The prefix's row, whose lists are kept.

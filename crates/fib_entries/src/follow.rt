@@ -1,10 +1,11 @@
 // Entries that follow a change of the tables.
-ghost use Rattle.std.specs.Prelude.{◌≡◌, ◌≤◌, ◌++◌, ◌∷◌, [], IfOk, IfErr, OnOk, OnErr, ◌<◌, ◌-◌, ◌^◌, map, flat_map, filter, if◌then◌else◌};
+ghost use Rattle.std.specs.Prelude.{◌≡◌, ◌≤◌, ◌++◌, ◌∷◌, [], IfSome, IfOk, IfErr, OnOk, OnErr, ◌<◌, ◌-◌, ◌^◌, map, flat_map, filter, if◌then◌else◌};
 ghost use Rattle.fib_resolve.specs.Sizes.{size};
 ghost use Rattle.fib_resolve.specs.Tables.{IsSound};
 ghost use Rattle.fib_resolve.specs.Touched.{is_touched};
 ghost use Rattle.fib_resolve.specs.declared.types.Tables.{Tables as TablesValue};
 ghost use Rattle.fib_changes.specs.Differ.{Differ};
+ghost use Rattle.fib_changes.specs.declared.change.Change.TheVariants as kinds;
 ghost use Rattle.fib_entries.specs.Known.{StandsFor, prefix_of};
 ghost use Rattle.fib_entries.specs.inner.Compare.{is_new, moved_one, moved_new};
 ghost use Rattle.fib_entries.specs.Changes.{AreTouched, AreMoved, IsTooMany};
@@ -16,7 +17,7 @@ use fib_addr::Prefix;
 use fib_changes::Change;
 use fib_config::Config;
 use fib_list::List;
-use fib_resolve::Tables;
+use fib_resolve::{FibSource, Tables};
 use std::alloc::{AllocError, Global};
 
 /// Whether the change touches the prefix.
@@ -163,6 +164,16 @@ fn moved(alloc: Global, before: &Entries, after: &Entries) -> Result<List<Moved>
     Ok(out)
 }
 
+/// The prefix and the source of the one route that the changes name, where they name nothing else.
+fn only_route(changes: &[Change]) -> Option<(Prefix, FibSource)>
+    ensures { IfSome result (λ x. changes.now ≡ kinds.Route x.0 x.1 ∷ []) }
+{
+    match changes {
+        [Change::Route { prefix, source }] => Some((*prefix, *source)),
+        _ => None,
+    }
+}
+
 impl Entries {
     /// Makes the entries stand for the tables after a change, and answers which prefixes it touches. After want of memory all is as
     /// before.
@@ -188,6 +199,35 @@ impl Entries {
     /// It asks for no tables of before, but that they differ from those after at most where the changes say. `TooMany` comes exactly
     /// where the tables are larger than `most` objects, and tells their size.
     pub fn follow_changes(
+        &mut self,
+        after: &Config,
+        changes: &[Change],
+        most: u32,
+    ) -> Result<Followed, FollowError>
+        requires { most < 2 ^ 32 - 1 }
+        ensures stands { OnOk result ((S : TablesValue) → StandsFor self.old S →
+            Differ changes.now S after.now.tables → StandsFor self.new after.now.tables) }
+        ensures touched { IfOk result (λ f. (S : TablesValue) → StandsFor self.old S →
+            Differ changes.now S after.now.tables → AreTouched S after.now.tables f.touched) }
+        ensures moved { IfOk result (λ f. (S : TablesValue) → StandsFor self.old S →
+            Differ changes.now S after.now.tables → AreMoved self.old.rows self.new.rows f.moved) }
+        ensures fits { OnOk result ((S : TablesValue) → StandsFor self.old S →
+            Differ changes.now S after.now.tables → size after.now.tables ≤ most) }
+        ensures too_many { IfErr result (λ e. (S : TablesValue) → StandsFor self.old S →
+            Differ changes.now S after.now.tables → IsTooMany (size after.now.tables) most e) }
+        ensures err { OnErr result (self.new ≡ self.old) }
+    {
+        let Some((prefix, source)) = only_route(changes) else {
+            return self.follow_anew(after, changes, most);
+        };
+        match self.follow_leaf(after.tables(), prefix, source, most)? {
+            Some(followed) => Ok(followed),
+            None => self.follow_anew(after, changes, most),
+        }
+    }
+
+    /// The same by entries made anew, which are compared with those before.
+    fn follow_anew(
         &mut self,
         after: &Config,
         changes: &[Change],

@@ -4,16 +4,21 @@
 //! `specs/inner` only carries proofs.
 #![tactic(auto)]
 
+mod apply;
 mod build;
+mod change;
 mod changes;
 mod compare;
 mod edges;
 mod entries;
 mod follow;
 mod groups;
+mod leaf;
+mod links;
 mod look;
 mod parts;
 mod ranks;
+mod replace;
 mod rows;
 mod waking;
 mod whole;

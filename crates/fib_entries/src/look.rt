@@ -14,7 +14,7 @@ pub fn is_same(p: Prefix, q: Prefix) -> bool
 }
 
 /// The place of the prefix's row.
-fn place_of(rows: &[Row], prefix: Prefix) -> Option<usize>
+pub fn place_of(rows: &[Row], prefix: Prefix) -> Option<usize>
     requires { IsAscending (map prefix_of rows.now) }
     ensures value { option_and_then (slice_get rows.now) result ≡ row_of rows.now prefix }
     ensures inside { IfSome result (λ k. k < length rows.now) }

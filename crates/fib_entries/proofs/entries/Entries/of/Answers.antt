@@ -1,4 +1,4 @@
-use Rattle.std.proofs.Common.{◌≡◌, ℕ, List, [], sym, ◌∙◌, subst, ◌↔◌}
+use Rattle.std.proofs.Common.{◌≡◌, ℕ, List, [], refl, sym, ◌∙◌, subst, ◌↔◌}
 use Rattle.std.specs.Prelude.{min, ◌^◌, ◌-◌, Contains}
 use Rattle.fib_addr.specs.Prefixes.{Prefix}
 use Rattle.fib_cover.specs.Covers.{IsAscending}
@@ -11,7 +11,9 @@ use Rattle.fib_entries.specs.declared.rows.Row.{Row}
 use Rattle.fib_entries.specs.Known.{PathKept, StandsFor}
 use Rattle.fib_entries.specs.inner.Building.{AreTaken, AreAnew}
 use Rattle.fib_entries.specs.inner.Fields.{AreFields}
+use Rattle.fib_interned.specs.Interned.{AreInterned}
 use Rattle.fib_entries.proofs.Anew.{stands_anew, all_held, in_place}
+use Rattle.fib_entries.proofs.Naming.{named_by}
 use Rattle.fib_entries.proofs.entries.Entries.of.Goals as goal
 
 taken_of : (lists : List PathKept) (S : Tables) (xs : List Pair) (ids slice : List ℕ) → xs ≡ pairs S → slice ≡ ids → AreTaken lists xs ids → AreTaken lists (pairs S) slice
@@ -28,25 +30,30 @@ pub rows_anew-requires-clause-same : goal.rows_anew-requires-clause-same
 rows_anew-requires-clause-same c =
     all_in c.in_ok-snapshot.snapshot c.as_slice-2.result.now c.in_ok-listed.listed.items c.in_ok-order.order c.entries.result.now c.as_slice-2.ensures.value c.in_ok-listed.ensures.listed c.entries.ensures c.in_ok-order.ensures
 
-fields_of : (lists : List PathKept) (S : Tables) (rows : List Row) (order listed set : List Prefix) → AreAnew lists S order rows → order ≡ listed → listed ≡ set → IsAscending set → AreFields rows lists set
-fields_of lists S rows order listed set h p l ordered =
+all_stands : (lists : List PathKept) (S T : Tables) (rows : List Row) (order listed set names : List Prefix) (ids : List ℕ) (xs : List Pair) (objects : ℕ) → S ≡ T → AreAnew lists S order rows → order ≡ listed → listed ≡ set → IsAscending set → names ≡ entries S
+    → ((e : Prefix) → Contains set e ↔ Contains names e) → xs ≡ pairs S → AreTaken lists xs ids → objects ≡ min (size S) (2 ^ 32 - 1) → IsSound S → StandsFor (record { rows = rows; lists = lists; objects = objects }) T
+all_stands lists S T rows order listed set names ids xs objects is h p l ordered n same x taken counted sound =
+    subst (StandsFor (record { rows = rows; lists = lists; objects = objects })) is
+    (stands_anew lists S order rows ids objects h (subst IsAscending (sym (p ∙ l)) ordered) (all_in S order listed set names p l n same) (subst (λ q. AreTaken lists q ids) x taken) counted sound)
+
+fields_of : (lists : List PathKept) (S : Tables) (rows : List Row) (order listed set : List Prefix) (objects : ℕ) → AreAnew lists S order rows → order ≡ listed → listed ≡ set → IsAscending set
+    → StandsFor (record { rows = rows; lists = lists; objects = objects }) S → AreInterned lists → AreFields rows lists set
+fields_of lists S rows order listed set objects h p l ordered stands apart =
     let same = in_place lists S order h.ranks [] rows h.made ∙ p ∙ l in
     record {
       held = all_held lists S order h.ranks _ rows h.made;
+      named = named_by (record { rows = rows; lists = lists; objects = objects }) S stands apart;
       ordered = subst IsAscending (sym same) ordered;
       same = sym same;
     }
 
 pub invariant_of-result : goal.invariant_of-result
 invariant_of-result c =
-    fields_of c.take_all.new.lists c.in_ok-snapshot.snapshot c.in_ok-rows.rows.items c.as_slice-2.result.now c.in_ok-listed.listed.items c.in_ok-order.order c.in_ok-rows.ensures c.as_slice-2.ensures.value
+    fields_of c.take_all.new.lists c.in_ok-snapshot.snapshot c.in_ok-rows.rows.items c.as_slice-2.result.now c.in_ok-listed.listed.items c.in_ok-order.order c.in_ok-objects.objects c.in_ok-rows.ensures c.as_slice-2.ensures.value
     c.in_ok-listed.ensures.listed c.in_ok-listed.ensures.ordered
-
-all_stands : (lists : List PathKept) (S T : Tables) (rows : List Row) (order listed set names : List Prefix) (ids : List ℕ) (xs : List Pair) (objects : ℕ) → S ≡ T → AreAnew lists S order rows → order ≡ listed → listed ≡ set → IsAscending set → names ≡ entries S
-    → ((e : Prefix) → Contains set e ↔ Contains names e) → xs ≡ pairs S → AreTaken lists xs ids → objects ≡ min (size S) (2 ^ 32 - 1) → IsSound S → StandsFor (record { rows = rows; lists = lists; objects = objects }) T
-all_stands lists S T rows order listed set names ids xs objects is h p l ordered n same x taken counted sound =
-    subst (StandsFor (record { rows = rows; lists = lists; objects = objects })) is
-    (stands_anew lists S order rows ids objects h (subst IsAscending (sym (p ∙ l)) ordered) (all_in S order listed set names p l n same) (subst (λ q. AreTaken lists q ids) x taken) counted sound)
+    (all_stands c.take_all.new.lists c.in_ok-snapshot.snapshot c.in_ok-snapshot.snapshot c.in_ok-rows.rows.items c.as_slice-2.result.now c.in_ok-listed.listed.items c.in_ok-order.order c.entries.result.now c.in_ok-ids.ids.items c.pairs.result.now
+    c.in_ok-objects.objects refl c.in_ok-rows.ensures c.as_slice-2.ensures.value c.in_ok-listed.ensures.listed c.in_ok-listed.ensures.ordered c.entries.ensures c.in_ok-order.ensures c.pairs.ensures c.in_ok-ids.ensures
+    c.in_ok-objects.ensures (subst IsSound (sym c.in_ok-snapshot.ensures) c.requires)) c.count-count.ensures.interned
 
 pub returns : goal.returns
 returns c =

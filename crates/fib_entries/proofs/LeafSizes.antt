@@ -1,0 +1,150 @@
+-- The size stays where a leaf's list is replaced by another over no interface.
+use Rattle.std.proofs.Common.{◌≡◌, ◌≢◌, ℕ, ◌+◌, Bool, true, ◌==◌, List, [], ◌∷◌, ◌++◌, length, inl, inr, refl, sym, ◌∙◌, ap, subst, ◌↔◌}
+use Rattle.std.specs.Prelude.{Contains, flat_map}
+use Rattle.std.specs.List.{list_all}
+use Rattle.std.specs.Set.{is_member, unique_keys}
+use Rattle.std.specs.Cmp.{IsEquivalence}
+use Rattle.std.proofs.lemmas.Bool.{false≢true}
+use Rattle.std.proofs.lemmas.Bool.Decides.{Decides-eqb}
+use Rattle.std.proofs.lemmas.Cmp.{nat_eq_equiv, on_equiv, and_equiv}
+use Rattle.std.proofs.lemmas.Map.Made.{length-from_same_keys}
+use Rattle.std.proofs.lemmas.Map.Views.{Contains-from_any, list_any-from_Contains}
+use Rattle.fib_list.proofs.Lists.{either, Contains-nil, Contains-flat_map}
+use Rattle.fib_list.proofs.Booleans.{and_both}
+use Rattle.fib_addr.specs.Prefixes.{Prefix, same_prefix}
+use Rattle.fib_addr.specs.Longest.{everything}
+use Rattle.fib_addr.proofs.PrefixLaws.{same_prefix-Decides, same_prefix_equiv}
+use Rattle.fib_resolve.specs.Pairs.{entries, chosen}
+use Rattle.fib_resolve.specs.Edits.{paths_at}
+use Rattle.fib_resolve.specs.Loops.{targets, kind_targets}
+use Rattle.fib_resolve.specs.Sizes.{plies, plies_of, size, kind_adjacency, adjacencies_of, adjacencies, same_adjacency}
+use Rattle.fib_resolve.specs.declared.pairs.Adjacency.{Adjacency}
+use Rattle.fib_resolve.specs.declared.types.Path.{Path}
+use Rattle.fib_resolve.specs.declared.types.PathKind.{PathKind}
+use Rattle.fib_resolve.specs.declared.types.PathKind.TheVariants as kinds
+use Rattle.fib_resolve.specs.declared.types.FibSource.{FibSource}
+use Rattle.fib_resolve.specs.declared.types.Tables.{Tables}
+use Rattle.fib_resolve.proofs.Covering.{distinct_keys, unique_in, entries_apart}
+use Rattle.fib_changes.proofs.SamePairs.{flat_map_from}
+use Rattle.fib_changes.proofs.Edits.{in_cases, in_front, in_rest}
+use Rattle.fib_entries.specs.inner.Leaf.{IsLeafEdit, is_plain, plain_kind, goal_of, goals_of}
+use Rattle.fib_entries.proofs.Leafing.{chosen_same, is_not}
+use Rattle.fib_entries.proofs.LeafRows.{entry_same, entry_own, entry_was}
+use Rattle.fib_entries.proofs.Listing.{chosen_before, chosen_after}
+
+adjacency_equiv : IsEquivalence same_adjacency
+adjacency_equiv = and_equiv (on_equiv (λ (x : Adjacency). x.interface) nat_eq_equiv) (on_equiv (λ (x : Adjacency). x.next_hop) nat_eq_equiv)
+
+adjacency_with : ℕ → ℕ → Adjacency
+adjacency_with i a = record { interface = i; next_hop = a }
+
+adjacency_is : (x y : Adjacency) → same_adjacency x y ≡ true → x ≡ y
+unfolding adjacency_with
+adjacency_is x y h = let both = and_both (x.interface == y.interface) (x.next_hop == y.next_hop) h in
+    ap (λ i. adjacency_with i x.next_hop) ((Decides-eqb x.interface y.interface).0 both.0) ∙ ap (adjacency_with y.interface) ((Decides-eqb x.next_hop y.next_hop).0 both.1)
+
+module _ {X : Type 0} (eq : X → X → Bool) (laws : IsEquivalence eq) (exact : (x y : X) → eq x y ≡ true → x ≡ y) where
+  member_same : (xs ys : List X) → ((z : X) → Contains xs z ↔ Contains ys z) → (q : X) → is_member eq xs q ≡ is_member eq ys q
+  member_same xs ys same q = elim (either (is_member eq xs q)) [
+    | inl is ↦ is ∙ sym (list_any-from_Contains laws q ys ((same q).0 (Contains-from_any exact q xs is)))
+    | inr isnt ↦ elim (either (is_member eq ys q)) [
+      | inl there ↦ absurd (false≢true (sym isnt ∙ list_any-from_Contains laws q xs ((same q).1 (Contains-from_any exact q ys there))))
+      | inr neither ↦ isnt ∙ sym neither
+    ]
+  ]
+
+  -- each of what both list stands once in both
+  pub lengths_same : (xs ys : List X) → ((z : X) → Contains xs z ↔ Contains ys z) → length (unique_keys eq xs) ≡ length (unique_keys eq ys)
+  lengths_same xs ys same =
+      length-from_same_keys laws (unique_keys eq xs) (unique_keys eq ys) (distinct_keys eq laws xs) (distinct_keys eq laws ys)
+      (member_same (unique_keys eq xs) (unique_keys eq ys) (λ z. (
+        λ c. (unique_in eq laws exact ys z).0 ((same z).0 ((unique_in eq laws exact xs z).1 c)),
+        λ c. (unique_in eq laws exact xs z).0 ((same z).1 ((unique_in eq laws exact ys z).1 c)),
+      )))
+
+pub each_plain : (paths : List Path) (q : Path) → list_all is_plain paths ≡ true → Contains paths q → is_plain q ≡ true
+each_plain [] q h c = absurd (Contains-nil q c)
+each_plain (x ∷ xs) q h c = let both = and_both (is_plain x) (list_all is_plain xs) h in
+    elim (in_cases x q xs c) [ inl is ↦ subst (λ z. is_plain z ≡ true) is both.0 | inr later ↦ each_plain xs q both.1 later ]
+
+pub plain_by : (q : Path) → is_plain q ≡ true → plain_kind q.kind ≡ true
+plain_by q h = (and_both (plain_kind q.kind) _ h).0
+
+no_adjacency : (e : Prefix) (k : PathKind) (z : Adjacency) → plain_kind k ≡ true → Contains (kind_adjacency e k) z → ⊥
+no_adjacency e kinds.Drop z h c = Contains-nil z c
+no_adjacency e kinds.Local z h c = Contains-nil z c
+no_adjacency e (kinds.Attached i) z h c = false≢true h
+no_adjacency e (kinds.Hop a i) z h c = false≢true h
+no_adjacency e (kinds.Recursive a) z h c = Contains-nil z c
+no_adjacency e kinds.Cover z h c = false≢true h
+
+goal_kind : (U : Tables) (e : Prefix) (k : PathKind) → plain_kind k ≡ true → kind_targets U e k ≡ goal_of k
+goal_kind U e kinds.Drop h = refl
+goal_kind U e kinds.Local h = refl
+goal_kind U e (kinds.Attached i) h = refl
+goal_kind U e (kinds.Hop a i) h = refl
+goal_kind U e (kinds.Recursive a) h = refl
+goal_kind U e kinds.Cover h = absurd (false≢true h)
+
+plain_goals : (U : Tables) (e : Prefix) (paths : List Path) → list_all is_plain paths ≡ true → flat_map (λ q. kind_targets U e q.kind) paths ≡ goals_of paths
+plain_goals U e [] h = refl
+plain_goals U e (x ∷ xs) h = let both = and_both (is_plain x) (list_all is_plain xs) h in
+    ap (λ l. l ++ flat_map (λ q. kind_targets U e q.kind) xs) (goal_kind U e x.kind (plain_by x both.0)) ∙ ap (λ l. goal_of x.kind ++ l) (plain_goals U e xs both.1)
+
+-- the targets of plain paths
+pub plain_targets : (U : Tables) (e : Prefix) (paths : List Path) → chosen U e ≡ paths → list_all is_plain paths ≡ true → targets U e ≡ goals_of paths
+unfolding targets
+plain_targets U e paths is h = ap (flat_map (λ q. kind_targets U e q.kind)) is ∙ plain_goals U e paths h
+
+module _ (S T : Tables) (p : Prefix) (source : FibSource) (h : IsLeafEdit S T p source) (was : paths_at p source S.routes ≢ []) (is : paths_at p source T.routes ≢ [])
+    (plain_before : list_all is_plain (paths_at p source S.routes) ≡ true) (plain_after : list_all is_plain (paths_at p source T.routes) ≡ true) where
+  same_entries : (e : Prefix) → Contains (entries S) e ↔ Contains (entries T) e
+  same_entries e = elim (either (same_prefix p e)) [
+    | inl own ↦ subst (λ z. Contains (entries S) z ↔ Contains (entries T) z) ((same_prefix-Decides p e).0 own)
+        (λ c. (entry_own S T p source h).1 is, λ c. entry_was S T p source h was)
+    | inr off ↦ entry_same S T p source h e (is_not p e off)
+  ]
+
+  none_at : (U : Tables) → chosen U p ≡ paths_at p source U.routes → list_all is_plain (paths_at p source U.routes) ≡ true → (z : Adjacency) → Contains (adjacencies_of U p) z → ⊥
+  none_at U chose plain z c =
+      let r = flat_map_from (λ q. kind_adjacency p q.kind) (chosen U p) z c in
+      no_adjacency p r.0.kind z (plain_by r.0 (each_plain (paths_at p source U.routes) r.0 plain (subst (λ l. Contains l r.0) chose r.1))) r.2
+
+  ends_half : (z : Adjacency) → Contains (flat_map (adjacencies_of S) (entries S)) z → Contains (flat_map (adjacencies_of T) (entries T)) z
+  ends_half z c =
+      let r = flat_map_from (adjacencies_of S) (entries S) z c in
+      elim (either (same_prefix p r.0)) [
+        | inl own ↦ absurd (none_at S (chosen_before S T p source h) plain_before z (subst (λ e. Contains (adjacencies_of S e) z) (sym ((same_prefix-Decides p r.0).0 own)) r.2))
+        | inr off ↦ Contains-flat_map (adjacencies_of T) (entries T) r.0 z ((same_entries r.0).0 r.1) (subst (λ l. Contains (flat_map (λ q. kind_adjacency r.0 q.kind) l) z) (chosen_same S T p source h r.0 (is_not p r.0 off)) r.2)
+      ]
+
+  ends_back : (z : Adjacency) → Contains (flat_map (adjacencies_of T) (entries T)) z → Contains (flat_map (adjacencies_of S) (entries S)) z
+  ends_back z c =
+      let r = flat_map_from (adjacencies_of T) (entries T) z c in
+      elim (either (same_prefix p r.0)) [
+        | inl own ↦ absurd (none_at T (chosen_after S T p source h) plain_after z (subst (λ e. Contains (adjacencies_of T e) z) (sym ((same_prefix-Decides p r.0).0 own)) r.2))
+        | inr off ↦ Contains-flat_map (adjacencies_of S) (entries S) r.0 z ((same_entries r.0).1 r.1) (subst (λ l. Contains (flat_map (λ q. kind_adjacency r.0 q.kind) l) z) (sym (chosen_same S T p source h r.0 (is_not p r.0 off))) r.2)
+      ]
+
+  ends_same : length (adjacencies S) ≡ length (adjacencies T)
+  unfolding adjacencies
+  ends_same = lengths_same same_adjacency adjacency_equiv adjacency_is (flat_map (adjacencies_of S) (entries S)) (flat_map (adjacencies_of T) (entries T)) (λ z. (ends_half z, ends_back z))
+
+  plies_half : (U V : Tables) → ((e : Prefix) → Contains (entries U) e → Contains (entries V) e) → (z : Prefix) → Contains (everything ∷ flat_map plies_of (entries U)) z → Contains (everything ∷ flat_map plies_of (entries V)) z
+  plies_half U V f z c = elim (in_cases everything z (flat_map plies_of (entries U)) c) [
+    | inl first ↦ in_front everything z (flat_map plies_of (entries V)) first
+    | inr later ↦ (let r = flat_map_from plies_of (entries U) z later in in_rest everything z (flat_map plies_of (entries V)) (Contains-flat_map plies_of (entries V) r.0 z (f r.0 r.1) r.2))
+  ]
+
+  plies_same : length (plies S) ≡ length (plies T)
+  unfolding plies
+  plies_same = lengths_same same_prefix same_prefix_equiv (λ x y. (same_prefix-Decides x y).0) (everything ∷ flat_map plies_of (entries S)) (everything ∷ flat_map plies_of (entries T))
+      (λ z. (plies_half S T (λ e. (same_entries e).0) z, plies_half T S (λ e. (same_entries e).1) z))
+
+  entries_count : length (entries S) ≡ length (entries T)
+  entries_count = length-from_same_keys same_prefix_equiv (entries S) (entries T) (entries_apart S) (entries_apart T) (member_same same_prefix same_prefix_equiv (λ x y. (same_prefix-Decides x y).0) (entries S) (entries T) same_entries)
+
+  pub size_same : size S ≡ size T
+  unfolding size
+  size_same = (let a = plies_same in let b = entries_count in let c = ends_same in
+      ap (λ n. n + length (entries S) + length (adjacencies S)) a ∙ (ap (λ n. length (plies T) + n + length (adjacencies S)) b ∙ ap (λ n. length (plies T) + length (entries T) + n) c))

@@ -1,0 +1,18 @@
+use Rattle.std.proofs.Common.{sym, ◌∙◌}
+use Rattle.fib_entries.specs.Known.{prefix_of}
+use Rattle.fib_entries.proofs.Looking.{at_place}
+use Rattle.fib_entries.proofs.Standing.{row_there}
+use Rattle.fib_entries.proofs.leaf.leaf_place.Goals as goal
+
+pub returns-clause-leaf : goal.returns-clause-leaf
+returns-clause-leaf c =
+    let r = at_place prefix_of c.args.rows.now c.in-Some.place c.in-Some.ensures.inside in
+    record {
+      row = r.0;
+      at = r.1;
+      own = sym (row_there c.args.rows.now c.args.p r.0 (sym c.in-Some.ensures.value ∙ r.1)).1;
+      prefix = c.is_short.ensures.prefix;
+      short = c.is_short.ensures.short c.if-not-is_short.false;
+      written = c.is_written.ensures c.if-not-is_written.false;
+      leaf = c.is_leaf.ensures c.if-not-is_leaf.false r.0 r.1;
+    }

@@ -1,0 +1,30 @@
+use Rattle.std.proofs.Common.{[], ◌∷◌, refl, sym, ap, ◌∙◌, subst}
+use Rattle.std.specs.Set.{is_member}
+use Rattle.std.proofs.lemmas.Option.{slice_get_read}
+use Rattle.fib_addr.specs.Prefixes.{same_prefix}
+use Rattle.fib_entries.specs.inner.Leaf.{AreAttached}
+use Rattle.fib_entries.proofs.Linking.{attached_none, attached_absent, attached_before, no_row_at, member_in}
+use Rattle.fib_entries.proofs.Standing.{row_there}
+use Rattle.fib_entries.proofs.links.place_to.Goals as goal
+
+pub returns-in_default-clause-none : goal.returns-in_default-clause-none
+returns-in_default-clause-none c = subst (λ g. AreAttached c.args.p g c.args.rows.now c.args.rows.now) c.in_default.ensures (attached_none c.args.p c.args.rows.now)
+
+pub returns-in_default-place_of-clause-none : goal.returns-in_default-place_of-clause-none
+returns-in_default-place_of-clause-none c =
+    subst (λ g. AreAttached c.args.p g c.args.rows.now c.args.rows.now) c.in-Some.ensures
+    (attached_absent c.args.p c.args.rows.now c.in-Some.goal (no_row_at c.args.rows.now c.in-Some.goal c.in_default-place_of.ensures.value))
+
+pub returns-then-has-clause-none : goal.returns-then-has-clause-none
+returns-then-has-clause-none c =
+    let at = slice_get_read c.args.rows.now _ c.in-Some-place_of.place c.index-rows-place.result refl c.in-Some-place_of.ensures.inside c.index-rows-place.is in
+    let own = (row_there c.args.rows.now c.in-Some.goal c.index-rows-place.result (sym c.in-Some-place_of.ensures.value ∙ at)).1 in
+    let there = member_in c.index-rows-place.result.dependants c.args.p (ap (λ z. is_member same_prefix z.dependants c.args.p) c.index-rows-place.is ∙ (ap (λ l. is_member same_prefix l c.args.p) (sym c.as_slice.ensures) ∙ (sym c.has.ensures ∙ c.if-has.true))) in
+    subst (λ g. AreAttached c.args.p g c.args.rows.now c.args.rows.now) (ap (λ z. z ∷ []) (sym own) ∙ c.in-Some.ensures)
+    (attached_before c.args.p c.args.rows.now c.requires c.in-Some-place_of.place c.index-rows-place.result at there)
+
+pub returns-clause-there : goal.returns-clause-there
+returns-clause-there c =
+    let at = slice_get_read c.args.rows.now _ c.in-Some-place_of.place c.index-rows-place.result refl c.in-Some-place_of.ensures.inside c.index-rows-place.is in
+    let own = (row_there c.args.rows.now c.in-Some.goal c.index-rows-place.result (sym c.in-Some-place_of.ensures.value ∙ at)).1 in
+    (c.index-rows-place.result, at, sym c.in-Some.ensures ∙ ap (λ z. z ∷ []) own, ap (λ z. is_member same_prefix z.dependants c.args.p) c.index-rows-place.is ∙ (ap (λ l. is_member same_prefix l c.args.p) (sym c.as_slice.ensures) ∙ (sym c.has.ensures ∙ c.if-has.false)))

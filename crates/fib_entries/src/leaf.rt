@@ -1,0 +1,315 @@
+// A route of a prefix that nothing leads to, and in which nothing lies: what it takes to see that, and what its row gets.
+ghost use Rattle.std.specs.Prelude.{◌≡◌, ◌↔◌, ◌⊎◌, ◌+◌, ◌∷◌, [], ◌≤◌, ◌<◌, ◌^◌, true, false, IsTrue, IfOk, IfSome, Some, map, length, slice_get, Contains, List as Items};
+ghost use Rattle.fib_resolve.specs.declared.types.Path.{Path as PathValue};
+ghost use Rattle.fib_entries.specs.inner.Building.{AreHeld};
+ghost use Rattle.std.specs.List.{list_all, list_any};
+ghost use Rattle.fib_addr.specs.Prefixes.{Prefix as PrefixValue, IsPrefix, contains};
+ghost use Rattle.fib_cover.specs.Covers.{IsAscending};
+ghost use Rattle.fib_resolve.specs.Edits.{paths_at};
+ghost use Rattle.fib_resolve.specs.Tables.{is_route};
+ghost use Rattle.fib_resolve.specs.Keys.{source_rank};
+ghost use Rattle.fib_entries.specs.declared.rows.Row.{Row as RowValue};
+ghost use Rattle.fib_resolve.specs.declared.types.Neighbor.{Neighbor as NeighborValue};
+ghost use Rattle.fib_entries.specs.Known.{prefix_of, row_of, rank_of};
+ghost use Rattle.fib_entries.specs.inner.Leaf.{is_plain, plain_aim, plain_mark, goal_of, goals_of, has_other, shared_kind, shared_path, IsLeaf, IsLeafAt, IsReady};
+
+use crate::look::{is_same, place_of, row};
+use crate::rows::Row;
+use fib_addr::Prefix;
+use fib_list::List;
+use fib_paths::{PathListId, PathLists};
+use fib_resolve::{Aim, End, FibSource, Marked, Neighbor, Path, PathKind, Route, Tables, keys};
+use std::alloc::{AllocError, Global};
+
+fn is_route(prefix: Prefix, source: FibSource, r: &Route) -> bool
+    ensures { result ≡ is_route prefix source r.now }
+{
+    r.prefix == prefix && keys::is_same_source(r.source, source)
+}
+
+/// The list of the route of that prefix and source; empty where there is none.
+pub fn paths_at<'a>(prefix: Prefix, source: FibSource, routes: &'a [Route]) -> &'a [Path]
+    ensures { result.now ≡ paths_at prefix source routes.now }
+{
+    for r in routes {
+        if is_route(prefix, source, r) {
+            return r.paths.as_slice();
+        }
+    }
+    &[]
+}
+
+/// Whether the path is over no interface and needs nothing.
+fn is_plain(path: &Path) -> bool
+    ensures { result ≡ is_plain path.now }
+{
+    let is_kind = match path.kind {
+        PathKind::Drop | PathKind::Local | PathKind::Recursive(_) => true,
+        PathKind::Attached(_) | PathKind::Hop { .. } | PathKind::Cover => false,
+    };
+    is_kind && path.need.rank() == 0
+}
+
+/// Whether all are.
+pub fn are_plain(paths: &[Path]) -> bool
+    ensures { result ≡ list_all is_plain paths.now }
+{
+    paths.iter().all(|path| is_plain(path))
+}
+
+/// Whether the neighbor's address lies outside the prefix.
+fn is_far(p: Prefix, n: &Neighbor) -> bool
+    ensures value { IsTrue result → contains p n.now.addr ≡ false }
+    ensures small { n.now.addr < 2 ^ 32 }
+{
+    // Read so that the proof knows its range.
+    let _number = n.addr.0;
+    !p.contains(n.addr)
+}
+
+/// Whether no neighbor lies in the prefix.
+pub fn are_far(p: Prefix, neighbors: &[Neighbor]) -> bool
+    ensures { IsTrue result → (n : NeighborValue) → Contains neighbors.now n → (n.addr < 2 ^ 32) × (contains p n.addr ≡ false) }
+{
+    for n in neighbors {
+        if !is_far(p, n) {
+            return false;
+        }
+    }
+    true
+}
+
+/// Whether another entry than that has an edge to the row's.
+fn has_other(r: &Row, p: Prefix) -> bool
+    ensures { result ≡ has_other p (Some r.now) }
+{
+    r.dependants.as_slice().iter().any(|d| !is_same(p, *d))
+}
+
+/// Whether another has an edge to the entry of the path's next hop, where it has one.
+fn is_shared(rows: &[Row], p: Prefix, path: &Path) -> bool
+    requires { IsAscending (map prefix_of rows.now) }
+    ensures { result ≡ shared_kind rows.now p path.now.kind }
+{
+    match path.kind {
+        PathKind::Recursive(a) => match row(rows, Prefix::host(a)) {
+            Some(r) => has_other(r, p),
+            None => false,
+        },
+        _ => true,
+    }
+}
+
+/// Whether that is so of all.
+pub fn are_shared(rows: &[Row], p: Prefix, paths: &[Path]) -> bool
+    requires { IsAscending (map prefix_of rows.now) }
+    ensures { result ≡ list_all (shared_path rows.now p) paths.now }
+{
+    paths.iter().all(|path| is_shared(rows, p, path))
+}
+
+/// The rank of the entry of the path's next hop; 0 where there is none.
+fn rank_to(rows: &[Row], path: &Path) -> u32
+    requires { IsAscending (map prefix_of rows.now) }
+    ensures { (t : PrefixValue) → Contains (goal_of path.now.kind) t → rank_of rows.now t ≤ result }
+{
+    match path.kind {
+        PathKind::Recursive(a) => match row(rows, Prefix::host(a)) {
+            Some(r) => r.rank,
+            None => 0,
+        },
+        _ => 0,
+    }
+}
+
+/// No rank of an entry of the paths' next hops is greater.
+pub fn top_rank(rows: &[Row], paths: &[Path]) -> u32
+    requires { IsAscending (map prefix_of rows.now) }
+    ensures { (t : PrefixValue) → Contains (goals_of paths.now) t → rank_of rows.now t ≤ result }
+{
+    match paths {
+        [path, paths @ ..] => {
+            let here = rank_to(rows, path);
+            let later = top_rank(rows, paths);
+            if here < later { later } else { here }
+        }
+        [] => 0,
+    }
+}
+
+fn plain_aim(path: &Path) -> Aim
+    ensures { result ≡ plain_aim path.now.kind }
+{
+    match path.kind {
+        PathKind::Local => Aim::Ends(End::Receive),
+        PathKind::Recursive(a) => Aim::On(Prefix::host(a)),
+        _ => Aim::Ends(End::Drop),
+    }
+}
+
+fn plain_mark(path: &Path) -> Marked
+    ensures { result ≡ plain_mark path.now }
+{
+    Marked {
+        aim: plain_aim(path),
+        counts: matches!(path.kind, PathKind::Local | PathKind::Recursive(_)),
+        weight: path.weight,
+        preference: path.preference,
+    }
+}
+
+fn marks(alloc: Global, paths: &[Path]) -> Result<Vec<Marked>, AllocError>
+    ensures { IfOk result (λ v. v.items ≡ map plain_mark paths.now) }
+{
+    paths.iter().map(|path| plain_mark(path)).collect(alloc)
+}
+
+/// What the paths are for, where they are plain and aren't looped.
+pub fn plain_marks(alloc: Global, paths: &[Path]) -> Result<List<Marked>, AllocError>
+    ensures { IfOk result (λ v. v ≡ map plain_mark paths.now) }
+{
+    let marks = marks(alloc, paths)?;
+    Ok(List::from_vec(marks))
+}
+
+fn bit_vec(alloc: Global, paths: &[Path], bit: bool) -> Result<Vec<bool>, AllocError>
+    ensures { IfOk result (λ v. v.items ≡ map (λ _. bit) paths.now) }
+{
+    paths.iter().map(|_| bit).collect(alloc)
+}
+
+/// The same bit for each path.
+pub fn bits(alloc: Global, paths: &[Path], bit: bool) -> Result<List<bool>, AllocError>
+    ensures { IfOk result (λ v. v ≡ map (λ _. bit) paths.now) }
+{
+    let bits = bit_vec(alloc, paths, bit)?;
+    Ok(List::from_vec(bits))
+}
+
+/// Whether routes are written with that source.
+fn is_written(source: FibSource) -> bool
+    ensures { IsTrue result → (source_rank source ≡ 2) ⊎ (source_rank source ≡ 3) }
+{
+    match source {
+        FibSource::Api | FibSource::Cli => true,
+        _ => false,
+    }
+}
+
+/// Whether the prefix is shorter than a host.
+fn is_short(p: Prefix) -> bool
+    ensures short { IsTrue result → p.len < 32 }
+    ensures prefix { IsPrefix p }
+{
+    p.len() < 32
+}
+
+/// Whether the row after that place, if there is one, begins outside the prefix.
+fn is_last_in(rows: &[Row], place: usize, p: Prefix) -> bool
+    requires { place < length rows.now }
+    ensures { IsTrue result → (s : RowValue) → slice_get rows.now (place + 1) ≡ Some s → contains p s.prefix.bits ≡ false }
+{
+    match rows.get(place + 1) {
+        Some(s) => !p.contains(s.prefix.bits()),
+        None => true,
+    }
+}
+
+/// The number of the row's list, where it is the only one and of that source.
+pub fn only_list(r: &Row, source: FibSource) -> Option<PathListId>
+    ensures { IfSome result (λ id. r.now.pairs ≡ (source, id) ∷ []) }
+{
+    match r.pairs.as_slice() {
+        [pair] => match keys::is_same_source(pair.0, source) {
+            true => Some(pair.1),
+            false => None,
+        },
+        _ => None,
+    }
+}
+
+/// Whether the paths are plain, and others lead to the entries of their next hops too.
+pub fn suits(rows: &[Row], p: Prefix, paths: &[Path]) -> bool
+    requires { IsAscending (map prefix_of rows.now) }
+    ensures { IsTrue result → (list_all is_plain paths.now ≡ true) × (list_all (shared_path rows.now p) paths.now ≡ true) }
+{
+    are_plain(paths) && are_shared(rows, p, paths)
+}
+
+/// Whether nothing leads to the row at that place, and nothing lies in its prefix.
+fn is_leaf(rows: &[Row], neighbors: &[Neighbor], place: usize, p: Prefix) -> bool
+    requires { place < length rows.now }
+    ensures { IsTrue result → (r : RowValue) → slice_get rows.now place ≡ Some r → IsLeaf rows.now neighbors.now place p r }
+{
+    if !rows[place].dependants.is_empty() {
+        return false;
+    }
+    if !is_last_in(rows, place, p) {
+        return false;
+    }
+    are_far(p, neighbors)
+}
+
+/// The place of the prefix's row, where nothing leads to it and nothing lies in its prefix.
+pub fn leaf_place(
+    rows: &[Row],
+    neighbors: &[Neighbor],
+    p: Prefix,
+    source: FibSource,
+) -> Option<usize>
+    requires { IsAscending (map prefix_of rows.now) }
+    ensures leaf { IfSome result (λ place. IsLeafAt rows.now neighbors.now place p source) }
+    ensures inside { IfSome result (λ place. place < length rows.now) }
+{
+    if !is_written(source) {
+        return None;
+    }
+    if !is_short(p) {
+        return None;
+    }
+    let Some(place) = place_of(rows, p) else {
+        return None;
+    };
+    if !is_leaf(rows, neighbors, place, p) {
+        return None;
+    }
+    Some(place)
+}
+
+/// Whether there is no path.
+fn is_none(paths: &[Path]) -> bool
+    ensures { IsTrue result ↔ (paths.now ≡ []) }
+{
+    paths.is_empty()
+}
+
+/// The place of the prefix's row and the number of its list, where the change of its route of that source touches that row alone.
+pub fn ready(
+    rows: &[Row],
+    lists: &PathLists,
+    tables: &Tables,
+    p: Prefix,
+    source: FibSource,
+) -> Option<(usize, PathListId)>
+    requires ascending { IsAscending (map prefix_of rows.now) }
+    requires held { AreHeld rows.now lists.now }
+    ensures { IfSome result (λ x. (old : Items PathValue) × IsReady rows.now lists.now tables.now p source x.0 x.1 old) }
+{
+    let Some(place) = leaf_place(rows, tables.neighbors.as_slice(), p, source) else {
+        return None;
+    };
+    let Some(id) = only_list(&rows[place], source) else {
+        return None;
+    };
+    let new = paths_at(p, source, tables.routes.as_slice());
+    if is_none(new) {
+        return None;
+    }
+    if !suits(rows, p, new) {
+        return None;
+    }
+    if !suits(rows, p, lists.content(id)) {
+        return None;
+    }
+    Some((place, id))
+}

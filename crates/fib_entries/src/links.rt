@@ -1,0 +1,220 @@
+// Dependants of the next hops of one prefix's list, as the list changes.
+ghost use Rattle.std.specs.Prelude.{false, ◌≡◌, ◌<◌, ◌-◌, ◌^◌, ◌∷◌, [], option_to_list, IfOk, OnOk, OnErr, IfSome, IfNone, Some, map, length, slice_get, slice_set, flat_map, not, filter, Contains, List as Items};
+ghost use Rattle.std.specs.Set.{is_member};
+ghost use Rattle.std.specs.List.{list_any};
+ghost use Rattle.fib_addr.specs.Prefixes.{same_prefix, Prefix as PrefixValue};
+ghost use Rattle.fib_cover.specs.Covers.{IsAscending};
+ghost use Rattle.fib_interned.specs.Interned.{AreInterned, Takes};
+ghost use Rattle.fib_paths.specs.PathLists.{IsUsedLess};
+ghost use Rattle.fib_entries.specs.Known.{prefix_of, row_of};
+ghost use Rattle.fib_entries.specs.declared.rows.Row.{Row as RowValue};
+ghost use Rattle.fib_entries.specs.inner.Leaf.{goal_of, goals_of, pushed, popped, lacking, with_dependants, AreAttached, AreDetached, IsLinked, IsToLink, IsToUnlink};
+
+use crate::look::{is_same, place_of};
+use crate::rows::Row;
+use fib_addr::Prefix;
+use fib_list::List;
+use fib_paths::{PathListId, PathLists};
+use fib_resolve::{Path, PathKind};
+use std::alloc::{AllocError, Global};
+use std::mem;
+
+/// The entry of the path's next hop.
+pub fn goal_of(path: &Path) -> Option<Prefix>
+    ensures { option_to_list result ≡ goal_of path.now.kind }
+{
+    match path.kind {
+        PathKind::Recursive(a) => Some(Prefix::host(a)),
+        _ => None,
+    }
+}
+
+/// Whether the next hop of one of the paths is that entry.
+fn leads_to(paths: &[Path], p: Prefix) -> bool
+    ensures { result ≡ list_any (λ q. is_member same_prefix (goal_of q.kind) p) paths.now }
+{
+    paths.iter().any(|path| is_goal(path, p))
+}
+
+fn is_goal(path: &Path, p: Prefix) -> bool
+    ensures { result ≡ is_member same_prefix (goal_of path.now.kind) p }
+{
+    match path.kind {
+        PathKind::Recursive(a) => is_same(p, Prefix::host(a)),
+        _ => false,
+    }
+}
+
+/// Whether the prefix is among them.
+fn has(list: &[Prefix], p: Prefix) -> bool
+    ensures { result ≡ is_member same_prefix list.now p }
+{
+    list.iter().any(|d| is_same(p, *d))
+}
+
+/// Takes the list out of its place, which then has the empty one.
+fn taken(alloc: Global, list: &mut List<Prefix>) -> Vec<Prefix>
+    ensures taken { result.items ≡ list.old }
+    ensures left { list.new ≡ [] }
+{
+    mem::replace(list, List::new(alloc)).into_vec()
+}
+
+/// The prefix becomes the last dependant of the row at that place.
+fn push_at(rows: &mut Vec<Row>, place: usize, p: Prefix) -> Result<(), AllocError>
+    requires { place < length rows.old.items }
+    ensures ok { OnOk result ((r : RowValue) → slice_get rows.old.items place ≡ Some r → rows.new.items ≡ slice_set rows.old.items place (pushed p r)) }
+    ensures err { OnErr result (rows.new.items ≡ rows.old.items) }
+{
+    rows[place].dependants.push(p)?;
+    Ok(())
+}
+
+/// The last dependant of the row at that place goes.
+fn pop_at(alloc: Global, rows: &mut Vec<Row>, place: usize)
+    requires { place < length rows.old.items }
+    ensures { (r : RowValue) → slice_get rows.old.items place ≡ Some r → rows.new.items ≡ slice_set rows.old.items place (popped r) }
+{
+    let row = &mut rows[place];
+    let mut items = taken(alloc, &mut row.dependants);
+    let left = items.len().saturating_sub(1);
+    items.truncate(left);
+    row.dependants = List::from_vec(items);
+}
+
+/// Those of the prefixes that are others.
+fn without(items: &mut Vec<Prefix>, p: Prefix)
+    ensures { items.new.items ≡ filter (λ d. not (same_prefix p d)) items.old.items }
+{
+    items.retain(|d| !is_same(p, *d));
+}
+
+/// The prefix goes from the dependants of the row at that place.
+fn remove_at(alloc: Global, rows: &mut Vec<Row>, place: usize, p: Prefix)
+    requires { place < length rows.old.items }
+    ensures { (r : RowValue) → slice_get rows.old.items place ≡ Some r → rows.new.items ≡ slice_set rows.old.items place (lacking p r) }
+{
+    let row = &mut rows[place];
+    let mut items = taken(alloc, &mut row.dependants);
+    without(&mut items, p);
+    row.dependants = List::from_vec(items);
+}
+
+/// The place of the row of the path's next hop, where that lacks the prefix among its dependants.
+fn place_to(rows: &[Row], p: Prefix, path: &Path) -> Option<usize>
+    requires { IsAscending (map prefix_of rows.now) }
+    ensures there { IfSome result (λ k. IsToLink k p path.now.kind rows.now) }
+    ensures none { IfNone result (AreAttached p (goal_of path.now.kind) rows.now rows.now) }
+{
+    let Some(goal) = goal_of(path) else {
+        return None;
+    };
+    let Some(place) = place_of(rows, goal) else {
+        return None;
+    };
+    if has(rows[place].dependants.as_slice(), p) {
+        return None;
+    }
+    Some(place)
+}
+
+/// The prefix becomes a dependant of the row of the path's next hop, at that place.
+fn link(rows: &mut Vec<Row>, place: usize, p: Prefix, path: &Path) -> Result<(), AllocError>
+    requires ascending { IsAscending (map prefix_of rows.old.items) }
+    requires there { IsToLink place p path.now.kind rows.old.items }
+    ensures ascending { OnOk result (IsAscending (map prefix_of rows.new.items)) }
+    ensures attached { OnOk result (AreAttached p (goal_of path.now.kind) rows.old.items rows.new.items) }
+    ensures back { OnOk result (IsLinked place p rows.old.items rows.new.items) }
+    ensures err { OnErr result (rows.new.items ≡ rows.old.items) }
+{
+    let _path = path;
+    push_at(rows, place, p)
+}
+
+/// The prefix that was pushed at that place goes.
+fn unlink(alloc: Global, rows: &mut Vec<Row>, place: usize)
+    requires { (p : PrefixValue) × (before : Items RowValue) × IsLinked place p before rows.old.items }
+    ensures { (p : PrefixValue) (before : Items RowValue) → IsLinked place p before rows.old.items → rows.new.items ≡ before }
+{
+    pop_at(alloc, rows, place);
+}
+
+/// Makes the prefix a dependant of the rows of the paths' next hops, and gives the content a user more. After want of memory all is as
+/// before.
+pub fn attach(
+    alloc: Global,
+    rows: &mut Vec<Row>,
+    lists: &mut PathLists,
+    p: Prefix,
+    left: &[Path],
+    content: &[Path],
+) -> Result<PathListId, AllocError>
+    requires ascending { IsAscending (map prefix_of rows.old.items) }
+    requires room { IsUsedLess lists.old content.now (2 ^ 32 - 1) }
+    ensures attached { OnOk result (AreAttached p (goals_of left.now) rows.old.items rows.new.items) }
+    ensures taken { IfOk result (λ id. Takes lists.old lists.new content.now id) }
+    ensures interned { OnOk result (AreInterned lists.new) }
+    ensures rows { OnErr result (rows.new.items ≡ rows.old.items) }
+    ensures lists { OnErr result (lists.new ≡ lists.old) }
+{
+    match left {
+        [path, left @ ..] => match place_to(rows.as_slice(), p, path) {
+            Some(place) => {
+                link(rows, place, p, path)?;
+                match attach(alloc, rows, lists, p, left, content) {
+                    Ok(id) => Ok(id),
+                    Err(e) => {
+                        unlink(alloc, rows, place);
+                        Err(e)
+                    }
+                }
+            }
+            None => attach(alloc, rows, lists, p, left, content),
+        },
+        [] => lists.take(content),
+    }
+}
+
+/// The place of the row of the path's next hop, where that is none of the kept paths'.
+fn place_from(rows: &[Row], path: &Path, kept: &[Path]) -> Option<usize>
+    requires { IsAscending (map prefix_of rows.now) }
+    ensures there { IfSome result (λ k. IsToUnlink k (goals_of kept.now) path.now.kind rows.now) }
+    ensures none { IfNone result ((p : PrefixValue) → AreDetached p (goal_of path.now.kind) (goals_of kept.now) rows.now rows.now) }
+{
+    let Some(goal) = goal_of(path) else {
+        return None;
+    };
+    if leads_to(kept, goal) {
+        return None;
+    }
+    match place_of(rows, goal) {
+        Some(place) => Some(place),
+        None => None,
+    }
+}
+
+/// Takes the prefix from the dependants of the row of the path's next hop, unless that is one of the kept paths'.
+fn detach_one(alloc: Global, rows: &mut Vec<Row>, p: Prefix, path: &Path, kept: &[Path])
+    requires { IsAscending (map prefix_of rows.old.items) }
+    ensures ascending { IsAscending (map prefix_of rows.new.items) }
+    ensures detached { AreDetached p (goal_of path.now.kind) (goals_of kept.now) rows.old.items rows.new.items }
+{
+    match place_from(rows.as_slice(), path, kept) {
+        Some(place) => remove_at(alloc, rows, place, p),
+        None => {}
+    }
+}
+
+/// Takes the prefix from the dependants of the rows of the paths' next hops, but for those of the kept paths. Takes no memory.
+pub fn detach(alloc: Global, rows: &mut Vec<Row>, p: Prefix, left: &[Path], kept: &[Path])
+    requires { IsAscending (map prefix_of rows.old.items) }
+    ensures { AreDetached p (goals_of left.now) (goals_of kept.now) rows.old.items rows.new.items }
+{
+    match left {
+        [path, left @ ..] => {
+            detach_one(alloc, rows, p, path, kept);
+            detach(alloc, rows, p, left, kept);
+        }
+        [] => {}
+    }
+}
