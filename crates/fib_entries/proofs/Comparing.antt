@@ -47,13 +47,13 @@ use Rattle.fib_entries.proofs.Taking.{list_is, list_self}
 use Rattle.fib_entries.proofs.Standing.{row_there, row_entry, no_entry}
 
 -- booleans
-same_bits : (b c : Bool) → differ b c ≡ false → b ≡ c
+pub same_bits : (b c : Bool) → differ b c ≡ false → b ≡ c
 same_bits true true h = refl
 same_bits true false h = absurd (false≢true (sym h))
 same_bits false true h = absurd (false≢true (sym h))
 same_bits false false h = refl
 
-differ_not : (b c : Bool) → b ≡ c → differ b c ≡ false
+pub differ_not : (b c : Bool) → b ≡ c → differ b c ≡ false
 differ_not true true e = refl
 differ_not true false e = absurd (false≢true (sym e))
 differ_not false true e = absurd (false≢true e)
@@ -71,15 +71,15 @@ not_either : (b c : Bool) → (not b || c) ≡ false → (b ≡ true) × (c ≡ 
 not_either true c h = (refl, h)
 not_either false c h = absurd (false≢true (sym h))
 
-any_fails : {X : Type 0} (test : X → Bool) (xs : List X) (x : X) → list_any test xs ≡ false → Contains xs x → test x ≡ false
+pub any_fails : {X : Type 0} (test : X → Bool) (xs : List X) (x : X) → list_any test xs ≡ false → Contains xs x → test x ≡ false
 any_fails test [] x h c = absurd (Contains-nil x c)
 any_fails test (y ∷ ys) x h c = elim (in_cases y x ys c) [ inl is ↦ subst (λ z. test z ≡ false) is (neither (test y) (list_any test ys) h).0 | inr later ↦ any_fails test ys x (neither (test y) (list_any test ys) h).1 later ]
 
-none_passes : {X : Type 0} (test : X → Bool) (xs : List X) → ((x : X) → Contains xs x → test x ≡ false) → list_any test xs ≡ false
+pub none_passes : {X : Type 0} (test : X → Bool) (xs : List X) → ((x : X) → Contains xs x → test x ≡ false) → list_any test xs ≡ false
 none_passes test [] h = refl
 none_passes test (x ∷ xs) h = nor (test x) (list_any test xs) (h x (in_front x x xs refl)) (none_passes test xs (λ y c. h y (in_rest x y xs c)))
 
-all_pass : {X : Type 0} (test : X → Bool) (xs : List X) → ((x : X) → Contains xs x → test x ≡ true) → list_all test xs ≡ true
+pub all_pass : {X : Type 0} (test : X → Bool) (xs : List X) → ((x : X) → Contains xs x → test x ≡ true) → list_all test xs ≡ true
 all_pass test [] h = refl
 all_pass test (x ∷ xs) h = rw (h x (in_front x x xs refl)) (all_pass test xs (λ y c. h y (in_rest x y xs c)))
 
@@ -87,7 +87,7 @@ one_passes : {X : Type 0} (test : X → Bool) (xs : List X) (x : X) → list_all
 one_passes test [] x h c = absurd (Contains-nil x c)
 one_passes test (y ∷ ys) x h c = elim (in_cases y x ys c) [ inl is ↦ subst (λ z. test z ≡ true) is (and_both (test y) (list_all test ys) h).0 | inr later ↦ one_passes test ys x (and_both (test y) (list_all test ys) h).1 later ]
 
-map_same : {X Y : Type 0} (f g : X → Y) (xs : List X) → ((x : X) → Contains xs x → f x ≡ g x) → map f xs ≡ map g xs
+pub map_same : {X Y : Type 0} (f g : X → Y) (xs : List X) → ((x : X) → Contains xs x → f x ≡ g x) → map f xs ≡ map g xs
 map_same f g [] h = refl
 map_same f g (x ∷ xs) h = ap (λ y. y ∷ map f xs) (h x (in_front x x xs refl)) ∙ ap (λ ys. g x ∷ ys) (map_same f g xs (λ y c. h y (in_rest x y xs c)))
 

@@ -32,19 +32,19 @@ use Rattle.fib_entries.proofs.Leafing.{chosen_same, is_not}
 use Rattle.fib_entries.proofs.LeafRows.{entry_same, entry_own, entry_was}
 use Rattle.fib_entries.proofs.Listing.{chosen_before, chosen_after}
 
-adjacency_equiv : IsEquivalence same_adjacency
+pub adjacency_equiv : IsEquivalence same_adjacency
 adjacency_equiv = and_equiv (on_equiv (λ (x : Adjacency). x.interface) nat_eq_equiv) (on_equiv (λ (x : Adjacency). x.next_hop) nat_eq_equiv)
 
 adjacency_with : ℕ → ℕ → Adjacency
 adjacency_with i a = record { interface = i; next_hop = a }
 
-adjacency_is : (x y : Adjacency) → same_adjacency x y ≡ true → x ≡ y
+pub adjacency_is : (x y : Adjacency) → same_adjacency x y ≡ true → x ≡ y
 unfolding adjacency_with
 adjacency_is x y h = let both = and_both (x.interface == y.interface) (x.next_hop == y.next_hop) h in
     ap (λ i. adjacency_with i x.next_hop) ((Decides-eqb x.interface y.interface).0 both.0) ∙ ap (adjacency_with y.interface) ((Decides-eqb x.next_hop y.next_hop).0 both.1)
 
 module _ {X : Type 0} (eq : X → X → Bool) (laws : IsEquivalence eq) (exact : (x y : X) → eq x y ≡ true → x ≡ y) where
-  member_same : (xs ys : List X) → ((z : X) → Contains xs z ↔ Contains ys z) → (q : X) → is_member eq xs q ≡ is_member eq ys q
+  pub member_same : (xs ys : List X) → ((z : X) → Contains xs z ↔ Contains ys z) → (q : X) → is_member eq xs q ≡ is_member eq ys q
   member_same xs ys same q = elim (either (is_member eq xs q)) [
     | inl is ↦ is ∙ sym (list_any-from_Contains laws q ys ((same q).0 (Contains-from_any exact q xs is)))
     | inr isnt ↦ elim (either (is_member eq ys q)) [
@@ -61,6 +61,12 @@ module _ {X : Type 0} (eq : X → X → Bool) (laws : IsEquivalence eq) (exact :
         λ c. (unique_in eq laws exact ys z).0 ((same z).0 ((unique_in eq laws exact xs z).1 c)),
         λ c. (unique_in eq laws exact xs z).0 ((same z).1 ((unique_in eq laws exact ys z).1 c)),
       )))
+
+pub plies_half : (U V : Tables) → ((e : Prefix) → Contains (entries U) e → Contains (entries V) e) → (z : Prefix) → Contains (everything ∷ flat_map plies_of (entries U)) z → Contains (everything ∷ flat_map plies_of (entries V)) z
+plies_half U V f z c = elim (in_cases everything z (flat_map plies_of (entries U)) c) [
+  | inl first ↦ in_front everything z (flat_map plies_of (entries V)) first
+  | inr later ↦ (let r = flat_map_from plies_of (entries U) z later in in_rest everything z (flat_map plies_of (entries V)) (Contains-flat_map plies_of (entries V) r.0 z (f r.0 r.1) r.2))
+]
 
 pub each_plain : (paths : List Path) (q : Path) → list_all is_plain paths ≡ true → Contains paths q → is_plain q ≡ true
 each_plain [] q h c = absurd (Contains-nil q c)
@@ -129,12 +135,6 @@ module _ (S T : Tables) (p : Prefix) (source : FibSource) (h : IsLeafEdit S T p 
   ends_same : length (adjacencies S) ≡ length (adjacencies T)
   unfolding adjacencies
   ends_same = lengths_same same_adjacency adjacency_equiv adjacency_is (flat_map (adjacencies_of S) (entries S)) (flat_map (adjacencies_of T) (entries T)) (λ z. (ends_half z, ends_back z))
-
-  plies_half : (U V : Tables) → ((e : Prefix) → Contains (entries U) e → Contains (entries V) e) → (z : Prefix) → Contains (everything ∷ flat_map plies_of (entries U)) z → Contains (everything ∷ flat_map plies_of (entries V)) z
-  plies_half U V f z c = elim (in_cases everything z (flat_map plies_of (entries U)) c) [
-    | inl first ↦ in_front everything z (flat_map plies_of (entries V)) first
-    | inr later ↦ (let r = flat_map_from plies_of (entries U) z later in in_rest everything z (flat_map plies_of (entries V)) (Contains-flat_map plies_of (entries V) r.0 z (f r.0 r.1) r.2))
-  ]
 
   plies_same : length (plies S) ≡ length (plies T)
   unfolding plies

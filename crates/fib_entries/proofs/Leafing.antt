@@ -62,7 +62,7 @@ address_not p s a e = (cc)
 neighbor_not : (p : Prefix) (s : FibSource) (i a : ℕ) → changes.Route p s ≡ changes.Neighbor i a → ⊥
 neighbor_not p s i a e = (cc)
 
-only_one : {X : Type 0} (x y : X) → Contains (x ∷ []) y → x ≡ y
+pub only_one : {X : Type 0} (x y : X) → Contains (x ∷ []) y → x ≡ y
 only_one x y c = elim (in_cases x y [] c) [ inl is ↦ is | inr none ↦ absurd (Contains-nil y none) ]
 
 found_neighbor : (i a : ℕ) (ns : List Neighbor) (n : Neighbor) → Contains ns n → n.interface ≡ i → n.addr ≡ a → find (is_neighbor i a) ns ≡ None → ⊥
@@ -75,7 +75,7 @@ found_neighbor i a (m ∷ ms) n c on at none = elim (either (is_neighbor i a m))
   ]
 ]
 
-near_half : (S T : Tables) (i a : ℕ) → mac_of S i a ≡ mac_of T i a → HasNeighbor S i a → HasNeighbor T i a
+pub near_half : (S T : Tables) (i a : ℕ) → mac_of S i a ≡ mac_of T i a → HasNeighbor S i a → HasNeighbor T i a
 near_half S T i a same (n, c, on, at) = by (find (is_neighbor i a) S.neighbors) (find (is_neighbor i a) T.neighbors) refl refl
   where
     by : (o q : Option Neighbor) → find (is_neighbor i a) S.neighbors ≡ o → find (is_neighbor i a) T.neighbors ≡ q → HasNeighbor T i a
@@ -102,10 +102,10 @@ edges_same : (us vs : List Address) (xs : List ℕ) → ((a : Address) → Conta
 edges_same us vs [] same = refl
 edges_same us vs (x ∷ xs) same = ap (λ l. l ++ flat_map (edge_pair us) xs) (edge_same x us vs same) ∙ ap (λ l. edge_pair vs x ++ l) (edges_same us vs xs same)
 
-front : List Address → List Pair
+pub front : List Address → List Pair
 front us = fixed_pairs ++ flat_map connected_pairs us ++ flat_map (edge_pairs us) us
 
-front_half : (us vs : List Address) → ((a : Address) → Contains us a ↔ Contains vs a) → (x : Pair) → Contains (front us) x → Contains (front vs) x
+pub front_half : (us vs : List Address) → ((a : Address) → Contains us a ↔ Contains vs a) → (x : Pair) → Contains (front us) x → Contains (front vs) x
 unfolding front
 front_half us vs same x c = elim (Contains-append_cases (fixed_pairs ++ flat_map connected_pairs us) (flat_map (edge_pairs us) us) x c) [
   | inl early ↦ Contains-append_left (fixed_pairs ++ flat_map connected_pairs vs) (flat_map (edge_pairs vs) vs) x (elim (Contains-append_cases fixed_pairs (flat_map connected_pairs us) x early) [
@@ -118,14 +118,14 @@ front_half us vs same x c = elim (Contains-append_cases (fixed_pairs ++ flat_map
       (Contains-flat_map (edge_pairs vs) vs r.0 x ((same r.0).0 r.1) (subst (λ l. Contains l x) (edges_same us vs (edge_addresses r.0) same) r.2)))
 ]
 
-base_cases : (S : Tables) (x : Pair) → Contains (base_pairs S) x → Contains (front S.addresses) x ⊎ ((r : Route) × Contains S.routes r × (route_pair r ≡ x))
+pub base_cases : (S : Tables) (x : Pair) → Contains (base_pairs S) x → Contains (front S.addresses) x ⊎ ((r : Route) × Contains S.routes r × (route_pair r ≡ x))
 unfolding base_pairs front
 base_cases S x c = elim (Contains-append_cases (fixed_pairs ++ flat_map connected_pairs S.addresses ++ flat_map (edge_pairs S.addresses) S.addresses) (map route_pair S.routes) x c) [
   | inl early ↦ inl early
   | inr late ↦ inr (map_from route_pair S.routes x late)
 ]
 
-from_front : (S : Tables) (x : Pair) → Contains (front S.addresses) x → Contains (base_pairs S) x
+pub from_front : (S : Tables) (x : Pair) → Contains (front S.addresses) x → Contains (base_pairs S) x
 unfolding base_pairs front
 from_front S x c = Contains-append_left (fixed_pairs ++ flat_map connected_pairs S.addresses ++ flat_map (edge_pairs S.addresses) S.addresses) (map route_pair S.routes) x c
 

@@ -26,3 +26,5 @@ pub mod Ready
 pub mod Replacing
 pub mod Naming
 pub mod Following
+pub mod Ending
+pub mod Flagging

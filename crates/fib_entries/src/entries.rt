@@ -22,7 +22,7 @@ use crate::changes::Followed;
 use crate::leaf::{paths_at, ready, top_rank};
 use crate::look::row;
 use crate::rows::Row;
-use crate::whole;
+use crate::{flags, whole};
 use fib_addr::{Addr, Prefix};
 use fib_cover::PrefixSet;
 use fib_paths::{PathListId, PathLists};
@@ -122,6 +122,29 @@ impl Entries {
             rank: top + 1,
         };
         let followed = change(self.alloc, &mut self.rows, &mut self.lists, at, to)?;
+        Ok(Some(followed))
+    }
+
+    /// Follows the change of that interface's flag in the marks of the rows; None where the tables are too large. After want of memory all is
+    /// as before.
+    pub(crate) fn follow_flag(
+        &mut self,
+        tables: &Tables,
+        interface: u32,
+        most: u32,
+    ) -> Result<Option<Followed>, AllocError>
+        requires sound { IsSound tables.now }
+        requires most { most < 2 ^ 32 - 1 }
+        ensures followed { IfOk result (λ o. IfSome o (λ f. (S : TablesValue) → StandsFor self.old S →
+            Differ (changes.Flag interface ∷ []) S tables.now → IsFollowed self.old self.new S tables.now most f)) }
+        ensures none { IfOk result (λ o. IfNone o (self.new ≡ self.old)) }
+        ensures err { OnErr result (self.new ≡ self.old) }
+    {
+        if self.objects > most {
+            return Ok(None);
+        }
+        let up = flags::is_up(tables, interface);
+        let followed = flags::follow(self.alloc, &mut self.rows, interface, up)?;
         Ok(Some(followed))
     }
 

@@ -11,6 +11,7 @@ mod changes;
 mod compare;
 mod edges;
 mod entries;
+mod flags;
 mod follow;
 mod groups;
 mod leaf;
