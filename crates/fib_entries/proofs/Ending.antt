@@ -37,7 +37,7 @@ use Rattle.fib_changes.proofs.Covers.{covers_agree, short_from}
 use Rattle.fib_changes.proofs.Edits.{any_in, in_cases, in_front, in_rest}
 use Rattle.fib_changes.proofs.SamePairs.{flat_map_from, from_origin, base, same_pairs_from, same_chosen, same_met, same_targets}
 use Rattle.fib_entries.specs.Known.{holders, kind_met}
-use Rattle.fib_entries.specs.inner.Flags.{IsEndEdit}
+use Rattle.fib_entries.specs.inner.Ends.{IsEndEdit}
 use Rattle.fib_entries.proofs.Comparing.{same_bits, map_same}
 use Rattle.fib_entries.proofs.Counting.{counts_same}
 use Rattle.fib_entries.proofs.Leafing.{front_half, base_cases, from_front, from_route, entry_of_pair}

@@ -102,7 +102,7 @@ edges_same : (us vs : List Address) (xs : List ℕ) → ((a : Address) → Conta
 edges_same us vs [] same = refl
 edges_same us vs (x ∷ xs) same = ap (λ l. l ++ flat_map (edge_pair us) xs) (edge_same x us vs same) ∙ ap (λ l. edge_pair vs x ++ l) (edges_same us vs xs same)
 
-pub front : List Address → List Pair
+unfoldable pub front : List Address → List Pair
 front us = fixed_pairs ++ flat_map connected_pairs us ++ flat_map (edge_pairs us) us
 
 pub front_half : (us vs : List Address) → ((a : Address) → Contains us a ↔ Contains vs a) → (x : Pair) → Contains (front us) x → Contains (front vs) x
@@ -215,7 +215,7 @@ route_routed S r c = record { recursive = λ q a k is. (r, c, refl); written = �
 all_routed : (S : Tables) → AllByRecursion (Routed S) (pairs S)
 all_routed S = groups_have (Routed S) S (fixed_routed S) (λ x _. connected_routed S x) (edge_routed S) (route_routed S) (neighbor_routed S) (derived_routed S)
 
-each_has : {X : Type 0} (P : X → Type 0) (xs : List X) (x : X) → AllByRecursion P xs → Contains xs x → P x
+pub each_has : {X : Type 0} (P : X → Type 0) (xs : List X) (x : X) → AllByRecursion P xs → Contains xs x → P x
 each_has P [] x all c = absurd (Contains-nil x c)
 each_has P (y ∷ ys) x all c = elim (in_cases y x ys c) [ inl is ↦ subst P is all.0 | inr later ↦ each_has P ys x all.1 later ]
 

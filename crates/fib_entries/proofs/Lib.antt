@@ -27,4 +27,5 @@ pub mod Replacing
 pub mod Naming
 pub mod Following
 pub mod Ending
-pub mod Flagging
+pub mod Renewing
+pub mod EndNews

@@ -4,4 +4,4 @@ pub mod Edges
 pub mod Fields
 pub mod Waking
 pub mod Leaf
-pub mod Flags
+pub mod Ends

@@ -11,6 +11,7 @@ ghost use Rattle.fib_entries.specs.Known.{StandsFor, ArePairs, row_of, rank_of, 
 ghost use Rattle.fib_resolve.specs.declared.types.FibSource.{FibSource as Source};
 ghost use Rattle.fib_interned.specs.Interned.{kept_of};
 ghost use Rattle.fib_entries.specs.inner.Compare.{AreKept};
+ghost use Rattle.fib_entries.specs.inner.Ends.{IsNews};
 ghost use Rattle.fib_entries.specs.inner.Leaf.{IsFollowed};
 ghost use Rattle.fib_changes.specs.Differ.{Differ};
 ghost use Rattle.fib_changes.specs.declared.change.Change.TheVariants as changes;
@@ -19,11 +20,13 @@ use crate::apply::is_other;
 use crate::build::take_all;
 use crate::change::{Target, change};
 use crate::changes::Followed;
+use crate::ends::News;
 use crate::leaf::{paths_at, ready, top_rank};
 use crate::look::row;
 use crate::rows::Row;
-use crate::{flags, whole};
+use crate::{ends, whole};
 use fib_addr::{Addr, Prefix};
+use fib_changes::Change;
 use fib_cover::PrefixSet;
 use fib_paths::{PathListId, PathLists};
 use fib_plain::Snapshot;
@@ -125,26 +128,58 @@ impl Entries {
         Ok(Some(followed))
     }
 
-    /// Follows the change of that interface's flag in the marks of the rows; None where the tables are too large. After want of memory all is
-    /// as before.
-    pub(crate) fn follow_flag(
+    /// What is new of an end where that flag or that neighbor changed; None where rows and tables don't tell that it alone is new.
+    pub(crate) fn news_of(&self, tables: &Tables, change: Change) -> Option<News>
+        ensures { IfSome result (λ n. IsNews self.now tables.now change n) }
+    {
+        match change {
+            Change::Flag(interface) => Some(News::Flag {
+                interface,
+                up: ends::is_up(tables, interface),
+            }),
+            Change::Neighbor { interface, addr } => self.mac_news(tables, interface, addr),
+            Change::Address(_) | Change::Route { .. } => None,
+        }
+    }
+
+    fn mac_news(&self, tables: &Tables, interface: u32, addr: Addr) -> Option<News>
+        ensures { IfSome result (λ n. IsNews self.now tables.now (changes.Neighbor interface addr) n) }
+    {
+        if !ends::is_near(self.rows.as_slice(), &self.lists, interface, addr) {
+            return None;
+        }
+        match ends::mac_of(tables, interface, addr) {
+            Some(mac) => Some(News::Mac {
+                interface,
+                next_hop: addr,
+                mac,
+            }),
+            None => None,
+        }
+    }
+
+    /// Follows the change of a flag or of a known neighbor's MAC in the marks of the rows; None where it is another change, or where the tables
+    /// are too large. After want of memory all is as before.
+    pub(crate) fn follow_end(
         &mut self,
         tables: &Tables,
-        interface: u32,
+        change: Change,
         most: u32,
     ) -> Result<Option<Followed>, AllocError>
         requires sound { IsSound tables.now }
         requires most { most < 2 ^ 32 - 1 }
         ensures followed { IfOk result (λ o. IfSome o (λ f. (S : TablesValue) → StandsFor self.old S →
-            Differ (changes.Flag interface ∷ []) S tables.now → IsFollowed self.old self.new S tables.now most f)) }
+            Differ (change ∷ []) S tables.now → IsFollowed self.old self.new S tables.now most f)) }
         ensures none { IfOk result (λ o. IfNone o (self.new ≡ self.old)) }
         ensures err { OnErr result (self.new ≡ self.old) }
     {
         if self.objects > most {
             return Ok(None);
         }
-        let up = flags::is_up(tables, interface);
-        let followed = flags::follow(self.alloc, &mut self.rows, interface, up)?;
+        let Some(news) = self.news_of(tables, change) else {
+            return Ok(None);
+        };
+        let followed = ends::follow(self.alloc, &mut self.rows, &news)?;
         Ok(Some(followed))
     }
 

@@ -1,0 +1,27 @@
+use Rattle.std.proofs.Common.{arith, ◌≡◌, ◌≤◌, List, ◌∷◌, [], sym, subst}
+use Rattle.fib_resolve.specs.declared.types.Tables.{Tables}
+use Rattle.fib_changes.specs.Differ.{Differ}
+use Rattle.fib_entries.specs.declared.rows.Row.{Row}
+use Rattle.fib_entries.specs.Known.{Known, StandsFor}
+use Rattle.fib_entries.specs.inner.Ends.{IsNews}
+use Rattle.fib_entries.specs.inner.Fields.{AreFields}
+use Rattle.fib_entries.specs.inner.Leaf.{IsFollowed}
+use Rattle.fib_entries.proofs.EndNews.{followed_news}
+use Rattle.fib_entries.proofs.Renewing.{fields_renewed}
+use Rattle.fib_entries.proofs.Following.{known}
+use Rattle.fib_entries.proofs.entries.Entries.follow_end.Goals as goal
+
+pub invariant_of-self-2 : goal.invariant_of-self-2
+invariant_of-self-2 c =
+    subst (λ (l : List Row). AreFields l c.self.inside.lists c.self.inside.order) (sym c.in_ok-followed.ensures.rows)
+    (fields_renewed c.self.inside.rows.items c.self.inside.lists c.self.inside.order c.in-Some.news c.self.invariant)
+
+pub returns-clause-followed : goal.returns-clause-followed
+returns-clause-followed c =
+    let old = known c.self.inside.rows.items c.self.inside.lists c.self.inside.objects in
+    let le : c.self.inside.objects ≤ c.args.most = omega (arith, c.if-self-most.false) in
+    let news : IsNews old c.args.tables.now c.args.change c.in-Some.news = subst (λ (v : Known). IsNews v c.args.tables.now c.args.change c.in-Some.news) (sym c.self.view_is) c.in-Some.ensures in
+    subst (λ (v : Known). (S : Tables) → StandsFor v S → Differ (c.args.change ∷ []) S c.args.tables.now
+    → IsFollowed v (known c.follow.new.rows.items c.self.inside.lists c.self.inside.objects) S c.args.tables.now c.args.most c.in_ok-followed.followed) c.self.view_is
+    (λ S k d. subst (λ (l : List Row). IsFollowed old (known l c.self.inside.lists c.self.inside.objects) S c.args.tables.now c.args.most c.in_ok-followed.followed) (sym c.in_ok-followed.ensures.rows)
+    (followed_news old c.args.tables.now c.args.change c.in-Some.news c.args.most c.in_ok-followed.followed news c.requires.sound le c.requires.most c.in_ok-followed.ensures.touched c.in_ok-followed.ensures.moved S k d))

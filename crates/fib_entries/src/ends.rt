@@ -1,0 +1,277 @@
+// A change of an interface's flag or of a neighbor's MAC, followed in the marks of the rows.
+ghost use Rattle.std.specs.Prelude.{◌≡◌, ℕ, [], IsTrue, IsSome, IfOk, OnOk, OnErr, Contains, map, filter, option_copied, find};
+ghost use Rattle.fib_addr.specs.Prefixes.{host};
+ghost use Rattle.fib_cover.specs.Covers.{IsAscending};
+ghost use Rattle.fib_interned.specs.Interned.{kept_of};
+ghost use Rattle.fib_resolve.specs.Forwarding.{is_up};
+ghost use Rattle.fib_resolve.specs.declared.types.FibSource.{FibSource as FibSourceValue};
+ghost use Rattle.fib_resolve.specs.Resolution.{is_neighbor, mac_of};
+ghost use Rattle.fib_entries.specs.Known.{prefix_of};
+ghost use Rattle.fib_entries.specs.declared.rows.Row.{Row as RowValue};
+ghost use Rattle.fib_entries.specs.inner.Building.{AreHeld};
+ghost use Rattle.fib_entries.specs.inner.Compare.{AreKept};
+ghost use Rattle.fib_entries.specs.inner.Ends.{aim_over, aim_at, is_mac, has_flag, has_mac, renewed, is_old, is_old_row, renewed_row, IsLink, IsNear};
+
+use crate::changes::{Followed, Touched};
+use crate::look::row;
+use crate::rows::Row;
+use fib_addr::{Addr, Mac, Prefix};
+use fib_list::List;
+use fib_paths::{PathListId, PathLists};
+use fib_resolve::{Aim, End, FibSource, Marked, Neighbor, Path, PathKind, Tables};
+use std::alloc::{AllocError, Global};
+use std::mem;
+
+/// What is new of an end.
+#[derive(Clone, Copy)]
+pub enum News {
+    /// An interface's flag.
+    Flag { interface: u32, up: bool },
+    /// A neighbor's MAC.
+    Mac {
+        interface: u32,
+        next_hop: Addr,
+        mac: Mac,
+    },
+}
+
+/// Whether the interface is there and up.
+pub fn is_up(tables: &Tables, interface: u32) -> bool
+    ensures { result ≡ is_up tables.now interface }
+{
+    match tables.interfaces.as_slice().get(interface as usize) {
+        Some(found) => found.up,
+        None => false,
+    }
+}
+
+fn is_neighbor(interface: u32, addr: Addr, n: &Neighbor) -> bool
+    ensures { result ≡ is_neighbor interface addr n.now }
+{
+    n.interface == interface && n.addr == addr
+}
+
+fn neighbor_at(neighbors: &[Neighbor], interface: u32, addr: Addr) -> Option<&Neighbor>
+    ensures { option_copied result ≡ find (is_neighbor interface addr) neighbors.now }
+{
+    neighbors.iter().find(|n| is_neighbor(interface, addr, n))
+}
+
+/// The neighbor's MAC; None where there is no such neighbor.
+pub fn mac_of(tables: &Tables, interface: u32, addr: Addr) -> Option<Mac>
+    ensures { result ≡ mac_of tables.now interface addr }
+{
+    match neighbor_at(tables.neighbors.as_slice(), interface, addr) {
+        Some(n) => Some(n.mac),
+        None => None,
+    }
+}
+
+/// Whether the list is one path over that link.
+fn is_link(paths: &[Path], interface: u32) -> bool
+    ensures { IsTrue result → IsLink interface paths.now }
+{
+    match paths {
+        [path] => match path.kind {
+            PathKind::Hop {
+                interface: other, ..
+            } => other == interface,
+            _ => false,
+        },
+        _ => false,
+    }
+}
+
+/// Whether the pair is a neighbor's on that interface.
+fn is_adjacency(lists: &PathLists, held: (FibSource, PathListId), interface: u32) -> bool
+    requires { IsSome (kept_of lists.now held.1) }
+    ensures { IsTrue result → IsNear lists.now interface held }
+{
+    match held.0 {
+        FibSource::Adjacency => is_link(lists.content(held.1), interface),
+        _ => false,
+    }
+}
+
+/// Whether one of the pairs is.
+fn has_adjacency(
+    lists: &PathLists,
+    held: &[(FibSource, PathListId)],
+    interface: u32,
+) -> bool
+    requires { AreKept lists.now held.now }
+    ensures { IsTrue result → (q : FibSourceValue × ℕ) × Contains held.now q × IsNear lists.now interface q }
+{
+    for place in 0..held.len() {
+        if is_adjacency(lists, held[place], interface) {
+            return true;
+        }
+    }
+    false
+}
+
+/// Whether the rows tell that the address is a neighbor on that interface.
+pub fn is_near(rows: &[Row], lists: &PathLists, interface: u32, addr: Addr) -> bool
+    requires ascending { IsAscending (map prefix_of rows.now) }
+    requires held { AreHeld rows.now lists.now }
+    ensures { IsTrue result → (r : RowValue) × Contains rows.now r × (r.prefix ≡ host addr) × ((q : FibSourceValue × ℕ) × Contains r.pairs q × IsNear lists.now interface q) }
+{
+    match row(rows, Prefix::host(addr)) {
+        Some(found) => has_adjacency(lists, found.pairs.as_slice(), interface),
+        None => false,
+    }
+}
+
+/// Whether the mark's packets leave by the interface.
+fn is_over(interface: u32, mark: &Marked) -> bool
+    ensures { result ≡ aim_over interface mark.now.aim }
+{
+    match mark.aim {
+        Aim::Ends(End::Glean(other)) => other == interface,
+        Aim::Ends(End::Hop {
+            interface: other, ..
+        }) => other == interface,
+        _ => false,
+    }
+}
+
+/// Whether they leave for the neighbor.
+fn is_at(interface: u32, next_hop: Addr, mark: &Marked) -> bool
+    ensures { result ≡ aim_at interface next_hop mark.now.aim }
+{
+    match mark.aim {
+        Aim::Ends(End::Hop {
+            interface: other,
+            next_hop: addr,
+            ..
+        }) => other == interface && addr == next_hop,
+        _ => false,
+    }
+}
+
+fn is_mac(known: Option<Mac>, mac: Mac) -> bool
+    ensures { result ≡ is_mac known mac }
+{
+    match known {
+        Some(other) => other == mac,
+        None => false,
+    }
+}
+
+/// Whether they leave with that MAC.
+fn has_mac(mac: Mac, mark: &Marked) -> bool
+    ensures { result ≡ has_mac mac mark.now.aim }
+{
+    match mark.aim {
+        Aim::Ends(End::Hop { mac: known, .. }) => is_mac(known, mac),
+        _ => false,
+    }
+}
+
+fn has_flag(up: bool, mark: &Marked) -> bool
+    ensures { result ≡ has_flag up mark.now }
+{
+    match up {
+        true => mark.counts,
+        false => !mark.counts,
+    }
+}
+
+/// Whether the news makes the mark another.
+fn is_old(news: &News, mark: &Marked) -> bool
+    ensures { result ≡ is_old news.now mark.now }
+{
+    match *news {
+        News::Flag { interface, up } => is_over(interface, mark) && !has_flag(up, mark),
+        News::Mac {
+            interface,
+            next_hop,
+            mac,
+        } => is_at(interface, next_hop, mark) && !has_mac(mac, mark),
+    }
+}
+
+/// Whether it makes a mark of the row another.
+fn is_old_row(news: &News, row: &Row) -> bool
+    ensures { result ≡ is_old_row news.now row.now }
+{
+    row.marked.as_slice().iter().any(|mark| is_old(news, mark))
+}
+
+/// The prefixes of the rows of which it does.
+fn old_prefixes(alloc: Global, rows: &[Row], news: &News) -> Result<Vec<Prefix>, AllocError>
+    ensures { IfOk result (λ v. v.items ≡ map prefix_of (filter (is_old_row news.now) rows.now)) }
+{
+    rows.iter()
+        .filter(|row| is_old_row(news, row))
+        .map(|row| row.prefix)
+        .collect(alloc)
+}
+
+fn renew(mark: &mut Marked, news: &News)
+    ensures { mark.new ≡ renewed news.now mark.old }
+{
+    match *news {
+        News::Flag { interface, up } => {
+            if is_over(interface, mark) {
+                mark.counts = up;
+            }
+        }
+        News::Mac {
+            interface,
+            next_hop,
+            mac,
+        } => {
+            if is_at(interface, next_hop, mark) {
+                mark.aim = Aim::Ends(End::Hop {
+                    interface,
+                    next_hop,
+                    mac: Some(mac),
+                });
+            }
+        }
+    }
+}
+
+fn renew_marks(marks: &mut Vec<Marked>, news: &News)
+    ensures { marks.new.items ≡ map (renewed news.now) marks.old.items }
+{
+    'marks: for place in 0..marks.len() {
+        renew(&mut marks[place], news);
+    }
+}
+
+/// The row's marks are renewed. Takes no memory.
+fn renew_row(alloc: Global, row: &mut Row, news: &News)
+    ensures { row.new ≡ renewed_row news.now row.old }
+{
+    if !is_old_row(news, row) {
+        return;
+    }
+    let mut marks = mem::replace(&mut row.marked, List::new(alloc)).into_vec();
+    renew_marks(&mut marks, news);
+    row.marked = List::from_vec(marks);
+}
+
+fn renew_rows(alloc: Global, rows: &mut Vec<Row>, news: &News)
+    ensures { rows.new.items ≡ map (renewed_row news.now) rows.old.items }
+{
+    'rows: for place in 0..rows.len() {
+        renew_row(alloc, &mut rows[place], news);
+    }
+}
+
+/// Renews the marks of all rows, and tells the prefixes of the rows of which one is another. After want of memory all is as before.
+pub fn follow(alloc: Global, rows: &mut Vec<Row>, news: &News) -> Result<Followed, AllocError>
+    ensures rows { OnOk result (rows.new.items ≡ map (renewed_row news.now) rows.old.items) }
+    ensures touched { IfOk result (λ f. f.touched ≡ map prefix_of (filter (is_old_row news.now) rows.old.items)) }
+    ensures moved { IfOk result (λ f. f.moved ≡ []) }
+    ensures err { OnErr result (rows.new.items ≡ rows.old.items) }
+{
+    let touched = old_prefixes(alloc, rows.as_slice(), news)?;
+    renew_rows(alloc, rows, news);
+    Ok(Followed {
+        touched: Touched::of(List::from_vec(touched)),
+        moved: List::new(alloc),
+    })
+}
