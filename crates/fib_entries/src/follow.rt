@@ -1,13 +1,13 @@
 // Entries that follow a change of the tables.
-ghost use Rattle.std.specs.Prelude.{◌≡◌, ◌≤◌, ◌++◌, ◌∷◌, [], IfSome, IfOk, IfErr, OnOk, OnErr, ◌<◌, ◌-◌, ◌^◌, map, flat_map, filter, if◌then◌else◌};
+ghost use Rattle.std.specs.Prelude.{◌≡◌, ◌≤◌, ◌++◌, ◌∷◌, [], IfSome, IfNone, IfOk, IfErr, OnOk, OnErr, ◌<◌, ◌-◌, ◌^◌, map, flat_map, filter, if◌then◌else◌};
 ghost use Rattle.fib_resolve.specs.Sizes.{size};
 ghost use Rattle.fib_resolve.specs.Tables.{IsSound};
 ghost use Rattle.fib_resolve.specs.Touched.{is_touched};
 ghost use Rattle.fib_resolve.specs.declared.types.Tables.{Tables as TablesValue};
 ghost use Rattle.fib_changes.specs.Differ.{Differ};
-ghost use Rattle.fib_changes.specs.declared.change.Change.TheVariants as kinds;
 ghost use Rattle.fib_entries.specs.Known.{StandsFor, prefix_of};
 ghost use Rattle.fib_entries.specs.inner.Compare.{is_new, moved_one, moved_new};
+ghost use Rattle.fib_entries.specs.inner.Leaf.{IsFollowed};
 ghost use Rattle.fib_entries.specs.Changes.{AreTouched, AreMoved, IsTooMany};
 
 use crate::changes::{FollowError, Followed, Moved, Touched};
@@ -17,7 +17,7 @@ use fib_addr::Prefix;
 use fib_changes::Change;
 use fib_config::Config;
 use fib_list::List;
-use fib_resolve::{FibSource, Tables};
+use fib_resolve::Tables;
 use std::alloc::{AllocError, Global};
 
 /// Whether the change touches the prefix.
@@ -164,16 +164,6 @@ fn moved(alloc: Global, before: &Entries, after: &Entries) -> Result<List<Moved>
     Ok(out)
 }
 
-/// The prefix and the source of the one route that the changes name, where they name nothing else.
-fn only_route(changes: &[Change]) -> Option<(Prefix, FibSource)>
-    ensures { IfSome result (λ x. changes.now ≡ kinds.Route x.0 x.1 ∷ []) }
-{
-    match changes {
-        [Change::Route { prefix, source }] => Some((*prefix, *source)),
-        _ => None,
-    }
-}
-
 impl Entries {
     /// Makes the entries stand for the tables after a change, and answers which prefixes it touches. After want of memory all is as
     /// before.
@@ -217,12 +207,33 @@ impl Entries {
             Differ changes.now S after.now.tables → IsTooMany (size after.now.tables) most e) }
         ensures err { OnErr result (self.new ≡ self.old) }
     {
-        let Some((prefix, source)) = only_route(changes) else {
-            return self.follow_anew(after, changes, most);
-        };
-        match self.follow_leaf(after.tables(), prefix, source, most)? {
+        match self.follow_one(after.tables(), changes, most)? {
             Some(followed) => Ok(followed),
             None => self.follow_anew(after, changes, most),
+        }
+    }
+
+    /// Follows a change alone in the rows that it touches, where they tell which those are; None where they don't. After want of memory all is
+    /// as before.
+    fn follow_one(
+        &mut self,
+        tables: &Tables,
+        changes: &[Change],
+        most: u32,
+    ) -> Result<Option<Followed>, AllocError>
+        requires sound { IsSound tables.now }
+        requires most { most < 2 ^ 32 - 1 }
+        ensures followed { IfOk result (λ o. IfSome o (λ f. (S : TablesValue) → StandsFor self.old S →
+            Differ changes.now S tables.now → IsFollowed self.old self.new S tables.now most f)) }
+        ensures none { IfOk result (λ o. IfNone o (self.new ≡ self.old)) }
+        ensures err { OnErr result (self.new ≡ self.old) }
+    {
+        match changes {
+            [Change::Route { prefix, source }] => {
+                self.follow_leaf(tables, *prefix, *source, most)
+            }
+            [change] => self.follow_end(tables, *change, most),
+            _ => Ok(None),
         }
     }
 
