@@ -26,3 +26,13 @@ pub mod Ready
 pub mod Replacing
 pub mod Naming
 pub mod Following
+pub mod PlyOrder
+pub mod PlyCounts
+pub mod Placing
+pub mod Growing
+pub mod Sharing
+pub mod Withdrawing
+pub mod Leaving
+pub mod Arriving
+pub mod Joining
+pub mod Gaps

@@ -4,3 +4,6 @@ pub mod Edges
 pub mod Fields
 pub mod Waking
 pub mod Leaf
+pub mod Plies
+pub mod Going
+pub mod Coming

@@ -220,7 +220,7 @@ impl Entries {
         let Some((prefix, source)) = only_route(changes) else {
             return self.follow_anew(after, changes, most);
         };
-        match self.follow_leaf(after.tables(), prefix, source, most)? {
+        match self.follow_alone(after.tables(), prefix, source, most)? {
             Some(followed) => Ok(followed),
             None => self.follow_anew(after, changes, most),
         }
