@@ -45,12 +45,6 @@ module _ (old new : List Row) (lists later : List PathKept) (place : ℕ) (p : P
   pub mid_own : (s : Row) × (slice_get r.mid place ≡ Some s) × (IsButFor p (blank_row p own) s × (Contains s.dependants p ↔ Contains {X = Prefix} [] p ⊎ Contains (goals_of after) p))
   mid_own = zip_at _ (insert old place (blank_row p own)) r.mid place (blank_row p own) r.attached (inserted_at old place (blank_row p own) le)
 
-  pub row_came : Row
-  row_came = with_pairs ((own.source, r.new_id) ∷ []) mid_own.0
-
-  pub came_is : row_came ≡ with_pairs ((own.source, r.new_id) ∷ []) mid_own.0
-  came_is = refl
-
   set : new ≡ slice_set r.mid place (with_pairs ((own.source, r.new_id) ∷ []) mid_own.0)
   set = r.set mid_own.0 mid_own.1
 
@@ -108,8 +102,8 @@ module _ (old new : List Row) (lists later : List PathKept) (place : ℕ) (p : P
         ap (λ z. z.prefix) (sym same) ∙ mid_own.2.0.prefix,
         (ap (λ z. z.0) (sym e), ap (λ z. content_of later z.1) (sym e) ∙ content_taken lists later after r.new_id r.taken r.apart (count_in n.pairs) n.counted),
       ))
-      | inr (away, x, was, but, leads) ↦ (let w = n.each x q was (subst (λ l. Contains l q) but.pairs d) in
-          (w.0, in_rest (pair_of p own.source after) w.0 n.pairs w.1, but.prefix ∙ w.2, (w.3.0, taken_stays lists later after r.new_id r.taken r.apart (count_in n.pairs) n.counted q.1 w.0.paths w.3.1)))
+      | inr (away, x, was, but) ↦ (let w = n.each x q was (subst (λ l. Contains l q) but.0.pairs d) in
+          (w.0, in_rest (pair_of p own.source after) w.0 n.pairs w.1, but.0.prefix ∙ w.2, (w.3.0, taken_stays lists later after r.new_id r.taken r.apart (count_in n.pairs) n.counted q.1 w.0.paths w.3.1)))
     ]
 
     named_came : AreNamed new later

@@ -36,7 +36,7 @@ use Rattle.fib_entries.specs.inner.Leaf.{IsLeafEdit, IsFollowed, IsButFor, goals
 use Rattle.fib_entries.specs.inner.Plies.{own_size, entry_at, entry_before, before_of, IsGap}
 use Rattle.fib_entries.specs.declared.changes.Followed.{Followed}
 use Rattle.fib_entries.specs.declared.rows.Row.{Row}
-use Rattle.fib_entries.proofs.Arriving.{mid_own, with_it, there_came, row_from, ordered_came, fields_came}
+use Rattle.fib_entries.proofs.Arriving.{mid_own, with_it, there_came, row_from, ordered_came, fields_came, set_back}
 use Rattle.fib_entries.proofs.Gaps.{map_at}
 use Rattle.fib_entries.proofs.Growing.{IsGrown, size_more}
 use Rattle.fib_entries.proofs.LeafRows.{IsLeafMade, row_by, no_row, entry_same, entry_own, stands_leaf, touched_leaf, moved_leaf, still_leaf}
@@ -149,10 +149,12 @@ module _ (v w : Known) (S T : Tables) (p : Prefix) (source : FibSource) (place t
   mid = mid_own v.rows w.rows v.lists w.lists place p (paths_at p source T.routes) (plain_own source (paths_at p source T.routes) (top + 1)) r k.ordered m.gap
 
   there : Contains w.rows (with_pairs ((source, r.new_id) ∷ []) mid.0)
+  unfolding mid
   there = there_came v.rows w.rows v.lists w.lists place p (paths_at p source T.routes) (plain_own source (paths_at p source T.routes) (top + 1)) r k.ordered m.gap
 
   from : (s : Row) → Contains w.rows s → (with_pairs ((source, r.new_id) ∷ []) mid.0 ≡ s)
       ⊎ ((p ≢ s.prefix) × (q : Row) × Contains v.rows q × (IsButFor p q s × (Contains s.dependants p ↔ Contains q.dependants p ⊎ Contains (goals_of (paths_at p source T.routes)) q.prefix)))
+  unfolding mid
   from = row_from v.rows w.rows v.lists w.lists place p (paths_at p source T.routes) (plain_own source (paths_at p source T.routes) (top + 1)) r k.ordered m.gap
 
   came : (e : Prefix) → Contains (map prefix_of w.rows) e ↔ Contains (map prefix_of v.rows) e ⊎ (p ≡ e)
@@ -164,16 +166,16 @@ module _ (v w : Known) (S T : Tables) (p : Prefix) (source : FibSource) (place t
   relinked : (s : Row) → Contains w.rows s → p ≢ s.prefix → (q : Row) × Contains v.rows q × IsButFor p q s × (Contains s.dependants p ↔ Contains (targets T p) s.prefix)
   relinked s c off = elim (from s c) [
     | inl is ↦ absurd (off (sym mid.2.0.prefix ∙ ap (λ z. z.prefix) is))
-    | inr (away, q, was, but, leads) ↦ (
+    | inr (away, q, was, but) ↦ (
       q,
       was,
-      but,
+      but.0,
       (
-        λ d. subst (λ l. Contains l s.prefix) (sym goals) (elim (leads.0 d) [
+        λ d. subst (λ l. Contains l s.prefix) (sym goals) (elim (but.1.0 d) [
           | inl old ↦ absurd (Contains-nil q.prefix (subst (λ l. Contains l q.prefix) no_goals (((k.rows q was).dependants p).0 old)))
-          | inr goal ↦ subst (Contains (goals_of (paths_at p source T.routes))) (sym but.prefix) goal
+          | inr goal ↦ subst (Contains (goals_of (paths_at p source T.routes))) (sym but.0.prefix) goal
         ]),
-        λ d. leads.1 (inr (subst (Contains (goals_of (paths_at p source T.routes))) but.prefix (subst (λ l. Contains l s.prefix) goals d))),
+        λ d. but.1.1 (inr (subst (Contains (goals_of (paths_at p source T.routes))) but.0.prefix (subst (λ l. Contains l s.prefix) goals d))),
       ),
     )
   ]
@@ -267,7 +269,7 @@ module _ (v w : Known) (S T : Tables) (p : Prefix) (source : FibSource) (place t
       rows = relinked;
     };
     there = (λ c. m.some, λ some. (came p).1 (inr refl));
-    own = λ s c is. elim (from s c) [ inl same ↦ subst (IsRow w.lists T) same own_is_row | inr (away, q, rest) ↦ absurd (away is) ];
+    own = λ s c is. elim (from s c) [ inl same ↦ subst (IsRow w.lists T) same own_is_row | inr other ↦ absurd (other.0 is) ];
     rank = λ t c. (let le = above t (subst (λ l. Contains l t) goals c) in let e = rank_own in omega (arith, le, e));
     counted = counted;
     stays = stays;
@@ -303,3 +305,11 @@ pub come_fields : (rows new : List Row) (lists later : List PathKept) (order set
 come_fields rows new lists later order set T p source place paths rank f h m c asc members =
     fields_came rows new lists later place p paths (plain_own source paths rank) c.placed h.ordered m.gap h.named set asc
     (λ e. subst (λ l. Contains set e ↔ Contains l e ⊎ (e ≡ p)) h.same (members e))
+
+-- also where the row didn't come, and the prefix went again
+pub as_before : (rows new : List Row) (lists later : List PathKept) (order mid set : List Prefix) (T : Tables) (p : Prefix) (source : FibSource) (place : ℕ) → AreFields rows lists order → IsArriving rows T p source place → new ≡ rows → later ≡ lists → IsAscending set
+    → ((e : Prefix) → Contains mid e ↔ Contains order e ⊎ (e ≡ p)) → ((e : Prefix) → Contains set e ↔ Contains mid e × (e ≢ p)) → AreFields new later set
+as_before rows new lists later order mid set T p source place h m rows_are lists_are asc came went =
+    let none : Contains order p → ⊥ = λ c. gap_absent (map prefix_of rows) place p m.gap (subst (λ l. Contains l p) h.same c) in
+    let same : set ≡ order = set_back order mid set p (subst IsAscending (sym h.same) h.ordered) asc none came went in
+    subst (λ s. AreFields new later s) (sym same) (subst (λ l. AreFields new l order) (sym lists_are) (subst (λ l. AreFields l lists order) (sym rows_are) h))

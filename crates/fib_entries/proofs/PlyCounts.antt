@@ -149,15 +149,15 @@ module _ (order : List Prefix) (asc : IsAscending order) (good : ArePrefixes ord
   own_is zero deep = rw (in_member (ply p 0) (in_front everything (ply p 0) (flat_map plies_of order) (sym root))) refl
   own_is (suc k) deep = elim (either (is_on_way p (suc k) (before_of order place) || is_on_way p (suc k) (slice_get order place))) [
     | inl shared ↦ (let there : is_member same_prefix (plies_list order) (ply p (suc k)) ≡ true = in_member (ply p (suc k)) (elim (or_cases (is_on_way p (suc k) (before_of order place)) (is_on_way p (suc k) (slice_get order place)) shared) [
-        | inl left ↦ near_in (suc k) (before_of order place) (λ e at. before_in place e at) left
-        | inr right ↦ near_in (suc k) (slice_get order place) (λ e at. contains_at order place e at) right
-      ]) in
+      | inl left ↦ near_in (suc k) (before_of order place) (λ e at. before_in place e at) left
+      | inr right ↦ near_in (suc k) (slice_get order place) (λ e at. contains_at order place e at) right
+    ]) in
         ap zero_if there ∙ sym (deep_own k (is_on_way p (suc k) (before_of order place) || is_on_way p (suc k) (slice_get order place)) true shared))
     | inr apart ↦ (let absent : is_member same_prefix (plies_list order) (ply p (suc k)) ≡ false = elim (either (is_member same_prefix (plies_list order) (ply p (suc k)))) [
-        | inr isnt ↦ isnt
-        | inl there ↦ (let e = ply_from order p (suc k) (omega arith) (member_in (ply p (suc k)) there) in
-            absurd (false≢true (sym apart ∙ shared_near order asc good place p gap is.short (suc k) deep e.0 e.1 e.2)))
-      ] in
+      | inr isnt ↦ isnt
+      | inl there ↦ (let e = ply_from order p (suc k) (omega arith) (member_in (ply p (suc k)) there) in
+          absurd (false≢true (sym apart ∙ shared_near order asc good place p gap is.short (suc k) deep e.0 e.1 e.2)))
+    ] in
         ap zero_if absent ∙ sym (deep_own k (is_on_way p (suc k) (before_of order place) || is_on_way p (suc k) (slice_get order place)) false apart))
   ]
 

@@ -46,8 +46,7 @@ fn is_own(rows: &[Row], before: usize, after: usize, p: Prefix, depth: u8) -> bo
     requires { depth < 8 }
     ensures { result ≡ is_own p (entry_before rows.now before) (entry_at rows.now after) depth }
 {
-    0 < depth
-        && !(is_on_way_before(rows, before, p, depth) || is_on_way_to(rows, after, p, depth))
+    0 < depth && !(is_on_way_before(rows, before, p, depth) || is_on_way_to(rows, after, p, depth))
 }
 
 fn unit(is: bool) -> u32

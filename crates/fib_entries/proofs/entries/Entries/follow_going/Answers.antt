@@ -32,7 +32,7 @@ pub returns-clause-followed : goal.returns-clause-followed
 returns-clause-followed c =
     let list : c.paths_at-new.result.now ≡ paths_at c.args.prefix c.args.source c.args.tables.now.routes = c.paths_at-new.ensures ∙ ap (paths_at c.args.prefix c.args.source) c.as_slice-3.ensures in
     let size : c.size_at-size.result ≡ own_size c.args.prefix (entry_before c.self.inside.rows.items c.in-Some.at.0) (entry_at c.self.inside.rows.items (c.in-Some.at.0 + 1)) =
-        c.size_at-size.ensures ∙ ap (λ (l : List Row). own_size c.args.prefix (entry_before l c.in-Some.at.0) (entry_at l (c.in-Some.at.0 + 1))) c.as_slice-2.ensures.value in
+    c.size_at-size.ensures ∙ ap (λ (l : List Row). own_size c.args.prefix (entry_before l c.in-Some.at.0) (entry_at l (c.in-Some.at.0 + 1))) c.as_slice-2.ensures.value in
     let number = c.in-Some-lowered.ensures in
     subst (λ (v : Known). (S : Tables) → StandsFor v S → Differ (changes.Route c.args.prefix c.args.source ∷ []) S c.args.tables.now
     → IsFollowed v (known c.leave.new.rows.items c.leave.new.lists c.in-Some-lowered.objects) S c.args.tables.now c.args.most c.in_ok-followed.followed) c.self.view_is
