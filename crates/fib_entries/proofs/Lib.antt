@@ -29,3 +29,13 @@ pub mod Following
 pub mod Ending
 pub mod Renewing
 pub mod EndNews
+pub mod PlyOrder
+pub mod PlyCounts
+pub mod Placing
+pub mod Growing
+pub mod Sharing
+pub mod Withdrawing
+pub mod Leaving
+pub mod Arriving
+pub mod Joining
+pub mod Gaps

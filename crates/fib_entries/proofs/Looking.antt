@@ -77,7 +77,7 @@ module _ {X : Type 0} (key : X → Prefix) where
   at_place (x ∷ xs) zero lt = (x, refl)
   at_place (x ∷ xs) (suc i) lt = at_place xs i (omega (arith, lt))
 
-  holds_there : (P : X → Type 0) (rows : List X) (i : ℕ) (r : X) → HoldsAt P rows i → slice_get rows i ≡ Some r → P r
+  pub holds_there : (P : X → Type 0) (rows : List X) (i : ℕ) (r : X) → HoldsAt P rows i → slice_get rows i ≡ Some r → P r
   holds_there P [] i r h at = absurd (none_some r at)
   holds_there P (x ∷ xs) zero r h at = subst P (some_is x r at) (h x)
   holds_there P (x ∷ xs) (suc i) r h at = holds_there P xs i r h at
@@ -90,7 +90,7 @@ module _ {X : Type 0} (key : X → Prefix) where
       r.1 ∙ sym (find_only (λ z. same_prefix e (key z)) rows i r.0 r.1 (equal_is e r.0 is)
       (λ j q b same. one_place rows asc j i q r.0 b r.1 (sym ((same_prefix-Decides e (key q)).0 same) ∙ (same_prefix-Decides e (key r.0)).0 (equal_is e r.0 is))))
 
-  rising : (rows : List X) (e : Prefix) → IsAscending (map key rows) → IsNonDecreasingBy (λ r. ordering_index (prefix_cmp (key r) e)) rows
+  pub rising : (rows : List X) (e : Prefix) → IsAscending (map key rows) → IsNonDecreasingBy (λ r. ordering_index (prefix_cmp (key r) e)) rows
   unfolding IsStrictlySortedBy
   rising [] e asc i j d le lt = absurd (omega (arith, lt))
   rising (x ∷ xs) e asc zero zero d le lt = omega arith

@@ -44,7 +44,7 @@ some_content (Some k) paths h = refl
 pub named_held : (rows : List Row) (lists : List PathKept) → AreNamed rows lists → AreHeld rows lists
 named_held rows lists n r q c d = let x = n.each r q c d in some_content (kept_of lists q.1) x.0.paths x.3.1
 
-once_more : (x : Pair) (xs : List Pair) (paths : List Path) → count_in (x ∷ xs) paths ≡ count_in xs paths + once x.paths paths
+pub once_more : (x : Pair) (xs : List Pair) (paths : List Path) → count_in (x ∷ xs) paths ≡ count_in xs paths + once x.paths paths
 unfolding once
 once_more x xs paths = let e = count_by-cons (λ z. pointwise same_path z.paths paths) x xs in let u = bit (pointwise same_path x.paths paths) in omega (arith, e, u)
   where

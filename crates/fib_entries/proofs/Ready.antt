@@ -81,7 +81,7 @@ at_index [] r c = absurd (Contains-nil r c)
 at_index (x ∷ xs) r c = elim (in_cases x r xs c) [ inl is ↦ (0, ap Some is) | inr later ↦ (let g = at_index xs r later in (suc g.0, g.1)) ]
 
 -- an address between the first of the prefix and one of it is in it
-between : (p : Prefix) (a b : ℕ) → p.bits ≤ a → a ≤ b → contains p b ≡ true → contains p a ≡ true
+pub between : (p : Prefix) (a b : ℕ) → p.bits ≤ a → a ≤ b → contains p b ≡ true → contains p a ≡ true
 between p a b low high inside =
     let size = size_of p.len in
     let pos = pow_pos (32 - p.len) in
@@ -95,7 +95,7 @@ between p a b low high inside =
     squeeze x y z a b e = omega (arith, a, b, e)
 
 -- what is in the prefix doesn't begin before it
-inside_from : (p : Prefix) (a : ℕ) → IsPrefix p → contains p a ≡ true → p.bits ≤ a
+pub inside_from : (p : Prefix) (a : ℕ) → IsPrefix p → contains p a ≡ true → p.bits ≤ a
 inside_from p a is inside =
     let size = size_of p.len in
     let pos = pow_pos (32 - p.len) in

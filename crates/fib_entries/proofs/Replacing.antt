@@ -61,7 +61,7 @@ met_any T needs.Any a h = refl
 met_any T needs.Host a h = absurd (false≢true h)
 met_any T needs.Attached a h = absurd (false≢true h)
 
-met_is : (T : Tables) (n : Need) (k : PathKind) → (need_rank n == 0) ≡ true → true ≡ kind_met T n k
+pub met_is : (T : Tables) (n : Need) (k : PathKind) → (need_rank n == 0) ≡ true → true ≡ kind_met T n k
 met_is T n kinds.Drop h = refl
 met_is T n kinds.Local h = refl
 met_is T n (kinds.Attached i) h = refl
@@ -77,7 +77,7 @@ counts_is T e n (kinds.Hop a i) h m l = absurd (false≢true h)
 counts_is T e n (kinds.Recursive a) h m l = sym (ap (λ b. not b && is_met T n a) (l a) ∙ met_any T n a m)
 counts_is T e n kinds.Cover h m l = absurd (false≢true h)
 
-loop_is : (T : Tables) (e : Prefix) (k : PathKind) → ((a : ℕ) → looped T e a ≡ false) → false ≡ looped_kind T e k
+pub loop_is : (T : Tables) (e : Prefix) (k : PathKind) → ((a : ℕ) → looped T e a ≡ false) → false ≡ looped_kind T e k
 loop_is T e kinds.Drop l = refl
 loop_is T e kinds.Local l = refl
 loop_is T e (kinds.Attached i) l = refl
@@ -88,16 +88,16 @@ loop_is T e kinds.Cover l = refl
 mark_with : Aim → Bool → Path → Marked
 mark_with m b q = record { aim = m; counts = b; weight = q.weight; preference = q.preference }
 
-mark_is : (T : Tables) (e : Prefix) (q : Path) → is_plain q ≡ true → ((a : ℕ) → looped T e a ≡ false) → plain_mark q ≡ marked T e q
+pub mark_is : (T : Tables) (e : Prefix) (q : Path) → is_plain q ≡ true → ((a : ℕ) → looped T e a ≡ false) → plain_mark q ≡ marked T e q
 unfolding mark_with
 mark_is T e q h l = let both = and_both (plain_kind q.kind) (need_rank q.need == 0) h in
     ap (λ m. mark_with m (plain_counts q.kind) q) (aim_is T e q.kind both.0) ∙ ap (λ b. mark_with (kind_aim T e q.kind) b q) (counts_is T e q.need q.kind both.0 both.1 l)
 
-maps_same : {X Y : Type 0} (f g : X → Y) (xs : List X) → ((x : X) → Contains xs x → f x ≡ g x) → map f xs ≡ map g xs
+pub maps_same : {X Y : Type 0} (f g : X → Y) (xs : List X) → ((x : X) → Contains xs x → f x ≡ g x) → map f xs ≡ map g xs
 maps_same f g [] h = refl
 maps_same f g (x ∷ xs) h = ap (λ y. y ∷ map f xs) (h x (in_front x x xs refl)) ∙ ap (λ ys. g x ∷ ys) (maps_same f g xs (λ y c. h y (in_rest x y xs c)))
 
-goal_long : (paths : List Path) (e : Prefix) → Contains (goals_of paths) e → e.len ≡ 32
+pub goal_long : (paths : List Path) (e : Prefix) → Contains (goals_of paths) e → e.len ≡ 32
 goal_long paths e c = (let r = flat_map_from (λ q. goal_of q.kind) paths e c in by r.0.kind r.2)
   where
     by : (k : PathKind) → Contains (goal_of k) e → e.len ≡ 32

@@ -5,3 +5,6 @@ pub mod Fields
 pub mod Waking
 pub mod Leaf
 pub mod Ends
+pub mod Plies
+pub mod Going
+pub mod Coming

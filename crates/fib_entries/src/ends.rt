@@ -26,7 +26,10 @@ use std::mem;
 #[derive(Clone, Copy)]
 pub enum News {
     /// An interface's flag.
-    Flag { interface: u32, up: bool },
+    Flag {
+        interface: u32,
+        up: bool,
+    },
     /// A neighbor's MAC.
     Mac {
         interface: u32,
@@ -74,7 +77,8 @@ fn is_link(paths: &[Path], interface: u32) -> bool
     match paths {
         [path] => match path.kind {
             PathKind::Hop {
-                interface: other, ..
+                interface: other,
+                ..
             } => other == interface,
             _ => false,
         },
@@ -94,11 +98,7 @@ fn is_adjacency(lists: &PathLists, held: (FibSource, PathListId), interface: u32
 }
 
 /// Whether one of the pairs is.
-fn has_adjacency(
-    lists: &PathLists,
-    held: &[(FibSource, PathListId)],
-    interface: u32,
-) -> bool
+fn has_adjacency(lists: &PathLists, held: &[(FibSource, PathListId)], interface: u32) -> bool
     requires { AreKept lists.now held.now }
     ensures { IsTrue result → (q : FibSourceValue × ℕ) × Contains held.now q × IsNear lists.now interface q }
 {
@@ -128,9 +128,12 @@ fn is_over(interface: u32, mark: &Marked) -> bool
 {
     match mark.aim {
         Aim::Ends(End::Glean(other)) => other == interface,
-        Aim::Ends(End::Hop {
-            interface: other, ..
-        }) => other == interface,
+        Aim::Ends(
+            End::Hop {
+                interface: other,
+                ..
+            },
+        ) => other == interface,
         _ => false,
     }
 }
@@ -140,11 +143,13 @@ fn is_at(interface: u32, next_hop: Addr, mark: &Marked) -> bool
     ensures { result ≡ aim_at interface next_hop mark.now.aim }
 {
     match mark.aim {
-        Aim::Ends(End::Hop {
-            interface: other,
-            next_hop: addr,
-            ..
-        }) => other == interface && addr == next_hop,
+        Aim::Ends(
+            End::Hop {
+                interface: other,
+                next_hop: addr,
+                ..
+            },
+        ) => other == interface && addr == next_hop,
         _ => false,
     }
 }

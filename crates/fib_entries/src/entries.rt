@@ -20,9 +20,12 @@ use crate::apply::is_other;
 use crate::build::take_all;
 use crate::change::{Target, change};
 use crate::changes::Followed;
+use crate::coming::{arriving, come};
 use crate::ends::News;
+use crate::going::{leave, leaving, size_at};
 use crate::leaf::{paths_at, ready, top_rank};
 use crate::look::row;
+use crate::plies::{lowered, own_size, raised};
 use crate::rows::Row;
 use crate::{ends, whole};
 use fib_addr::{Addr, Prefix};
@@ -160,7 +163,7 @@ impl Entries {
 
     /// Follows the change of a flag or of a known neighbor's MAC in the marks of the rows; None where it is another change, or where the tables
     /// are too large. After want of memory all is as before.
-    pub(crate) fn follow_end(
+    pub(crate) fn follow_news(
         &mut self,
         tables: &Tables,
         change: Change,
@@ -298,6 +301,131 @@ impl Entries {
         match row(self.rows.as_slice(), prefix) {
             Some(r) => r.rank,
             None => 0,
+        }
+    }
+}
+
+impl Entries {
+    /// Follows the loss of the route of that prefix and source, where rows and neighbors tell that the prefix's row goes with it and that
+    /// nothing else is touched; None where they don't. After want of memory all is as before.
+    pub(crate) fn follow_going(
+        &mut self,
+        tables: &Tables,
+        prefix: Prefix,
+        source: FibSource,
+        most: u32,
+    ) -> Result<Option<Followed>, AllocError>
+        requires sound { IsSound tables.now }
+        requires most { most < 2 ^ 32 - 1 }
+        ensures followed { IfOk result (λ o. IfSome o (λ f. (S : TablesValue) → StandsFor self.old S →
+            Differ (changes.Route prefix source ∷ []) S tables.now → IsFollowed self.old self.new S tables.now most f)) }
+        ensures none { IfOk result (λ o. IfNone o (self.new ≡ self.old)) }
+        ensures err { OnErr result (self.new ≡ self.old) }
+    {
+        let Some(at) = leaving(self.rows.as_slice(), &self.lists, tables, prefix, source) else {
+            return Ok(None);
+        };
+        let size = size_at(self.rows.as_slice(), at.0, prefix);
+        let Some(objects) = lowered(self.objects, size, most) else {
+            return Ok(None);
+        };
+        let new = paths_at(prefix, source, tables.routes.as_slice());
+        let followed = leave(self.alloc, &mut self.rows, &mut self.lists, at, prefix, new)?;
+        self.order.remove(prefix);
+        self.objects = objects;
+        Ok(Some(followed))
+    }
+
+    /// Follows the first route of that prefix and source, where rows and neighbors tell that the prefix comes with it and that nothing else
+    /// is touched; None where they don't. After want of memory all is as before.
+    pub(crate) fn follow_coming(
+        &mut self,
+        tables: &Tables,
+        prefix: Prefix,
+        source: FibSource,
+        most: u32,
+    ) -> Result<Option<Followed>, AllocError>
+        requires sound { IsSound tables.now }
+        requires most { most < 2 ^ 32 - 1 }
+        ensures followed { IfOk result (λ o. IfSome o (λ f. (S : TablesValue) → StandsFor self.old S →
+            Differ (changes.Route prefix source ∷ []) S tables.now → IsFollowed self.old self.new S tables.now most f)) }
+        ensures none { IfOk result (λ o. IfNone o (self.new ≡ self.old)) }
+        ensures err { OnErr result (self.new ≡ self.old) }
+    {
+        let Some(place) = arriving(self.rows.as_slice(), tables, prefix, source) else {
+            return Ok(None);
+        };
+        let new = paths_at(prefix, source, tables.routes.as_slice());
+        if !self.lists.has_room(new) {
+            return Ok(None);
+        }
+        let top = top_rank(self.rows.as_slice(), new);
+        if top == u32::MAX {
+            return Ok(None);
+        }
+        let size = own_size(self.rows.as_slice(), place, place, prefix);
+        let Some(objects) = raised(self.objects, size, most) else {
+            return Ok(None);
+        };
+        let to = Target {
+            prefix,
+            source,
+            new,
+            rank: top + 1,
+        };
+        self.order.insert(prefix)?;
+        match come(self.alloc, &mut self.rows, &mut self.lists, place, to) {
+            Ok(followed) => {
+                self.objects = objects;
+                Ok(Some(followed))
+            }
+            Err(e) => {
+                self.order.remove(prefix);
+                Err(e)
+            }
+        }
+    }
+
+    /// Follows the change of the route of that prefix and source, where rows and neighbors tell that it touches that prefix alone, whether
+    /// its row stays, goes or comes; None where they don't. After want of memory all is as before.
+    pub(crate) fn follow_alone(
+        &mut self,
+        tables: &Tables,
+        prefix: Prefix,
+        source: FibSource,
+        most: u32,
+    ) -> Result<Option<Followed>, AllocError>
+        requires sound { IsSound tables.now }
+        requires most { most < 2 ^ 32 - 1 }
+        ensures followed { IfOk result (λ o. IfSome o (λ f. (S : TablesValue) → StandsFor self.old S →
+            Differ (changes.Route prefix source ∷ []) S tables.now → IsFollowed self.old self.new S tables.now most f)) }
+        ensures none { IfOk result (λ o. IfNone o (self.new ≡ self.old)) }
+        ensures err { OnErr result (self.new ≡ self.old) }
+    {
+        match self.follow_leaf(tables, prefix, source, most)? {
+            Some(followed) => Ok(Some(followed)),
+            None => self.follow_coming_or_going(tables, prefix, source, most),
+        }
+    }
+
+    /// The same where the row goes or comes.
+    fn follow_coming_or_going(
+        &mut self,
+        tables: &Tables,
+        prefix: Prefix,
+        source: FibSource,
+        most: u32,
+    ) -> Result<Option<Followed>, AllocError>
+        requires sound { IsSound tables.now }
+        requires most { most < 2 ^ 32 - 1 }
+        ensures followed { IfOk result (λ o. IfSome o (λ f. (S : TablesValue) → StandsFor self.old S →
+            Differ (changes.Route prefix source ∷ []) S tables.now → IsFollowed self.old self.new S tables.now most f)) }
+        ensures none { IfOk result (λ o. IfNone o (self.new ≡ self.old)) }
+        ensures err { OnErr result (self.new ≡ self.old) }
+    {
+        match self.follow_going(tables, prefix, source, most)? {
+            Some(followed) => Ok(Some(followed)),
+            None => self.follow_coming(tables, prefix, source, most),
         }
     }
 }

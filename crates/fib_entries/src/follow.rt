@@ -230,9 +230,9 @@ impl Entries {
     {
         match changes {
             [Change::Route { prefix, source }] => {
-                self.follow_leaf(tables, *prefix, *source, most)
+                self.follow_alone(tables, *prefix, *source, most)
             }
-            [change] => self.follow_end(tables, *change, most),
+            [change] => self.follow_news(tables, *change, most),
             _ => Ok(None),
         }
     }

@@ -187,7 +187,7 @@ pub fn bits(alloc: Global, paths: &[Path], bit: bool) -> Result<List<bool>, Allo
 }
 
 /// Whether routes are written with that source.
-fn is_written(source: FibSource) -> bool
+pub fn is_written(source: FibSource) -> bool
     ensures { IsTrue result → (source_rank source ≡ 2) ⊎ (source_rank source ≡ 3) }
 {
     match source {
@@ -197,7 +197,7 @@ fn is_written(source: FibSource) -> bool
 }
 
 /// Whether the prefix is shorter than a host.
-fn is_short(p: Prefix) -> bool
+pub fn is_short(p: Prefix) -> bool
     ensures short { IsTrue result → p.len < 32 }
     ensures prefix { IsPrefix p }
 {
@@ -277,7 +277,7 @@ pub fn leaf_place(
 }
 
 /// Whether there is no path.
-fn is_none(paths: &[Path]) -> bool
+pub fn is_none(paths: &[Path]) -> bool
     ensures { IsTrue result ↔ (paths.now ≡ []) }
 {
     paths.is_empty()

@@ -9,7 +9,7 @@ use Rattle.fib_entries.specs.inner.Leaf.{IsFollowed}
 use Rattle.fib_entries.proofs.EndNews.{followed_news}
 use Rattle.fib_entries.proofs.Renewing.{fields_renewed}
 use Rattle.fib_entries.proofs.Following.{known}
-use Rattle.fib_entries.proofs.entries.Entries.follow_end.Goals as goal
+use Rattle.fib_entries.proofs.entries.Entries.follow_news.Goals as goal
 
 pub invariant_of-self-2 : goal.invariant_of-self-2
 invariant_of-self-2 c =

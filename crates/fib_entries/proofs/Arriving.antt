@@ -1,0 +1,129 @@
+-- Rows after a leaf's row came, and what they name.
+use Rattle.std.proofs.Common.{arith, ◌≡◌, ◌≢◌, ℕ, ◌+◌, ◌<◌, ◌≤◌, List, [], ◌∷◌, map, length, Some, ◌⊎◌, inl, inr, refl, sym, ◌∙◌, ap, subst, slice_get, ◌↔◌}
+use Rattle.std.specs.Prelude.{Contains, slice_set}
+use Rattle.std.specs.List.{insert}
+use Rattle.std.proofs.lemmas.Option.{slice_get_within}
+use Rattle.fib_list.proofs.Lists.{Contains-nil}
+use Rattle.fib_addr.specs.Prefixes.{Prefix}
+use Rattle.fib_cover.specs.Covers.{IsAscending}
+use Rattle.fib_resolve.specs.declared.pairs.Pair.{Pair}
+use Rattle.fib_resolve.specs.declared.types.FibSource.{FibSource}
+use Rattle.fib_resolve.specs.declared.types.Path.{Path}
+use Rattle.fib_changes.proofs.Edits.{in_cases, in_front, in_rest}
+use Rattle.fib_changes.proofs.SamePairs.{map_in}
+use Rattle.fib_interned.proofs.Finding.{some_is, contains_at, get_set_there}
+use Rattle.fib_entries.specs.Known.{PathKept, content_of, prefix_of, IsHeld}
+use Rattle.fib_entries.specs.inner.Coming.{IsPlaced, blank_row, with_pairs}
+use Rattle.fib_entries.specs.inner.Fields.{AreCounted, AreFields, AreNamed, count_in}
+use Rattle.fib_entries.specs.inner.Leaf.{IsButFor, AreAttached, goals_of}
+use Rattle.fib_entries.specs.inner.Plies.{IsGap}
+use Rattle.fib_entries.specs.declared.replace.Own.{Own}
+use Rattle.fib_entries.specs.declared.rows.Row.{Row}
+use Rattle.fib_entries.proofs.Linking.{zip_at, zip_from, attached_names, set_names}
+use Rattle.fib_entries.proofs.Listing.{pair_of}
+use Rattle.fib_entries.proofs.Looking.{one_place}
+use Rattle.fib_entries.proofs.Naming.{named_held, once_more}
+use Rattle.fib_entries.proofs.Placing.{inserted_from, inserted_old, inserted_at, inserted_map, inserted_ascending, length_map, gap_absent, same_order}
+use Rattle.fib_entries.proofs.Replacing.{set_from}
+use Rattle.fib_entries.proofs.Using.{once, recounted, counted_taken, taken_stays, content_taken}
+
+-- what belongs among the prefixes belongs among the rows
+pub gap_inside : (rows : List Row) (place : ℕ) (p : Prefix) → IsGap (map prefix_of rows) place p → place ≤ length rows
+gap_inside rows place p gap = let le = gap.inside in let e = length_map prefix_of rows in omega (arith, le, e)
+
+pub ordered_with : (rows : List Row) (place : ℕ) (row : Row) → IsGap (map prefix_of rows) place row.prefix → IsAscending (map prefix_of rows) → IsAscending (map prefix_of (insert rows place row))
+ordered_with rows place row gap asc = subst IsAscending (sym (inserted_map prefix_of rows place row (gap_inside rows place row.prefix gap))) (inserted_ascending (map prefix_of rows) place row.prefix gap asc)
+
+-- the row that came is still there after its prefix came to others' dependants
+pub came_inside : (p : Prefix) (goals : List Prefix) (rows mid : List Row) (place : ℕ) (row : Row) → place ≤ length rows → AreAttached p goals (insert rows place row) mid → place < length mid
+came_inside p goals rows mid place row le a = (let s = zip_at _ (insert rows place row) mid place row a (inserted_at rows place row le) in slice_get_within mid place s.0 s.1)
+
+module _ (old new : List Row) (lists later : List PathKept) (place : ℕ) (p : Prefix) (after : List Path) (own : Own) (r : IsPlaced old new lists later place p after own) (asc : IsAscending (map prefix_of old)) (gap : IsGap (map prefix_of old) place p) where
+  le : place ≤ length old
+  le = gap_inside old place p gap
+
+  pub mid_own : (s : Row) × (slice_get r.mid place ≡ Some s) × (IsButFor p (blank_row p own) s × (Contains s.dependants p ↔ Contains {X = Prefix} [] p ⊎ Contains (goals_of after) p))
+  mid_own = zip_at _ (insert old place (blank_row p own)) r.mid place (blank_row p own) r.attached (inserted_at old place (blank_row p own) le)
+
+  set : new ≡ slice_set r.mid place (with_pairs ((own.source, r.new_id) ∷ []) mid_own.0)
+  set = r.set mid_own.0 mid_own.1
+
+  mid_names : map prefix_of r.mid ≡ insert (map prefix_of old) place p
+  mid_names = attached_names p (goals_of after) (insert old place (blank_row p own)) r.mid r.attached ∙ inserted_map prefix_of old place (blank_row p own) le
+
+  mid_ordered : IsAscending (map prefix_of r.mid)
+  mid_ordered = subst IsAscending (sym mid_names) (inserted_ascending (map prefix_of old) place p gap asc)
+
+  pub names_came : map prefix_of new ≡ insert (map prefix_of old) place p
+  names_came = ap (map prefix_of) set ∙ (set_names r.mid place mid_own.0 (with_pairs ((own.source, r.new_id) ∷ []) mid_own.0) mid_own.1 refl ∙ mid_names)
+
+  pub ordered_came : IsAscending (map prefix_of new)
+  ordered_came = subst IsAscending (sym names_came) (inserted_ascending (map prefix_of old) place p gap asc)
+
+  -- the prefix alone is one more
+  pub with_it : (e : Prefix) → Contains (map prefix_of new) e ↔ Contains (map prefix_of old) e ⊎ (p ≡ e)
+  with_it e = (
+    λ c. elim (inserted_from (map prefix_of old) place p e gap.inside (subst (λ l. Contains l e) names_came c)) [ inl is ↦ inr is | inr was ↦ inl was ],
+    λ d. subst (λ l. Contains l e) (sym names_came) (elim d [
+      | inl was ↦ inserted_old (map prefix_of old) place p e gap.inside was
+      | inr is ↦ subst (Contains (insert (map prefix_of old) place p)) is (contains_at (insert (map prefix_of old) place p) place p (inserted_at (map prefix_of old) place p gap.inside))
+    ]),
+  )
+
+  pub there_came : Contains new (with_pairs ((own.source, r.new_id) ∷ []) mid_own.0)
+  there_came = subst (λ l. Contains l (with_pairs ((own.source, r.new_id) ∷ []) mid_own.0)) (sym set)
+      (contains_at (slice_set r.mid place (with_pairs ((own.source, r.new_id) ∷ []) mid_own.0)) place (with_pairs ((own.source, r.new_id) ∷ []) mid_own.0) (get_set_there r.mid place (with_pairs ((own.source, r.new_id) ∷ []) mid_own.0) mid_own.0 mid_own.1))
+
+  -- each row is that one or one of the others
+  pub row_from : (s : Row) → Contains new s → (with_pairs ((own.source, r.new_id) ∷ []) mid_own.0 ≡ s)
+      ⊎ ((p ≢ s.prefix) × (q : Row) × Contains old q × (IsButFor p q s × (Contains s.dependants p ↔ Contains q.dependants p ⊎ Contains (goals_of after) q.prefix)))
+  row_from s c = elim (set_from r.mid place (with_pairs ((own.source, r.new_id) ∷ []) mid_own.0) s (subst (λ l. Contains l s) set c)) [
+    | inl is ↦ inl is
+    | inr (j, off, at) ↦ (let x = zip_from _ (insert old place (blank_row p own)) r.mid r.attached s (contains_at r.mid j s at) in
+        let away : p ≢ s.prefix = λ is. off (one_place prefix_of r.mid mid_ordered j place s mid_own.0 at mid_own.1 (sym is ∙ sym mid_own.2.0.prefix)) in
+        elim (inserted_from old place (blank_row p own) x.0 le x.1) [
+          | inl blank ↦ absurd (away (ap (λ z. z.prefix) blank ∙ sym x.2.0.prefix))
+          | inr was ↦ inr (away, x.0, was, x.2)
+        ])
+  ]
+
+  module _ (n : AreNamed old lists) where
+    counted : AreCounted later (count_in (pair_of p own.source after ∷ n.pairs))
+    unfolding pair_of
+    counted = recounted later (λ paths. count_in n.pairs paths + once after paths) (count_in (pair_of p own.source after ∷ n.pairs)) (λ paths. sym (once_more (pair_of p own.source after) n.pairs paths))
+        (counted_taken lists later after r.new_id r.taken r.apart (count_in n.pairs) n.counted)
+
+    named_each : (s : Row) (q : FibSource × ℕ) → Contains new s → Contains s.pairs q → (x : Pair) × Contains (pair_of p own.source after ∷ n.pairs) x × (s.prefix ≡ x.prefix) × IsHeld later q x
+    unfolding pair_of
+    named_each s q c d = elim (row_from s c) [
+      | inl same ↦ (let e : (own.source, r.new_id) ≡ q = elim (in_cases (own.source, r.new_id) q [] (subst (λ l. Contains l q) (ap (λ z. z.pairs) (sym same)) d)) [ inl it ↦ it | inr none ↦ absurd (Contains-nil q none) ] in (
+        pair_of p own.source after,
+        in_front (pair_of p own.source after) (pair_of p own.source after) n.pairs refl,
+        ap (λ z. z.prefix) (sym same) ∙ mid_own.2.0.prefix,
+        (ap (λ z. z.0) (sym e), ap (λ z. content_of later z.1) (sym e) ∙ content_taken lists later after r.new_id r.taken r.apart (count_in n.pairs) n.counted),
+      ))
+      | inr (away, x, was, but) ↦ (let w = n.each x q was (subst (λ l. Contains l q) but.0.pairs d) in
+          (w.0, in_rest (pair_of p own.source after) w.0 n.pairs w.1, but.0.prefix ∙ w.2, (w.3.0, taken_stays lists later after r.new_id r.taken r.apart (count_in n.pairs) n.counted q.1 w.0.paths w.3.1)))
+    ]
+
+    named_came : AreNamed new later
+    named_came = record { pairs = pair_of p own.source after ∷ n.pairs; counted = counted; each = named_each }
+
+    -- the fields still fit together
+    pub fields_came : (set : List Prefix) → IsAscending set → ((e : Prefix) → Contains set e ↔ Contains (map prefix_of old) e ⊎ (e ≡ p)) → AreFields new later set
+    fields_came set set_asc members = record {
+      held = named_held new later named_came;
+      named = named_came;
+      ordered = ordered_came;
+      same = same_order set (map prefix_of new) set_asc ordered_came (λ e. (
+        λ c. elim ((members e).0 c) [ inl was ↦ (with_it e).1 (inl was) | inr is ↦ (with_it e).1 (inr (sym is)) ],
+        λ c. elim ((with_it e).0 c) [ inl was ↦ (members e).1 (inl was) | inr is ↦ (members e).1 (inr (sym is)) ],
+      ));
+    }
+
+-- what came and went again is as it was
+pub set_back : (order mid later : List Prefix) (p : Prefix) → IsAscending order → IsAscending later → (Contains order p → ⊥) → ((e : Prefix) → Contains mid e ↔ Contains order e ⊎ (e ≡ p)) → ((e : Prefix) → Contains later e ↔ Contains mid e × (e ≢ p)) → later ≡ order
+set_back order mid later p asc later_asc none came went = same_order later order later_asc asc (λ e. (
+  λ c. (let g = (went e).0 c in elim ((came e).0 g.0) [ inl was ↦ was | inr is ↦ absurd (g.1 is) ]),
+  λ c. (went e).1 ((came e).1 (inl c), λ is. none (subst (Contains order) is c)),
+))

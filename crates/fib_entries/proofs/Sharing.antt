@@ -1,0 +1,74 @@
+-- Next hops that others share, and the route of a list.
+use Rattle.std.proofs.Common.{arith, ◌≡◌, ◌≢◌, ℕ, suc, true, false, not, List, [], ◌∷◌, length, Option, Some, None, inl, inr, refl, sym, ◌∙◌, ap, subst}
+use Rattle.std.specs.Prelude.{Contains, filter_map}
+use Rattle.std.specs.List.{list_all}
+use Rattle.std.proofs.lemmas.Bool.{false≢true}
+use Rattle.std.proofs.lemmas.List.Elements.{All-contains, All-from_recursion}
+use Rattle.fib_list.proofs.Lists.{Contains-nil}
+use Rattle.fib_list.proofs.Booleans.{and_both}
+use Rattle.fib_addr.specs.Prefixes.{Prefix, same_prefix, host}
+use Rattle.fib_addr.proofs.PrefixLaws.{same_prefix-Decides}
+use Rattle.fib_resolve.specs.Edits.{paths_at}
+use Rattle.fib_resolve.specs.Loops.{targets}
+use Rattle.fib_resolve.specs.Pairs.{recursive_of, recursive_kind}
+use Rattle.fib_resolve.specs.Tables.{IsSound, is_route, IsSoundRoute}
+use Rattle.fib_resolve.specs.declared.types.FibSource.{FibSource}
+use Rattle.fib_resolve.specs.declared.types.Path.{Path}
+use Rattle.fib_resolve.specs.declared.types.PathKind.{PathKind}
+use Rattle.fib_resolve.specs.declared.types.PathKind.TheVariants as kinds
+use Rattle.fib_resolve.specs.declared.types.Route.{Route}
+use Rattle.fib_resolve.specs.declared.types.Tables.{Tables}
+use Rattle.fib_changes.proofs.CauseLaws.{any_from}
+use Rattle.fib_changes.proofs.Edits.{in_cases, in_front}
+use Rattle.fib_interned.proofs.Finding.{some_is, none_some}
+use Rattle.fib_entries.specs.Known.{Known, row_of, StandsFor}
+use Rattle.fib_entries.specs.inner.Leaf.{has_other, shared_kind, shared_path}
+use Rattle.fib_entries.specs.declared.rows.Row.{Row}
+use Rattle.fib_entries.proofs.Listing.{listed_route}
+use Rattle.fib_entries.proofs.Standing.{row_there}
+
+hop_from : (ps : List Path) (a : ℕ) → Contains (filter_map recursive_of ps) a → (q : Path) × Contains ps q × (q.kind ≡ kinds.Recursive a)
+hop_from [] a c = absurd (Contains-nil a c)
+hop_from (x ∷ xs) a c = by (hop_from xs a) x.kind refl (recursive_kind x.kind) refl c
+  where
+    more : (Contains (filter_map recursive_of xs) a → (q : Path) × Contains xs q × (q.kind ≡ kinds.Recursive a)) → Contains (filter_map recursive_of xs) a → (q : Path) × Contains (x ∷ xs) q × (q.kind ≡ kinds.Recursive a)
+    more f c = let r = f c in (r.0, (suc r.1.0, omega (arith, r.1.1), r.1.2), r.2)
+
+    by : (Contains (filter_map recursive_of xs) a → (q : Path) × Contains xs q × (q.kind ≡ kinds.Recursive a)) → (k : PathKind) → x.kind ≡ k → (o : Option ℕ) → recursive_kind x.kind ≡ o → Contains (filter_map recursive_of (x ∷ xs)) a
+        → (q : Path) × Contains (x ∷ xs) q × (q.kind ≡ kinds.Recursive a)
+    by f k is None e d = more f (rw e at d)
+    by f (kinds.Recursive b) is (Some z) e d = elim (in_cases z a (filter_map recursive_of xs) (rw e at d)) [
+      | inl same ↦ (x, in_front x x xs refl, is ∙ ap kinds.Recursive (some_is b z (sym (ap recursive_kind is) ∙ e) ∙ same))
+      | inr later ↦ more f later
+    ]
+    by f kinds.Drop is (Some z) e d = absurd (none_some z (sym (ap recursive_kind is) ∙ e))
+    by f kinds.Local is (Some z) e d = absurd (none_some z (sym (ap recursive_kind is) ∙ e))
+    by f (kinds.Attached i) is (Some z) e d = absurd (none_some z (sym (ap recursive_kind is) ∙ e))
+    by f (kinds.Hop b i) is (Some z) e d = absurd (none_some z (sym (ap recursive_kind is) ∙ e))
+    by f kinds.Cover is (Some z) e d = absurd (none_some z (sym (ap recursive_kind is) ∙ e))
+
+each_shared : (rows : List Row) (p : Prefix) (paths : List Path) (q : Path) → list_all (shared_path rows p) paths ≡ true → Contains paths q → shared_kind rows p q.kind ≡ true
+each_shared rows p [] q h c = absurd (Contains-nil q c)
+each_shared rows p (x ∷ xs) q h c = let both = and_both (shared_path rows p x) (list_all (shared_path rows p) xs) h in
+    elim (in_cases x q xs c) [ inl is ↦ subst (λ z. shared_path rows p z ≡ true) is both.0 | inr later ↦ each_shared rows p xs q both.1 later ]
+
+-- another leads to the entry of a next hop
+pub led_by : (v : Known) (S : Tables) (p : Prefix) → StandsFor v S → (paths : List Path) (a : ℕ) → list_all (shared_path v.rows p) paths ≡ true → Contains (filter_map recursive_of paths) a → (d : Prefix) × (d ≢ p) × Contains (targets S d) (host a)
+led_by v S p k paths a h c =
+    let q = hop_from paths a c in
+    let is : has_other p (row_of v.rows (host a)) ≡ true = subst (λ z. shared_kind v.rows p z ≡ true) q.2 (each_shared v.rows p paths q.0 h q.1) in
+    by (row_of v.rows (host a)) refl is
+  where
+    by : (o : Option Row) → row_of v.rows (host a) ≡ o → has_other p o ≡ true → (d : Prefix) × (d ≢ p) × Contains (targets S d) (host a)
+    by None e is = absurd (false≢true is)
+    by (Some r) e is = (let t = row_there v.rows (host a) r e in
+        let d = any_from (λ z. not (same_prefix p z)) r.dependants is in
+        (d.0, (λ same. false≢true (sym (ap not ((same_prefix-Decides p d.0).1 (sym same))) ∙ d.2)), subst (Contains (targets S d.0)) (sym t.1) (((k.rows r t.0).dependants d.0).0 d.1)))
+
+-- a route has a list that isn't empty
+pub path_there : (U : Tables) → IsSound U → (p : Prefix) (s : FibSource) (r : Route) → Contains U.routes r → is_route p s r ≡ true → paths_at p s U.routes ≡ [] → ⊥
+path_there U sound p s r c it none = elim (listed_route p s U.routes) [
+  | inl (q, d, that, is) ↦ (let good = All-contains (IsSoundRoute (length U.interfaces)) U.routes q (All-from_recursion (IsSoundRoute (length U.interfaces)) U.routes sound.routes) d in
+      let n = ap length (sym is ∙ none) in let some = good.some in absurd (omega (arith, n, some)))
+  | inr (absent, is) ↦ absent r c it
+]

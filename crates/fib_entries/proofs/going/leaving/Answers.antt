@@ -1,0 +1,42 @@
+use Rattle.std.proofs.Common.{◌≡◌, true, List, [], ℕ, refl, sym, ap, ◌∙◌, subst}
+use Rattle.std.specs.Prelude.{Contains}
+use Rattle.std.proofs.lemmas.Option.{slice_get_read}
+use Rattle.fib_changes.proofs.Edits.{in_front}
+use Rattle.fib_interned.proofs.Finding.{some_is, contains_at}
+use Rattle.fib_resolve.specs.Edits.{paths_at}
+use Rattle.fib_resolve.specs.declared.types.FibSource.{FibSource}
+use Rattle.fib_entries.specs.declared.rows.Row.{Row}
+use Rattle.fib_entries.specs.inner.Leaf.{IsLeafAt}
+use Rattle.fib_entries.proofs.going.leaving.Goals as goal
+
+pub content-requires : goal.content-requires
+content-requires c =
+    let at = slice_get_read c.args.rows.now _ c.in-Some.place c.index-rows-place.result refl c.in-Some.ensures.inside c.index-rows-place.is in
+    let own = c.in-Some-only_list.ensures in
+    c.requires.held c.index-rows-place.result (c.args.source, c.in-Some-only_list.id) (contains_at c.args.rows.now c.in-Some.place c.index-rows-place.result at)
+    (subst (λ (l : List (FibSource × ℕ)). Contains l (c.args.source, c.in-Some-only_list.id)) (sym own) (in_front (c.args.source, c.in-Some-only_list.id) (c.args.source, c.in-Some-only_list.id) [] refl))
+
+pub returns-clause-leaving : goal.returns-clause-leaving
+returns-clause-leaving c =
+    let at = slice_get_read c.args.rows.now _ c.in-Some.place c.index-rows-place.result refl c.in-Some.ensures.inside c.index-rows-place.is in
+    let m = subst (λ l. IsLeafAt c.args.rows.now l c.in-Some.place c.args.p c.args.source) c.as_slice.ensures c.in-Some.ensures.leaf in
+    let list = c.paths_at-new.ensures ∙ ap (paths_at c.args.p c.args.source) c.as_slice-2.ensures in
+    let old = c.suits.ensures c.if-not-suits.false in (
+      c.content.result.now,
+      record {
+        row = m.row;
+        at = m.at;
+        own = m.own;
+        pairs = ap (λ (z : Row). z.pairs) (some_is m.row c.index-rows-place.result (sym m.at ∙ at)) ∙ c.in-Some-only_list.ensures;
+        none = m.leaf.none;
+        content = c.content.ensures;
+        prefix = m.prefix;
+        short = m.short;
+        written = m.written;
+        next = m.leaf.next;
+        far = m.leaf.far;
+        plain = old.0;
+        shared = old.1;
+        gone = sym list ∙ c.is_none.ensures.0 c.if-not-is_none.false;
+      },
+    )

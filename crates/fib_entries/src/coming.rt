@@ -1,0 +1,191 @@
+// A leaf that comes with its route.
+ghost use Rattle.std.specs.Prelude.{◌≡◌, ◌-◌, ◌^◌, ◌<◌, ◌≤◌, ◌∷◌, [], false, IfOk, IfSome, IsTrue, OnOk, OnErr, Some, length, map, slice_get, slice_set, vec_capacity};
+ghost use Rattle.std.specs.List.{insert};
+ghost use Rattle.fib_addr.specs.Prefixes.{contains};
+ghost use Rattle.fib_cover.specs.Covers.{IsAscending};
+ghost use Rattle.fib_paths.specs.PathLists.{IsUsedLess};
+ghost use Rattle.fib_entries.specs.Known.{prefix_of};
+ghost use Rattle.fib_entries.specs.declared.rows.Row.{Row as RowValue};
+ghost use Rattle.fib_entries.specs.inner.Coming.{IsArriving, IsPlaced, HasCome, blank_row, with_pairs};
+ghost use Rattle.fib_entries.specs.inner.Plies.{IsGap};
+
+use crate::apply::{alone, moved, own};
+use crate::change::Target;
+use crate::changes::{Followed, Touched};
+use crate::going::take_out;
+use crate::leaf::{are_far, is_none, is_short, is_written, paths_at, suits};
+use crate::links::attach;
+use crate::replace::Own;
+use crate::rows::Row;
+use fib_addr::Prefix;
+use fib_list::List;
+use fib_paths::{PathListId, PathLists};
+use fib_resolve::{FibSource, Path, Tables};
+use std::alloc::{AllocError, Global};
+
+/// Where the prefix belongs among the rows, where none is its own.
+fn gap_of(rows: &[Row], prefix: Prefix) -> Option<usize>
+    requires { IsAscending (map prefix_of rows.now) }
+    ensures gap { IfSome result (λ k. IsGap (map prefix_of rows.now) k prefix) }
+    ensures inside { IfSome result (λ k. k ≤ length rows.now) }
+{
+    match rows.binary_search_by_key(&prefix, |r| r.prefix) {
+        Ok(_) => None,
+        Err(place) => Some(place),
+    }
+}
+
+/// Whether the row at that place, if there is one, begins outside the prefix.
+fn is_outside(rows: &[Row], place: usize, p: Prefix) -> bool
+    ensures { IsTrue result → (s : RowValue) → slice_get rows.now place ≡ Some s → contains p s.prefix.bits ≡ false }
+{
+    match rows.get(place) {
+        Some(s) => !p.contains(s.prefix.bits()),
+        None => true,
+    }
+}
+
+/// Where the prefix's row belongs, where it comes with the route of that source, and it alone.
+pub fn arriving(rows: &[Row], tables: &Tables, p: Prefix, source: FibSource) -> Option<usize>
+    requires { IsAscending (map prefix_of rows.now) }
+    ensures arriving { IfSome result (λ place. IsArriving rows.now tables.now p source place) }
+    ensures inside { IfSome result (λ place. place ≤ length rows.now) }
+{
+    if !is_written(source) {
+        return None;
+    }
+    if !is_short(p) {
+        return None;
+    }
+    let Some(place) = gap_of(rows, p) else {
+        return None;
+    };
+    if !is_outside(rows, place, p) {
+        return None;
+    }
+    if !are_far(p, tables.neighbors.as_slice()) {
+        return None;
+    }
+    let new = paths_at(p, source, tables.routes.as_slice());
+    if is_none(new) {
+        return None;
+    }
+    if !suits(rows, p, new) {
+        return None;
+    }
+    Some(place)
+}
+
+/// The row that comes, without its list.
+fn blank(alloc: Global, p: Prefix, own: Own) -> Row
+    ensures { result ≡ blank_row p own }
+{
+    Row {
+        prefix: p,
+        pairs: List::new(alloc),
+        looped: own.looped,
+        met: own.met,
+        marked: own.marked,
+        dependants: List::new(alloc),
+        rank: own.rank,
+    }
+}
+
+fn put_in(rows: &mut Vec<Row>, place: usize, row: Row) -> Result<(), AllocError>
+    requires { place ≤ length rows.old.items }
+    ensures ok { OnOk result (rows.new.items ≡ insert rows.old.items place row) }
+    ensures err { OnErr result (rows.new.items ≡ rows.old.items) }
+{
+    rows.insert(place, row)?;
+    Ok(())
+}
+
+/// Room for one pair.
+fn room(alloc: Global) -> Result<Vec<(FibSource, PathListId)>, AllocError>
+    ensures empty { IfOk result (λ v. v.items ≡ []) }
+    ensures room { IfOk result (λ v. 0 < vec_capacity v) }
+{
+    let room = Vec::with_capacity(alloc, 1)?;
+    Ok(room)
+}
+
+/// The pair alone. Takes no memory.
+fn filled(
+    room: Vec<(FibSource, PathListId)>,
+    pair: (FibSource, PathListId),
+) -> List<(FibSource, PathListId)>
+    requires empty { room.items ≡ [] }
+    requires room { 0 < vec_capacity room }
+    ensures { result ≡ pair ∷ [] }
+{
+    let mut pairs = room;
+    let _done = pairs.push(pair);
+    List::from_vec(pairs)
+}
+
+/// The row at that place gets these pairs.
+fn set_pairs(rows: &mut Vec<Row>, place: usize, pairs: List<(FibSource, PathListId)>)
+    requires { place < length rows.old.items }
+    ensures { (r : RowValue) → slice_get rows.old.items place ≡ Some r → rows.new.items ≡ slice_set rows.old.items place (with_pairs pairs r) }
+{
+    rows[place].pairs = pairs;
+}
+
+/// Puts the prefix's row in at the place beside which it is given: its prefix becomes a dependant of the list's next hops, and the list is
+/// taken. After want of memory all is as before.
+fn place_row(
+    alloc: Global,
+    rows: &mut Vec<Row>,
+    lists: &mut PathLists,
+    at: (usize, Prefix),
+    new: &[Path],
+    own: Own,
+) -> Result<(), AllocError>
+    requires ascending { IsAscending (map prefix_of rows.old.items) }
+    requires gap { IsGap (map prefix_of rows.old.items) at.0 at.1 }
+    requires inside { at.0 ≤ length rows.old.items }
+    requires room { IsUsedLess lists.old new.now (2 ^ 32 - 1) }
+    ensures done { OnOk result (IsPlaced rows.old.items rows.new.items lists.old lists.new at.0 at.1 new.now own) }
+    ensures rows { OnErr result (rows.new.items ≡ rows.old.items) }
+    ensures lists { OnErr result (lists.new ≡ lists.old) }
+{
+    let source = own.source;
+    let room = room(alloc)?;
+    put_in(rows, at.0, blank(alloc, at.1, own))?;
+    match attach(alloc, rows, lists, at.1, new, new) {
+        Ok(id) => {
+            set_pairs(rows, at.0, filled(room, (source, id)));
+            Ok(())
+        }
+        Err(e) => {
+            take_out(rows, at.0);
+            Err(e)
+        }
+    }
+}
+
+/// Puts the prefix's row in at that place, and tells the prefix, and that it had no rank. After want of memory all is as before.
+pub fn come(
+    alloc: Global,
+    rows: &mut Vec<Row>,
+    lists: &mut PathLists,
+    place: usize,
+    to: Target<'_>,
+) -> Result<Followed, AllocError>
+    requires ascending { IsAscending (map prefix_of rows.old.items) }
+    requires gap { IsGap (map prefix_of rows.old.items) place to.prefix }
+    requires inside { place ≤ length rows.old.items }
+    requires room { IsUsedLess lists.old to.new.now (2 ^ 32 - 1) }
+    ensures done { IfOk result (λ f. HasCome rows.old.items rows.new.items lists.old lists.new place to.entry.prefix to.entry.source to.entry.new.now to.entry.rank f) }
+    ensures rows { OnErr result (rows.new.items ≡ rows.old.items) }
+    ensures lists { OnErr result (lists.new ≡ lists.old) }
+{
+    let own = own(alloc, to.source, to.new, to.rank)?;
+    let touched = alone(alloc, to.prefix)?;
+    let moved = moved(alloc, to.prefix, 0, to.rank)?;
+    place_row(alloc, rows, lists, (place, to.prefix), to.new, own)?;
+    Ok(Followed {
+        touched: Touched::of(touched),
+        moved,
+    })
+}

@@ -1,0 +1,108 @@
+// The plies that one entry alone makes.
+ghost use Rattle.std.specs.Prelude.{◌≡◌, ◌+◌, ◌-◌, ◌/◌, ◌^◌, ◌<◌, ◌≤◌, Some, IfSome, cond};
+ghost use Rattle.fib_entries.specs.inner.Plies.{is_on_way, is_own, own_below, own_size, entry_at, entry_before};
+
+use crate::look::is_same;
+use crate::rows::Row;
+use fib_addr::Prefix;
+
+/// Whether the ply at that depth on the way to the first prefix is on the way to the second too.
+fn is_on_way(p: Prefix, depth: u8, e: Prefix) -> bool
+    requires { depth < 8 }
+    ensures { result ≡ is_on_way p depth (Some e) }
+{
+    4 * depth < e.len()
+        && is_same(
+            Prefix::masked(p.bits(), 4 * depth),
+            Prefix::masked(e.bits(), 4 * depth),
+        )
+}
+
+/// The same of the row at that place, if there is one.
+fn is_on_way_to(rows: &[Row], place: usize, p: Prefix, depth: u8) -> bool
+    requires { depth < 8 }
+    ensures { result ≡ is_on_way p depth (entry_at rows.now place) }
+{
+    match rows.get(place) {
+        Some(r) => is_on_way(p, depth, r.prefix),
+        None => false,
+    }
+}
+
+/// The same of the row before that place.
+fn is_on_way_before(rows: &[Row], place: usize, p: Prefix, depth: u8) -> bool
+    requires { depth < 8 }
+    ensures { result ≡ is_on_way p depth (entry_before rows.now place) }
+{
+    if place == 0 {
+        false
+    } else {
+        is_on_way_to(rows, place - 1, p, depth)
+    }
+}
+
+/// Whether it is on the way to neither of the two, and isn't that of all addresses.
+fn is_own(rows: &[Row], before: usize, after: usize, p: Prefix, depth: u8) -> bool
+    requires { depth < 8 }
+    ensures { result ≡ is_own p (entry_before rows.now before) (entry_at rows.now after) depth }
+{
+    0 < depth && !(is_on_way_before(rows, before, p, depth) || is_on_way_to(rows, after, p, depth))
+}
+
+fn unit(is: bool) -> u32
+    ensures value { result ≡ cond is 1 0 }
+    ensures bound { result ≤ 1 }
+{
+    if is { 1 } else { 0 }
+}
+
+/// How many plies on the way to the prefix are on the way to neither of the two rows.
+fn own_plies(rows: &[Row], before: usize, after: usize, p: Prefix) -> u32
+    ensures plies { result ≡ own_below p (entry_before rows.now before) (entry_at rows.now after) ((p.len + 3) / 4) }
+    ensures few { result ≤ 8 }
+{
+    let mut plies = 0u32;
+    for depth in 0..(p.len() + 3) / 4 {
+        plies += unit(is_own(rows, before, after, p, depth));
+    }
+    plies
+}
+
+/// How many objects the prefix's entry makes: itself, and the plies on the way to it that are on the way neither to the row before the
+/// one place nor to that at the other.
+pub fn own_size(rows: &[Row], before: usize, after: usize, p: Prefix) -> u32
+    ensures size { result ≡ own_size p (entry_before rows.now before) (entry_at rows.now after) }
+    ensures few { result ≤ 9 }
+{
+    own_plies(rows, before, after, p) + 1
+}
+
+/// The objects without those, where they were told exactly and are few enough then.
+pub fn lowered(objects: u32, less: u32, most: u32) -> Option<u32>
+    ensures { IfSome result (λ n. (n + less ≡ objects) × (n ≤ most) × (objects < 2 ^ 32 - 1)) }
+{
+    if objects == u32::MAX {
+        return None;
+    }
+    if objects < less {
+        return None;
+    }
+    let left = objects - less;
+    if most < left {
+        return None;
+    }
+    Some(left)
+}
+
+/// The objects with those, where they are few enough then.
+pub fn raised(objects: u32, more: u32, most: u32) -> Option<u32>
+    ensures { IfSome result (λ n. (n ≡ objects + more) × (n ≤ most)) }
+{
+    if most < objects {
+        return None;
+    }
+    if most - objects < more {
+        return None;
+    }
+    Some(objects + more)
+}
