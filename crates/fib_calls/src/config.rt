@@ -8,7 +8,8 @@ use fib_resolve::{Edit, List, Name, Refusal};
 use std::alloc::Global;
 use std::test::Fail;
 
-fn name(alloc: Global, text: &str) -> Result<Name, Fail> {
+/// The name, which must be one.
+pub fn name(alloc: Global, text: &str) -> Result<Name, Fail> {
     if !Name::is_name(text.as_bytes()) {
         return Err("no name".into());
     }

@@ -2,7 +2,8 @@
 ghost use Rattle.std.specs.Prelude.{IfOk, ◌<◌};
 ghost use Rattle.fib_resolve.specs.Reachable.{IsWritten};
 
-use fib_addr::{Addr, Prefix};
+use crate::config::name;
+use fib_addr::{Addr, Mac, Prefix};
 use fib_config::Config;
 use fib_entries::{Change, Entries, FollowError};
 use fib_list::List;
@@ -127,8 +128,19 @@ fn edit_via(
     Ok(Edit::DelRoute { prefix, api, paths })
 }
 
-/// Four routes over two next hops, and after them what becomes of the second: the other next hop comes, the first one goes, and the path
-/// that is left gets another weight.
+/// The second route goes.
+fn edit_gone(alloc: Global) -> Edit
+    ensures { IsWritten result }
+{
+    Edit::DelRoute {
+        prefix: Prefix::masked(Addr(0x1e00_0000), 8),
+        api: false,
+        paths: List::new(alloc),
+    }
+}
+
+/// Four routes over two next hops, and after them what becomes of the second: the other next hop comes, the first one goes, the path that
+/// is left gets another weight, the route goes, and it comes again.
 fn edit_of(alloc: Global, number: u32) -> Result<Edit, AllocError>
     ensures { IfOk result IsWritten }
 {
@@ -139,7 +151,36 @@ fn edit_of(alloc: Global, number: u32) -> Result<Edit, AllocError>
         3 => edit_via(alloc, true, 0x3200_0000, 0x0a00_0008, 1),
         4 => edit_via(alloc, true, 0x1e00_0000, 0x0a00_0008, 1),
         5 => edit_via(alloc, false, 0x1e00_0000, 0x0a00_0007, 1),
-        _ => edit_via(alloc, true, 0x1e00_0000, 0x0a00_0008, 9),
+        6 => edit_via(alloc, true, 0x1e00_0000, 0x0a00_0008, 9),
+        7 => Ok(edit_gone(alloc)),
+        _ => edit_via(alloc, true, 0x1e00_0000, 0x0a00_0007, 1),
+    }
+}
+
+/// A link to the second next hop, its MAC, another MAC, and the link goes down.
+fn edit_of_end(alloc: Global, number: u32) -> Result<Edit, Fail>
+    ensures { IfOk result IsWritten }
+{
+    let name = name(alloc, "up0")?;
+    match number {
+        0 => Ok(Edit::CreateInterface(name)),
+        1 => Ok(Edit::SetState { name, up: true }),
+        2 => Ok(Edit::AddAddress {
+            name,
+            addr: Addr(0x0a00_0001),
+            len: 28,
+        }),
+        3 => Ok(Edit::SetNeighbor {
+            name,
+            addr: Addr(0x0a00_0008),
+            mac: Mac::of_bytes([2, 0, 0], [0, 0, 1]),
+        }),
+        4 => Ok(Edit::SetNeighbor {
+            name,
+            addr: Addr(0x0a00_0008),
+            mac: Mac::of_bytes([2, 0, 0], [0, 0, 2]),
+        }),
+        _ => Ok(Edit::SetState { name, up: false }),
     }
 }
 
@@ -202,7 +243,7 @@ fn follows_all(alloc: Global, entries: &mut Entries, config: &mut Config) -> Res
     if !has_four(alloc, entries, config)? {
         return Ok(false);
     }
-    for number in 4..7 {
+    for number in 4..9 {
         if !follows_a_leaf(alloc, entries, config, number)? {
             return Ok(false);
         }
@@ -210,12 +251,33 @@ fn follows_all(alloc: Global, entries: &mut Entries, config: &mut Config) -> Res
     Ok(true)
 }
 
-// Each of the three changes is followed in the row of the second route.
+/// Whether the entries that follow the edit are as if made anew.
+fn follows_an_end(
+    alloc: Global,
+    entries: &mut Entries,
+    config: &mut Config,
+    number: u32,
+) -> Result<bool, Fail> {
+    let edited = config.change(&edit_of_end(alloc, number)?)?;
+    entries.follow_changes(config, &[edited.change], 1000)?;
+    Ok(are_as_anew(alloc, entries, config)?)
+}
+
+fn follows_ends(alloc: Global, entries: &mut Entries, config: &mut Config) -> Result<bool, Fail> {
+    for number in 0..6 {
+        if !follows_an_end(alloc, entries, config, number)? {
+            return Ok(false);
+        }
+    }
+    Ok(true)
+}
+
+// Each of the five changes of the second route is followed in its row, and then what becomes of a link.
 #[test]
 fn a_leaf_is_followed_in_its_row(rt: HostRuntime) -> Result<(), Fail> {
     let alloc = rt.alloc();
     let mut config = Config::new(alloc, 1000)?;
     let mut entries = Entries::new(alloc)?;
-    assert!(rt; follows_all(alloc, &mut entries, &mut config)?);
+    assert!(rt; follows_all(alloc, &mut entries, &mut config)? && follows_ends(alloc, &mut entries, &mut config)?);
     Ok(())
 }
