@@ -15,3 +15,4 @@ pub mod Running
 pub mod Beginning
 pub mod Quiet
 pub mod Tallies
+pub mod Versions

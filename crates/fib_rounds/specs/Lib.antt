@@ -6,6 +6,7 @@ pub mod Summaries
 pub mod Closed
 pub mod Counts
 pub mod Runs
+pub mod History
 pub mod Rounds
 pub mod Writes
 pub mod Quiet

@@ -13,6 +13,7 @@ mod put;
 mod round;
 mod rounds;
 mod summary;
+mod task;
 
 pub use fault::RunFault;
 pub use put::put_all;

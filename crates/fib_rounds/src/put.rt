@@ -8,6 +8,7 @@ ghost use Rattle.fib_rounds.specs.Packets.{packets_text, last_text};
 ghost use Rattle.fib_rounds.specs.Writes.{AppendsSome, AreLaid};
 
 use crate::fault::RunFault;
+use crate::opening::Opening;
 use fib_capture::{Capture, Packet};
 use fib_crew::Results;
 use fib_outside::{Failed, Sink};
@@ -15,6 +16,13 @@ use fib_print::{put_bad_header, put_cut, put_not_ipv4, write_packet};
 use fib_resolve::Tables;
 use fib_results::Record;
 use std::alloc::AllocError;
+
+/// What the lines of packets are printed from: the tables at the close of their round, and the capture.
+#[derive(Drop)]
+pub struct Page<'a> {
+    pub tables: &'a Tables,
+    pub packets: &'a Capture,
+}
 
 /// Writes all the bytes, in as many pieces as the sink takes them. Where a write fails, the first of them were written.
 pub fn put_all<K: Sink>(out: &mut K, bytes: &[u8]) -> Result<(), Failed>
@@ -74,49 +82,46 @@ pub fn put_last(text: &mut Vec<u8>, packets: &Capture) -> Result<(), AllocError>
 fn write_frame<K: Sink>(
     out: &mut K,
     text: &mut Vec<u8>,
-    tables: &Tables,
-    packets: &Capture,
+    page: &Page<'_>,
     from: u32,
     to: u32,
     results: &Results,
 ) -> Result<(), RunFault>
     requires order { from ≤ to }
-    requires inside { to ≤ length packets.now.packets }
-    ensures ok { OnOk result (Appends (K.written out.old) (K.written out.new) (packets_text tables.now from (span packets.now.packets from to) (results_of results.now.list))) }
-    ensures err { OnErr result (AppendsSome (K.written out.old) (K.written out.new) (packets_text tables.now from (span packets.now.packets from to) (results_of results.now.list))) }
+    requires inside { to ≤ length page.now.packets.now.packets }
+    ensures ok { OnOk result (Appends (K.written out.old) (K.written out.new) (packets_text page.now.tables.now from (span page.now.packets.now.packets from to) (results_of results.now.list))) }
+    ensures err { OnErr result (AppendsSome (K.written out.old) (K.written out.new) (packets_text page.now.tables.now from (span page.now.packets.now.packets from to) (results_of results.now.list))) }
     ensures write { IsErrOf result RunFault.Write → HasRisen (K.faults out.old) (K.faults out.new) }
     ensures counted { K.faults out.old ≤ K.faults out.new }
 {
     text.clear();
-    put_span(text, tables, packets, from, to, results.list())?;
+    put_span(text, page.tables, page.packets, from, to, results.list())?;
     put_all(out, text)?;
     Ok(())
 }
 
-/// Writes a line for each packet from one place up to another, frame by frame; the flows print the frames' results. Memory is taken for the text of one
+/// Writes a line for each packet of a round, frame by frame; the flows print the frames' results. Memory is taken for the text of one
 /// frame at most.
 pub fn write_frames<K: Sink>(
     out: &mut K,
     text: &mut Vec<u8>,
-    tables: &Tables,
-    packets: &Capture,
-    from: u32,
-    to: u32,
+    page: &Page<'_>,
+    round: Opening,
     places: &[Option<Results>],
 ) -> Result<(), RunFault>
-    requires order { from ≤ to }
-    requires inside { to ≤ length packets.now.packets }
-    requires laid { AreLaid packets.now.packets from to places.now }
-    ensures ok { OnOk result (Appends (K.written out.old) (K.written out.new) (packets_text tables.now from (span packets.now.packets from to) (joined (parts_of places.now)))) }
-    ensures err { OnErr result (AppendsSome (K.written out.old) (K.written out.new) (packets_text tables.now from (span packets.now.packets from to) (joined (parts_of places.now)))) }
+    requires order { round.first ≤ round.to }
+    requires inside { round.to ≤ length page.now.packets.now.packets }
+    requires laid { AreLaid page.now.packets.now.packets round.first round.to places.now }
+    ensures ok { OnOk result (Appends (K.written out.old) (K.written out.new) (packets_text page.now.tables.now round.first (span page.now.packets.now.packets round.first round.to) (joined (parts_of places.now)))) }
+    ensures err { OnErr result (AppendsSome (K.written out.old) (K.written out.new) (packets_text page.now.tables.now round.first (span page.now.packets.now.packets round.first round.to) (joined (parts_of places.now)))) }
     ensures write { IsErrOf result RunFault.Write → HasRisen (K.faults out.old) (K.faults out.new) }
     ensures counted { K.faults out.old ≤ K.faults out.new }
 {
-    let mut at = from;
+    let mut at = round.first;
     'frames: for place in places {
         if let Some(results) = place {
-            let next = at + (to - at).min(256);
-            write_frame(out, text, tables, packets, at, next, results)?;
+            let next = at + (round.to - at).min(256);
+            write_frame(out, text, page, at, next, results)?;
             at = next;
         }
     }

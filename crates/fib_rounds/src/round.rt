@@ -20,15 +20,13 @@ use crate::counts::count_ends;
 use crate::lines::{Stop, run_lines};
 use crate::opening::{Opening, next_round};
 use crate::summary::Summary;
-use fib_capture::Capture;
+use crate::task::{Reading, Task};
 use fib_cells::LiveBoard;
-use fib_commands::Script;
 use fib_control::Control;
 use fib_crew::{Results, Taken};
 use fib_homing::{Station, bring_home, forward_all, send_out};
 use fib_outside::Gate;
-use fib_settings::Settings;
-use fib_turns::{Means, Progress, finish};
+use fib_turns::{Progress, finish};
 use std::alloc::{AllocError, Global};
 use std::sync::Wait;
 use std::thread::{Threads, join_mut};
@@ -50,53 +48,49 @@ struct Forwarded {
 
 // The workers forward while the lines from a place on are run. Where no thread can be made the lines are run first.
 fn beside<'a, 'b, R: Threads + Wait + Sync, G: Gate>(
-    rt: &R,
-    alloc: Global,
-    gate: &G,
-    walk: u32,
+    task: &Task<'_, R, G>,
     control: &mut Control<LiveBoard<'a>>,
-    progress: &mut Progress,
-    text: &mut Vec<u8>,
-    script: &Script,
+    reading: &mut Reading,
     from: u32,
-    packets: &Capture,
     taken: Taken,
     crew: &mut Vec<Station<'b>>,
 ) -> Result<Stop, AllocError>
     requires order { taken.first ≤ taken.to }
-    requires packets { taken.to ≤ length packets.now.packets }
-    requires ready { All (IsReady taken.opened (frames (span packets.now.packets taken.first taken.to))) crew.old.items }
-    requires inside { from ≤ length script.now }
-    requires lines { progress.old.lines ≡ from }
+    requires packets { taken.to ≤ length task.now.packets.now.packets }
+    requires ready { All (IsReady taken.opened (frames (span task.now.packets.now.packets taken.first taken.to))) crew.old.items }
+    requires inside { from ≤ length task.now.script.now }
+    requires lines { reading.old.progress.lines ≡ from }
     requires few { applied_in control.old ≤ from }
     ensures long { length crew.new.items ≡ length crew.old.items }
-    ensures back { (b : Board) → IsCrew b 0 crew.old.items → AreBack b.id b.rests taken.opened taken.first taken.base 0 (span packets.now.packets taken.first taken.to) crew.new.items }
-    ensures on { IfOk result (λ stop. GoesOn script.now from (stage_of control.old progress.old) text.old.items stop.place (stage_of control.new progress.new) text.new.items) }
-    ensures stops { IfOk result (λ stop. StopsAt (drop stop.place script.now) (router_of control.new progress.new) stop.asked) }
+    ensures back { (b : Board) → IsCrew b 0 crew.old.items → AreBack b.id b.rests taken.opened taken.first taken.base 0 (span task.now.packets.now.packets taken.first taken.to) crew.new.items }
+    ensures on { IfOk result (λ stop. GoesOn task.now.script.now from (stage_of control.old reading.old.progress) reading.old.text.items stop.place (stage_of control.new reading.new.progress) reading.new.text.items) }
+    ensures stops { IfOk result (λ stop. StopsAt (drop stop.place task.now.script.now) (router_of control.new reading.new.progress) stop.asked) }
     ensures later { IfOk result (λ stop. from ≤ stop.place) }
-    ensures inside { IfOk result (λ stop. stop.place ≤ length script.now) }
+    ensures inside { IfOk result (λ stop. stop.place ≤ length task.now.script.now) }
     ensures short { IfOk result (λ stop. stop.place ≤ 65535) }
     ensures few { IfOk result (λ stop. applied_in control.new ≤ stop.place) }
-    ensures lines { IfOk result (λ stop. progress.new.lines ≡ lines_run stop.place stop.asked) }
-    ensures history { IfOk result (λ stop. IsHistory (stage_of control.old progress.old) → IsHistory (stage_of control.new progress.new)) }
+    ensures lines { IfOk result (λ stop. reading.new.progress.lines ≡ lines_run stop.place stop.asked) }
+    ensures history { IfOk result (λ stop. IsHistory (stage_of control.old reading.old.progress) → IsHistory (stage_of control.new reading.new.progress)) }
     ensures keeps { KeepsCrew control.old control.new }
 {
     let (_, stop) = join_mut(
-        rt,
+        task.rt,
         &mut || -> ()
-            requires { (taken.first ≤ taken.to) × (taken.to ≤ length packets.now.packets) × All (IsReady taken.opened (frames (span packets.now.packets taken.first taken.to))) crew.now.items }
-            ensures { (length crew.exit.now.items ≡ length crew.entry.now.items) × ((b : Board) → IsCrew b 0 crew.entry.now.items → AreBack b.id b.rests taken.opened taken.first taken.base 0 (span packets.entry.now.packets taken.first taken.to) crew.exit.now.items) }
-        { forward_all(rt, alloc, packets, taken, gate, crew) },
+            requires { (taken.first ≤ taken.to) × (taken.to ≤ length task.now.packets.now.packets) × All (IsReady taken.opened (frames (span task.now.packets.now.packets taken.first taken.to))) crew.now.items }
+            ensures { (length crew.exit.now.items ≡ length crew.entry.now.items) × ((b : Board) → IsCrew b 0 crew.entry.now.items → AreBack b.id b.rests taken.opened taken.first taken.base 0 (span task.entry.now.packets.now.packets taken.first taken.to) crew.exit.now.items) }
+        { forward_all(task.rt, task.alloc, task.packets, taken, task.gate, crew) },
         &mut || -> Result<Stop, AllocError>
-            requires { (from ≤ length script.now) × (progress.now.lines ≡ from) × (applied_in control.now ≤ from) }
+            requires { (from ≤ length task.now.script.now) × (reading.now.progress.lines ≡ from) × (applied_in control.now ≤ from) }
         {
-            let means = Means {
-                rt,
-                alloc,
-                gate,
-                walk,
-            };
-            run_lines(&means, control, progress, text, script, from)
+            let means = task.means();
+            run_lines(
+                &means,
+                control,
+                &mut reading.progress,
+                &mut reading.text,
+                task.script,
+                from,
+            )
         },
     );
     stop
@@ -115,27 +109,21 @@ fn places_for(alloc: Global, count: u32) -> Result<Vec<Option<Results>>, AllocEr
 
 // Runs a round's lines while its workers forward its packets, and brings them home. Places and stations are made before a worker leaves.
 fn forward_round<'a, R: Threads + Wait + Sync, G: Gate>(
-    rt: &R,
-    alloc: Global,
-    gate: &G,
-    settings: Settings,
+    task: &Task<'_, R, G>,
     control: &mut Control<LiveBoard<'a>>,
-    progress: &mut Progress,
-    text: &mut Vec<u8>,
-    script: &Script,
-    packets: &Capture,
+    reading: &mut Reading,
     round: Opening,
 ) -> Result<Forwarded, AllocError>
-    requires may { MayOpen script.now packets.now.packets round }
+    requires may { MayOpen task.now.script.now task.now.packets.now.packets round }
     requires any { round.first < round.to }
-    requires lines { progress.old.lines ≡ round.place }
+    requires lines { reading.old.progress.lines ≡ round.place }
     requires few { applied_in control.old ≤ round.place }
-    requires rests { IsAtRest settings.workers round.place control.old }
-    requires workers { 0 < settings.workers }
-    requires most { settings.workers ≤ 8 }
+    requires rests { IsAtRest task.now.settings.workers round.place control.old }
+    requires workers { 0 < task.now.settings.workers }
+    requires most { task.now.settings.workers ≤ 8 }
     requires short { round.place ≤ 65535 }
     ensures none { NoneOut control.new.plane.board }
-    ensures ran { IfOk result (λ f. HasForwardedRound script.now packets.now.packets round control.old progress.old text.old.items f.stop control.new progress.new text.new.items f.places.items) }
+    ensures ran { IfOk result (λ f. HasForwardedRound task.now.script.now task.now.packets.now.packets round control.old reading.old.progress reading.old.text.items f.stop control.new reading.new.progress reading.new.text.items f.places.items) }
 {
     let taken = Taken {
         opened: control.version().applied,
@@ -143,24 +131,11 @@ fn forward_round<'a, R: Threads + Wait + Sync, G: Gate>(
         to: round.to,
         base: control.gathered(),
     };
-    let mut places = places_for(alloc, taken.frames())?;
-    let mut crew = Vec::with_capacity(alloc, settings.workers as usize)?;
-    send_out(alloc, control, settings.workers, &mut crew);
-    let stop = beside(
-        rt,
-        alloc,
-        gate,
-        settings.walk,
-        control,
-        progress,
-        text,
-        script,
-        round.place,
-        packets,
-        taken,
-        &mut crew,
-    );
-    let done = bring_home(control, crew, packets, taken, places.as_mut_slice());
+    let mut places = places_for(task.alloc, taken.frames())?;
+    let mut crew = Vec::with_capacity(task.alloc, task.settings.workers as usize)?;
+    send_out(task.alloc, control, task.settings.workers, &mut crew);
+    let stop = beside(task, control, reading, round.place, taken, &mut crew);
+    let done = bring_home(control, crew, task.packets, taken, places.as_mut_slice());
     let stop = stop?;
     if !done {
         return Err(AllocError);
@@ -169,28 +144,31 @@ fn forward_round<'a, R: Threads + Wait + Sync, G: Gate>(
 }
 
 // A round without packets sends no worker out.
-fn run_alone<R: Wait, G: Gate>(
-    means: &Means<'_, R, G>,
+fn run_alone<R: Threads + Wait + Sync, G: Gate>(
+    task: &Task<'_, R, G>,
     control: &mut Control<LiveBoard<'_>>,
-    progress: &mut Progress,
-    text: &mut Vec<u8>,
-    script: &Script,
-    packets: &Capture,
+    reading: &mut Reading,
     round: Opening,
 ) -> Result<Forwarded, AllocError>
-    requires may { MayOpen script.now packets.now.packets round }
+    requires may { MayOpen task.now.script.now task.now.packets.now.packets round }
     requires none { round.first ≡ round.to }
-    requires lines { progress.old.lines ≡ round.place }
+    requires lines { reading.old.progress.lines ≡ round.place }
     requires few { applied_in control.old ≤ round.place }
     requires rests { (n : ℕ) × IsAtRest n round.place control.old }
     ensures none { NoneOut control.new.plane.board }
-    ensures ran { IfOk result (λ f. HasForwardedRound script.now packets.now.packets round control.old progress.old text.old.items f.stop control.new progress.new text.new.items f.places.items) }
+    ensures ran { IfOk result (λ f. HasForwardedRound task.now.script.now task.now.packets.now.packets round control.old reading.old.progress reading.old.text.items f.stop control.new reading.new.progress reading.new.text.items f.places.items) }
 {
-    let _packets = packets;
-    let stop = run_lines(means, control, progress, text, script, round.place)?;
+    let stop = run_lines(
+        &task.means(),
+        control,
+        &mut reading.progress,
+        &mut reading.text,
+        task.script,
+        round.place,
+    )?;
     Ok(Forwarded {
         stop,
-        places: Vec::new(means.alloc),
+        places: Vec::new(task.alloc),
     })
 }
 
@@ -249,39 +227,25 @@ fn finish_at_end(
 
 // Runs a round's lines and, where it has packets, its workers beside them.
 fn run_beside<'a, R: Threads + Wait + Sync, G: Gate>(
-    rt: &R,
-    alloc: Global,
-    gate: &G,
-    settings: Settings,
+    task: &Task<'_, R, G>,
     control: &mut Control<LiveBoard<'a>>,
-    progress: &mut Progress,
-    text: &mut Vec<u8>,
-    script: &Script,
-    packets: &Capture,
+    reading: &mut Reading,
     round: Opening,
 ) -> Result<Forwarded, AllocError>
-    requires may { MayOpen script.now packets.now.packets round }
-    requires lines { progress.old.lines ≡ round.place }
+    requires may { MayOpen task.now.script.now task.now.packets.now.packets round }
+    requires lines { reading.old.progress.lines ≡ round.place }
     requires few { applied_in control.old ≤ round.place }
-    requires rests { IsAtRest settings.workers round.place control.old }
-    requires workers { 0 < settings.workers }
-    requires most { settings.workers ≤ 8 }
+    requires rests { IsAtRest task.now.settings.workers round.place control.old }
+    requires workers { 0 < task.now.settings.workers }
+    requires most { task.now.settings.workers ≤ 8 }
     requires short { round.place ≤ 65535 }
     ensures none { NoneOut control.new.plane.board }
-    ensures ran { IfOk result (λ f. HasForwardedRound script.now packets.now.packets round control.old progress.old text.old.items f.stop control.new progress.new text.new.items f.places.items) }
+    ensures ran { IfOk result (λ f. HasForwardedRound task.now.script.now task.now.packets.now.packets round control.old reading.old.progress reading.old.text.items f.stop control.new reading.new.progress reading.new.text.items f.places.items) }
 {
     if round.first == round.to {
-        let means = Means {
-            rt,
-            alloc,
-            gate,
-            walk: settings.walk,
-        };
-        return run_alone(&means, control, progress, text, script, packets, round);
+        return run_alone(task, control, reading, round);
     }
-    forward_round(
-        rt, alloc, gate, settings, control, progress, text, script, packets, round,
-    )
+    forward_round(task, control, reading, round)
 }
 
 // Settles where all workers are home.
@@ -299,52 +263,44 @@ fn settle_home(control: &mut Control<LiveBoard<'_>>) -> Result<(), AllocError>
 
 /// Runs a round: its lines, beside them its workers, and brings them home and settles.
 pub fn run_round<'a, R: Threads + Wait + Sync, G: Gate>(
-    rt: &R,
-    alloc: Global,
-    gate: &G,
-    settings: Settings,
+    task: &Task<'_, R, G>,
     control: &mut Control<LiveBoard<'a>>,
-    progress: &mut Progress,
-    text: &mut Vec<u8>,
+    reading: &mut Reading,
     counts: &mut Summary,
-    script: &Script,
-    packets: &Capture,
     round: Opening,
 ) -> Result<Ran, AllocError>
-    requires may { MayOpen script.now packets.now.packets round }
-    requires lines { progress.old.lines ≡ round.place }
+    requires may { MayOpen task.now.script.now task.now.packets.now.packets round }
+    requires lines { reading.old.progress.lines ≡ round.place }
     requires few { applied_in control.old ≤ round.place }
     requires small { IsSmall (round.first + round.first) counts.old }
-    requires rests { IsAtRest settings.workers round.place control.old }
-    requires workers { 0 < settings.workers }
-    requires most { settings.workers ≤ 8 }
-    requires none { text.old.items ≡ [] }
-    requires history { IsHistory (stage_of control.old progress.old) }
+    requires rests { IsAtRest task.now.settings.workers round.place control.old }
+    requires workers { 0 < task.now.settings.workers }
+    requires most { task.now.settings.workers ≤ 8 }
+    requires none { reading.old.text.items ≡ [] }
+    requires history { IsHistory (stage_of control.old reading.old.progress) }
     ensures none { NoneOut control.new.plane.board }
-    ensures ran { IfOk result (λ r. HasRun script.now packets.now (stage_of control.old progress.old) round (closed_by (stage_of control.new progress.new) r.next) r.next (joined (parts_of r.places.items)) (text.new.items ++ packets_text (tables_in control.new) round.first (span packets.now.packets round.first round.to) (joined (parts_of r.places.items)))) }
-    ensures home { IfOk result (λ r. IsHome (applied_in control.old) round.first (length control.old.plane.board.gathered) settings.workers (span packets.now.packets round.first round.to) control.old.plane.board control.new.plane.board r.places.items) }
-    ensures refused { IfOk result (λ r. r.refused ≡ (closed_by (stage_of control.new progress.new) r.next).router.refused) }
+    ensures ran { IfOk result (λ r. HasRun task.now.script.now task.now.packets.now (stage_of control.old reading.old.progress) round (closed_by (stage_of control.new reading.new.progress) r.next) r.next (joined (parts_of r.places.items)) (reading.new.text.items ++ packets_text (tables_in control.new) round.first (span task.now.packets.now.packets round.first round.to) (joined (parts_of r.places.items)))) }
+    ensures home { IfOk result (λ r. IsHome (applied_in control.old) round.first (length control.old.plane.board.gathered) task.now.settings.workers (span task.now.packets.now.packets round.first round.to) control.old.plane.board control.new.plane.board r.places.items) }
+    ensures refused { IfOk result (λ r. r.refused ≡ (closed_by (stage_of control.new reading.new.progress) r.next).router.refused) }
     ensures settled { IfOk result (λ r. control.new.plane.board.log.version.settled ≡ applied_in control.new) }
-    ensures counts { IfOk result (λ r. counts_from packets.now script.now (closed_by (stage_of control.new progress.new) r.next) r.next counts.new ≡ counts_from packets.now script.now (stage_of control.old progress.old) (Some round) counts.old) }
-    ensures may { IfOk result (λ r. IfSome r.next (MayOpen script.now packets.now.packets)) }
+    ensures counts { IfOk result (λ r. counts_from task.now.packets.now task.now.script.now (closed_by (stage_of control.new reading.new.progress) r.next) r.next counts.new ≡ counts_from task.now.packets.now task.now.script.now (stage_of control.old reading.old.progress) (Some round) counts.old) }
+    ensures may { IfOk result (λ r. IfSome r.next (MayOpen task.now.script.now task.now.packets.now.packets)) }
     ensures later { IfOk result (λ r. IfSome r.next (λ o. round.place < o.place)) }
-    ensures lines { IfOk result (λ r. IfSome r.next (λ o. progress.new.lines ≡ o.place)) }
+    ensures lines { IfOk result (λ r. IfSome r.next (λ o. reading.new.progress.lines ≡ o.place)) }
     ensures few { IfOk result (λ r. IfSome r.next (λ o. applied_in control.new ≤ o.place)) }
     ensures small { IfOk result (λ r. IfSome r.next (λ o. IsSmall (o.first + o.first) counts.new)) }
-    ensures rests { IfOk result (λ r. IfSome r.next (λ o. IsAtRest settings.workers o.place control.new)) }
-    ensures history { IfOk result (λ r. IsHistory (stage_of control.new progress.new)) }
-    ensures filled { IfOk result (λ r. AreFilled (applied_in control.old) round.first (history_in control.new) (span packets.now.packets round.first round.to) 0 r.places.items) }
+    ensures rests { IfOk result (λ r. IfSome r.next (λ o. IsAtRest task.now.settings.workers o.place control.new)) }
+    ensures history { IfOk result (λ r. IsHistory (stage_of control.new reading.new.progress)) }
+    ensures filled { IfOk result (λ r. AreFilled (applied_in control.old) round.first (history_in control.new) (span task.now.packets.now.packets round.first round.to) 0 r.places.items) }
 {
     // that a script has at most 65,535 lines keeps the numbers of a round small
-    let _lines = script.lines();
-    let Forwarded { stop, places } = run_beside(
-        rt, alloc, gate, settings, control, progress, text, script, packets, round,
-    )?;
+    let _lines = task.script.lines();
+    let Forwarded { stop, places } = run_beside(task, control, reading, round)?;
     settle_home(control)?;
-    let refused = finish_at_end(progress, text, stop.asked)?;
+    let refused = finish_at_end(&reading.progress, &mut reading.text, stop.asked)?;
     count_round(counts, stop.place == round.place, round, places.as_slice());
     Ok(Ran {
-        next: next_round(packets, stop, round.to),
+        next: next_round(task.packets, stop, round.to),
         places,
         refused,
     })

@@ -10,9 +10,10 @@ ghost use Rattle.fib_rounds.specs.Writes.{Gains};
 
 use crate::fault::RunFault;
 use crate::opening::Opening;
-use crate::put::{put_all, put_last, write_frames};
+use crate::put::{Page, put_all, put_last, write_frames};
 use crate::round::run_round;
 use crate::summary::Summary;
+use crate::task::{Reading, Task};
 use fib_capture::Capture;
 use fib_cells::{Cells, LiveBoard};
 use fib_commands::Script;
@@ -23,6 +24,52 @@ use fib_turns::Progress;
 use std::alloc::Global;
 use std::sync::Wait;
 use std::thread::Threads;
+
+// Runs and prints one round after the other, and then the last line.
+fn run_rounds<'a, R: Threads + Wait + Sync, K: Sink, G: Gate>(
+    task: &Task<'_, R, G>,
+    control: &mut Control<LiveBoard<'a>>,
+    out: &mut K,
+) -> Result<Summary, RunFault>
+    requires settings { InRange task.now.settings }
+    requires fresh { IsNew task.now.settings.workers (task.now.settings.objects / 2) control.old }
+    ensures ok { OnOk result (GainsRun task.now.settings.workers (task.now.settings.objects / 2) task.now.script.now task.now.packets.now control.new (K.written out.old) (K.written out.new)) }
+    ensures summary { IfOk result (λ s. s ≡ summary_of (task.now.settings.objects / 2) task.now.script.now task.now.packets.now) }
+    ensures some { OnErr result (Gains (FirstOutput (task.now.settings.objects / 2) task.now.script.now task.now.packets.now) (K.written out.old) (K.written out.new)) }
+    ensures write { IsErrOf result RunFault.Write → HasRisen (K.faults out.old) (K.faults out.new) }
+    ensures counted { K.faults out.old ≤ K.faults out.new }
+    ensures none { NoneOut control.new.plane.board }
+{
+    let mut reading = Reading {
+        progress: Progress::new(),
+        text: Vec::new(task.alloc),
+    };
+    let mut counts = Summary::zero();
+    let mut refused_lines = 0;
+    let mut next = Some(Opening {
+        place: 0,
+        first: 0,
+        to: 0,
+    });
+    'rounds: while let Some(round) = next {
+        reading.text.clear();
+        let ran = run_round(task, control, &mut reading, &mut counts, round)?;
+        put_all(out, &reading.text)?;
+        let page = Page {
+            tables: control.tables(),
+            packets: task.packets,
+        };
+        write_frames(out, &mut reading.text, &page, round, ran.places.as_slice())?;
+        refused_lines = ran.refused;
+        next = ran.next;
+    }
+    reading.text.clear();
+    put_last(&mut reading.text, task.packets)?;
+    put_all(out, &reading.text)?;
+    counts.accepted = control.version().applied;
+    counts.refused = refused_lines;
+    Ok(counts)
+}
 
 /// Runs a script over a capture's packets on a control plane before its first change, and answers the run's counts.
 ///
@@ -47,49 +94,15 @@ pub fn run_on<'a, R: Threads + Wait + Sync, K: Sink, G: Gate>(
     ensures counted { K.faults out.old ≤ K.faults out.new }
     ensures none { NoneOut control.new.plane.board }
 {
-    let mut progress = Progress::new();
-    let mut counts = Summary::zero();
-    let mut text = Vec::new(alloc);
-    let mut refused_lines = 0;
-    let mut next = Some(Opening {
-        place: 0,
-        first: 0,
-        to: 0,
-    });
-    'rounds: while let Some(round) = next {
-        text.clear();
-        let ran = run_round(
-            rt,
-            alloc,
-            gate,
-            settings,
-            control,
-            &mut progress,
-            &mut text,
-            &mut counts,
-            script,
-            packets,
-            round,
-        )?;
-        put_all(out, &text)?;
-        write_frames(
-            out,
-            &mut text,
-            control.tables(),
-            packets,
-            round.first,
-            round.to,
-            ran.places.as_slice(),
-        )?;
-        refused_lines = ran.refused;
-        next = ran.next;
-    }
-    text.clear();
-    put_last(&mut text, packets)?;
-    put_all(out, &text)?;
-    counts.accepted = control.version().applied;
-    counts.refused = refused_lines;
-    Ok(counts)
+    let task = Task {
+        rt,
+        alloc,
+        gate,
+        settings,
+        script,
+        packets,
+    };
+    run_rounds(&task, control, out)
 }
 
 /// Runs a script over a capture's packets with these settings, and answers the run's counts: makes the cells, the board and the control plane, and calls

@@ -96,10 +96,10 @@ impl Gate for HoldGate {
     fn applied(&self, _change: u32) {}
 
     fn before(&self, worker: u32, packet: u32) {
-        if worker == 0 {
-            self.first.store(true, Ordering::SeqCst);
-        } else {
-            self.second.store(true, Ordering::SeqCst);
+        match worker {
+            0 => self.first.store(true, Ordering::SeqCst),
+            1 => self.second.store(true, Ordering::SeqCst),
+            _ => {}
         }
         if packet == self.until {
             self.came.store(true, Ordering::SeqCst);
@@ -184,6 +184,8 @@ fn four_rounds_on_two_workers(rt: HostRuntime) -> Result<(), Fail> {
     laws::frozen_workers_give_an_output();
     laws::counts_are_of_quiet_flows();
     laws::flows_add_up();
+    laws::history_is_of_changes();
+    laws::a_run_has_the_history_of_its_changes();
     Ok(())
 }
 

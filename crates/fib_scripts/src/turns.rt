@@ -1,11 +1,48 @@
 // The public calls once, over a plain board; what they print is tested by whole files, in the crates above.
 use fib_control::Control;
-use fib_outside::FreeGate;
+use fib_outside::{FreeGate, Gate};
 use fib_plainboard::PlainBoard;
 use fib_turns::{Means, Progress, finish, run_line};
 use std::alloc::Global;
 use std::sync::Wait;
+use std::sync::atomic::{AtomicU32, Ordering};
 use std::test::Fail;
+
+// A gate that counts what it is told of changes.
+#[derive(Drop)]
+struct CountGate {
+    changing: AtomicU32,
+    applied: AtomicU32,
+}
+
+impl CountGate {
+    fn new() -> CountGate {
+        CountGate {
+            changing: AtomicU32::new(0),
+            applied: AtomicU32::new(0),
+        }
+    }
+
+    // How often it was told of a change before it is tried, and after it was made.
+    fn counts(&self) -> (u32, u32) {
+        (
+            self.changing.load(Ordering::SeqCst),
+            self.applied.load(Ordering::SeqCst),
+        )
+    }
+}
+
+impl Gate for CountGate {
+    fn changing(&self, _change: u32) {
+        self.changing.fetch_add(1, Ordering::SeqCst);
+    }
+
+    fn applied(&self, _change: u32) {
+        self.applied.fetch_add(1, Ordering::SeqCst);
+    }
+
+    fn before(&self, _worker: u32, _packet: u32) {}
+}
 
 fn fresh(alloc: Global) -> Result<Control<PlainBoard>, Fail> {
     let board = PlainBoard::new(alloc, 200, 1)?;
@@ -16,8 +53,8 @@ fn fresh(alloc: Global) -> Result<Control<PlainBoard>, Fail> {
 }
 
 // What the next line asks for.
-fn next<R: Wait>(
-    means: &Means<'_, R, FreeGate>,
+fn next<R: Wait, G: Gate>(
+    means: &Means<'_, R, G>,
     control: &mut Control<PlainBoard>,
     progress: &mut Progress,
     out: &mut Vec<u8>,
@@ -34,8 +71,9 @@ fn next<R: Wait>(
 }
 
 // What the last of these lines asks for, which are the first, and what is kept then.
-fn run_all<R: Wait>(
+fn run_all<R: Wait, G: Gate>(
     rt: &R,
+    gate: &G,
     control: &mut Control<PlainBoard>,
     progress: &mut Progress,
     out: &mut Vec<u8>,
@@ -44,7 +82,7 @@ fn run_all<R: Wait>(
     let means = Means {
         rt,
         alloc: *out.allocator(),
-        gate: &FreeGate,
+        gate,
         walk: 1,
     };
     let mut asked = None;
@@ -65,24 +103,53 @@ const LINES: [&str; 8] = [
     "forward 7",
 ];
 
+const BATCH: [&str; 5] = [
+    "begin",
+    "create interface eth0",
+    "set interface state eth0 up",
+    "set interface ip address eth0 10.0.0.1/24",
+    "commit",
+];
+
+const REFUSED: [&str; 4] = [
+    "begin",
+    "create interface eth1",
+    "create interface eth0",
+    "commit",
+];
+
 const LEFT: [&str; 2] = ["begin", "create interface eth1"];
 
 // Whether a change and a batch are two versions, a lookup answers by them, and a line that asks for packets prints nothing.
 fn are_two_versions<R: Wait>(rt: &R, alloc: Global, control: &mut Control<PlainBoard>) -> bool {
     let mut progress = Progress::new();
     let mut out = Vec::new(alloc);
-    let asked = run_all(rt, control, &mut progress, &mut out, &LINES);
+    let asked = run_all(rt, &FreeGate, control, &mut progress, &mut out, &LINES);
     asked == Some(7)
         && progress.refused() == 1
         && control.version().applied == 2
         && out.as_slice() == b"line 6: interface exists\nreceive\n".as_slice()
 }
 
+// Whether the gate is told once of a batch before it is tried and once after it was made, and of a refused one only before.
+fn is_told_once<R: Wait>(rt: &R, alloc: Global, control: &mut Control<PlainBoard>) -> bool {
+    let gate = CountGate::new();
+    let mut progress = Progress::new();
+    let mut out = Vec::new(alloc);
+    run_all(rt, &gate, control, &mut progress, &mut out, &BATCH);
+    let made = gate.counts();
+    run_all(rt, &gate, control, &mut progress, &mut out, &REFUSED);
+    made == (1, 1)
+        && gate.counts() == (2, 1)
+        && control.version().applied == 1
+        && out.as_slice() == b"line 8: interface exists\n".as_slice()
+}
+
 // Whether a batch that the script's end leaves is refused.
 fn is_left<R: Wait>(rt: &R, alloc: Global, control: &mut Control<PlainBoard>) -> bool {
     let mut progress = Progress::new();
     let mut out = Vec::new(alloc);
-    run_all(rt, control, &mut progress, &mut out, &LEFT);
+    run_all(rt, &FreeGate, control, &mut progress, &mut out, &LEFT);
     let refused = finish(&progress, &mut out);
     refused.ok() == Some(1)
         && control.version().applied == 0
@@ -101,6 +168,14 @@ fn a_change_and_a_batch(rt: HostRuntime) -> Result<(), Fail> {
 fn a_batch_that_is_left(rt: HostRuntime) -> Result<(), Fail> {
     let mut control = fresh(rt.alloc())?;
     let right = is_left(&rt, rt.alloc(), &mut control);
+    assert!(rt; right);
+    Ok(())
+}
+
+#[test]
+fn a_gate_is_told_of_a_batch_once(rt: HostRuntime) -> Result<(), Fail> {
+    let mut control = fresh(rt.alloc())?;
+    let right = is_told_once(&rt, rt.alloc(), &mut control);
     assert!(rt; right);
     Ok(())
 }

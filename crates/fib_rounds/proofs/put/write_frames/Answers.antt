@@ -8,25 +8,25 @@ use Rattle.fib_rounds.proofs.put.write_frames.Goals.{in-Some+in_ok-write_frame, 
 pub returns-in_err-write_frame-clause-err : goal.returns-in_err-write_frame-clause-err
 returns-in_err-write_frame-clause-err g c =
     let inv = c.frames.invariant in
-    let next : c.frames.at + c.min.result ≡ c.frames.at + min (c.args.to - c.frames.at) 256 = search rules in
+    let next : c.frames.at + c.min.result ≡ c.frames.at + min (c.args.round.to - c.frames.at) 256 = search rules in
     on_err c.from_residual.result
-    (frames_cut _ _ _ c.args.tables.now c.args.packets.now.packets c.frames.at (c.frames.at + c.min.result) c.args.to c.args.places.now c.frames.place-index c.place-item.result c.in-Some.results _ c.frames-test.true c.place-item.is c.in-Some.is inv.high c.requires.inside inv.laid next inv.written c.in_err-write_frame.ensures.err)
+    (frames_cut _ _ _ c.args.page.now.tables.now c.args.page.now.packets.now.packets c.frames.at (c.frames.at + c.min.result) c.args.round.to c.args.places.now c.frames.place-index c.place-item.result c.in-Some.results _ c.frames-test.true c.place-item.is c.in-Some.is inv.high c.requires.inside inv.laid next inv.written c.in_err-write_frame.ensures.err)
 
 pub frames-preserved : goal.frames-preserved
 frames-preserved g c = elim c.match-place.branch [
   | in-Some+in_ok-write_frame w ↦
       let inv = c.frames.invariant in
-      let next : c.frames.at + w.min.result ≡ c.frames.at + min (c.args.to - c.frames.at) 256 = search rules in
-      let told = frames_more _ _ _ c.args.tables.now c.args.packets.now.packets c.frames.at (c.frames.at + w.min.result) c.args.to c.args.places.now c.frames.place-index c.place-item.result w.in-Some.results _ c.frames-test.true c.place-item.is w.in-Some.is inv.high c.requires.inside inv.laid next inv.written w.in_ok-write_frame.ensures.ok in
+      let next : c.frames.at + w.min.result ≡ c.frames.at + min (c.args.round.to - c.frames.at) 256 = search rules in
+      let told = frames_more _ _ _ c.args.page.now.tables.now c.args.page.now.packets.now.packets c.frames.at (c.frames.at + w.min.result) c.args.round.to c.args.places.now c.frames.place-index c.place-item.result w.in-Some.results _ c.frames-test.true c.place-item.is w.in-Some.is inv.high c.requires.inside inv.laid next inv.written w.in_ok-write_frame.ensures.ok in
       rw (w.at-is, w.out-is) (record {
         high = omega (arith, next, inv.high);
         laid = told.0;
         written = told.1;
         counted = omega (arith, inv.counted, w.in_ok-write_frame.ensures.counted);
       })
-  | in_default w ↦ absurd (laid_some c.args.packets.now.packets c.frames.at c.args.to c.args.places.now c.frames.place-index c.place-item.result c.frames-test.true c.place-item.is c.frames.invariant.laid w.in_default.is)
+  | in_default w ↦ absurd (laid_some c.args.page.now.packets.now.packets c.frames.at c.args.round.to c.args.places.now c.frames.place-index c.place-item.result c.frames-test.true c.place-item.is c.frames.invariant.laid w.in_default.is)
 ]
 
 pub returns-clause-ok : goal.returns-clause-ok
 returns-clause-ok g c =
-    frames_end _ _ c.args.tables.now c.args.packets.now.packets c.frames.at c.args.to c.args.places.now c.frames.place-index _ (omega (arith, c.frames-test.false)) c.frames.invariant.laid c.frames.invariant.written
+    frames_end _ _ c.args.page.now.tables.now c.args.page.now.packets.now.packets c.frames.at c.args.round.to c.args.places.now c.frames.place-index _ (omega (arith, c.frames-test.false)) c.frames.invariant.laid c.frames.invariant.written

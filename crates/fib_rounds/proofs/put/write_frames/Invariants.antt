@@ -9,9 +9,9 @@ use Rattle.fib_rounds.proofs.put.write_frames.Given as goal
 -- what was written, and then the lines that are left, is the whole
 abbrev pub invariant-frames : goal.invariant-frames
 invariant-frames g l = record {
-  high : l.at ≤ l.to;
-  laid : AreLaid l.packets.packets l.at l.to (drop l.place-index l.places);
+  high : l.at ≤ l.round.to;
+  laid : AreLaid l.page.packets.now.packets l.at l.round.to (drop l.place-index l.places);
   written : (done : List ℕ) × Appends (g.K.Sink.written l.fn.out) (g.K.Sink.written l.out) done
-      × (done ++ packets_text l.tables l.at (span l.packets.packets l.at l.to) (joined (parts_of (drop l.place-index l.places))) ≡ packets_text l.tables l.fn.from (span l.packets.packets l.fn.from l.to) (joined (parts_of l.places)));
+      × (done ++ packets_text l.page.tables.now l.at (span l.page.packets.now.packets l.at l.round.to) (joined (parts_of (drop l.place-index l.places))) ≡ packets_text l.page.tables.now l.fn.round.first (span l.page.packets.now.packets l.fn.round.first l.round.to) (joined (parts_of l.places)));
   counted : g.K.Sink.faults l.fn.out ≤ g.K.Sink.faults l.out;
 }

@@ -14,25 +14,25 @@ use Rattle.fib_rounds.proofs.Moves.{Appends-more}
 use Rattle.fib_rounds.proofs.Writing.{on_err}
 use Rattle.fib_rounds.proofs.Rounding.{closed_history, laid_start}
 use Rattle.fib_rounds.proofs.Running.{counts_end, counts_fresh, going_cut, going_ends, going_fresh, going_more, going_stops, history_fresh, rests_fresh, round_cut, some_of_both, some_of_first}
-use Rattle.fib_rounds.proofs.rounds.run_on.Goals as goal
+use Rattle.fib_rounds.proofs.rounds.run_rounds.Goals as goal
 
 pub rounds-init : goal.rounds-init
 rounds-init g c =
     let d = c.args.control.now in
-    let n = c.args.settings.workers in
-    let room = c.args.settings.objects / 2 in
+    let n = c.args.task.now.settings.workers in
+    let room = c.args.task.now.settings.objects / 2 in
     let fresh = c.requires.fresh in
     let rests = rests_fresh n room d fresh in
     record {
-      going = going_fresh n room c.args.script.now c.args.packets.now _ d c.new-progress.result fresh c.new-progress.ensures;
-      counts = counts_fresh n room c.args.script.now c.args.packets.now d c.new-progress.result c.zero-counts.result fresh c.new-progress.ensures c.zero-counts.ensures;
-      refused = sym (ap (λ p. p.refused) c.new-progress.ensures);
+      going = going_fresh n room c.args.task.now.script.now c.args.task.now.packets.now _ d c.new.result fresh c.new.ensures;
+      counts = counts_fresh n room c.args.task.now.script.now c.args.task.now.packets.now d c.new.result c.zero-counts.result fresh c.new.ensures c.zero-counts.ensures;
+      refused = sym (ap (λ p. p.refused) c.new.ensures);
       may = record { place = omega arith; order = omega arith; inside = omega arith };
-      lines = ap (λ p. p.lines) c.new-progress.ensures;
+      lines = ap (λ p. p.lines) c.new.ensures;
       few = omega (arith, ap (λ v. v.applied) fresh.version);
       small = subst (IsSmall 0) (sym c.zero-counts.ensures) (record { packets = omega arith; quiet = omega arith; drops = omega arith; receives = omega arith; gleans = omega arith; adjs = omega arith; incompletes = omega arith });
       rests = rests;
-      history = history_fresh n room d c.new-progress.result fresh c.new-progress.ensures;
+      history = history_fresh n room d c.new.result fresh c.new.ensures;
       none = fresh.none;
       settled = rests.settled;
       counted = omega arith;
@@ -42,7 +42,7 @@ pub returns-in_err-ran-clause-some : goal.returns-in_err-ran-clause-some
 returns-in_err-ran-clause-some g c =
     let inv = c.rounds.invariant in
     let going = rw c.in-Some.is at inv.going in
-    on_err c.from_residual.result (going_stops c.args.settings.workers (c.args.settings.objects / 2) c.args.script.now c.args.packets.now _ _ c.rounds.control.plane.board _ _ going inv.history)
+    on_err c.from_residual.result (going_stops c.args.task.now.settings.workers (c.args.task.now.settings.objects / 2) c.args.task.now.script.now c.args.task.now.packets.now _ _ c.rounds.control.plane.board _ _ going inv.history)
 
 pub returns-in_err-put_all-clause-some : goal.returns-in_err-put_all-clause-some
 returns-in_err-put_all-clause-some g c =
@@ -51,15 +51,15 @@ returns-in_err-put_all-clause-some g c =
     let going = rw c.in-Some.is at inv.going in
     let part = subst (AppendsSome _ _) c.deref.ensures.value c.in_err-put_all.ensures.err in
     on_err c.from_residual-in_err-put_all.result
-    (round_cut c.args.settings.workers (c.args.settings.objects / 2) c.args.script.now c.args.packets.now (stage_of c.rounds.control c.rounds.progress) (closed_by (stage_of c.run_round.new.control c.run_round.new.progress) c.in_ok-ran.ran.next) c.in-Some.round c.in_ok-ran.ran.next c.rounds.control.plane.board _ _ _ _ _ going told.ran
-    (closed_history _ c.in_ok-ran.ran.next told.history) (some_of_first _ _ c.run_round.new.text.items _ part))
+    (round_cut c.args.task.now.settings.workers (c.args.task.now.settings.objects / 2) c.args.task.now.script.now c.args.task.now.packets.now (stage_of c.rounds.control c.rounds.reading.progress) (closed_by (stage_of c.run_round.new.control c.run_round.new.reading.progress) c.in_ok-ran.ran.next) c.in-Some.round c.in_ok-ran.ran.next c.rounds.control.plane.board _ _ _ _ _ going told.ran
+    (closed_history _ c.in_ok-ran.ran.next told.history) (some_of_first _ _ c.run_round.new.reading.text.items _ part))
 
 pub write_frames-requires-clause-laid : goal.write_frames-requires-clause-laid
 write_frames-requires-clause-laid g c =
     let told = c.in_ok-ran.ensures in
     let may = rw c.in-Some.is at c.rounds.invariant.may in
-    subst (AreLaid c.args.packets.now.packets c.in-Some.round.first c.in-Some.round.to) (sym c.as_slice.ensures.value)
-    (laid_start _ _ _ c.args.packets.now.packets c.in-Some.round.first c.in-Some.round.to c.in_ok-ran.ran.places.items may.order may.inside told.filled)
+    subst (AreLaid c.args.task.now.packets.now.packets c.in-Some.round.first c.in-Some.round.to) (sym c.as_slice.ensures.value)
+    (laid_start _ _ _ c.args.task.now.packets.now.packets c.in-Some.round.first c.in-Some.round.to c.in_ok-ran.ran.places.items may.order may.inside told.filled)
 
 pub returns-in_err-write_frames-clause-some : goal.returns-in_err-write_frames-clause-some
 returns-in_err-write_frames-clause-some g c =
@@ -68,11 +68,11 @@ returns-in_err-write_frames-clause-some g c =
     let o = c.in-Some.round in
     let going = rw c.in-Some.is at inv.going in
     let first = subst (Appends _ _) c.deref.ensures.value c.in_ok-put_all.ensures.ok in
-    let same = ap₂ (λ T xs. packets_text T o.first (span c.args.packets.now.packets o.first o.to) (joined (parts_of xs))) c.tables.ensures.value c.as_slice.ensures.value in
+    let same = ap₂ (λ T xs. packets_text T o.first (span c.args.task.now.packets.now.packets o.first o.to) (joined (parts_of xs))) c.tables.ensures.value c.as_slice.ensures.value in
     let part = subst (AppendsSome _ _) same c.in_err-write_frames.ensures.err in
     on_err c.from_residual-in_err-write_frames.result
-    (round_cut c.args.settings.workers (c.args.settings.objects / 2) c.args.script.now c.args.packets.now (stage_of c.rounds.control c.rounds.progress) (closed_by (stage_of c.run_round.new.control c.run_round.new.progress) c.in_ok-ran.ran.next) o c.in_ok-ran.ran.next c.rounds.control.plane.board _ _ _ _ _ going told.ran
-    (closed_history _ c.in_ok-ran.ran.next told.history) (some_of_both _ _ _ c.run_round.new.text.items _ first part))
+    (round_cut c.args.task.now.settings.workers (c.args.task.now.settings.objects / 2) c.args.task.now.script.now c.args.task.now.packets.now (stage_of c.rounds.control c.rounds.reading.progress) (closed_by (stage_of c.run_round.new.control c.run_round.new.reading.progress) c.in_ok-ran.ran.next) o c.in_ok-ran.ran.next c.rounds.control.plane.board _ _ _ _ _ going told.ran
+    (closed_history _ c.in_ok-ran.ran.next told.history) (some_of_both _ _ _ c.run_round.new.reading.text.items _ first part))
 
 pub rounds-preserved : goal.rounds-preserved
 rounds-preserved g c =
@@ -83,11 +83,11 @@ rounds-preserved g c =
     let going = rw c.in-Some.is at inv.going in
     let counts = rw c.in-Some.is at inv.counts in
     let first = subst (Appends _ _) c.deref.ensures.value c.in_ok-put_all.ensures.ok in
-    let same = ap₂ (λ T xs. packets_text T o.first (span c.args.packets.now.packets o.first o.to) (joined (parts_of xs))) c.tables.ensures.value c.as_slice.ensures.value in
+    let same = ap₂ (λ T xs. packets_text T o.first (span c.args.task.now.packets.now.packets o.first o.to) (joined (parts_of xs))) c.tables.ensures.value c.as_slice.ensures.value in
     let second = subst (Appends _ _) same c.in_ok-write_frames.ensures.ok in
     record {
-      going = going_more c.args.settings.workers (c.args.settings.objects / 2) c.args.script.now c.args.packets.now (stage_of c.rounds.control c.rounds.progress) (closed_by (stage_of c.run_round.new.control c.run_round.new.progress) ran.next) o ran.next (applied_in c.rounds.control) c.rounds.control.plane.board c.run_round.new.control.plane.board ran.places.items _ _ _ _
-          going told.ran told.home (Appends-more _ _ _ c.run_round.new.text.items _ first second);
+      going = going_more c.args.task.now.settings.workers (c.args.task.now.settings.objects / 2) c.args.task.now.script.now c.args.task.now.packets.now (stage_of c.rounds.control c.rounds.reading.progress) (closed_by (stage_of c.run_round.new.control c.run_round.new.reading.progress) ran.next) o ran.next (applied_in c.rounds.control) c.rounds.control.plane.board c.run_round.new.control.plane.board ran.places.items _ _ _ _
+          going told.ran told.home (Appends-more _ _ _ c.run_round.new.reading.text.items _ first second);
       counts = told.counts ∙ counts;
       refused = told.refused;
       may = told.may;
@@ -104,26 +104,26 @@ rounds-preserved g c =
 pub returns-in_err-put_last-clause-some : goal.returns-in_err-put_last-clause-some
 returns-in_err-put_last-clause-some g c =
     let inv = c.rounds.invariant in
-    on_err c.from_residual-in_err-put_last.result (going_stops c.args.settings.workers (c.args.settings.objects / 2) c.args.script.now c.args.packets.now _ c.rounds.next c.rounds.control.plane.board _ _ inv.going (closed_history (stage_of c.rounds.control c.rounds.progress) c.rounds.next inv.history))
+    on_err c.from_residual-in_err-put_last.result (going_stops c.args.task.now.settings.workers (c.args.task.now.settings.objects / 2) c.args.task.now.script.now c.args.task.now.packets.now _ c.rounds.next c.rounds.control.plane.board _ _ inv.going (closed_history (stage_of c.rounds.control c.rounds.reading.progress) c.rounds.next inv.history))
 
 pub returns-in_err-put_all-2-clause-some : goal.returns-in_err-put_all-2-clause-some
 returns-in_err-put_all-2-clause-some g c =
     let inv = c.rounds.invariant in
     let going = rw c.in_default.is at inv.going in
-    let text = c.deref-2.ensures.value ∙ (c.in_ok-put_last.ensures ∙ ap (λ t. t ++ last_text c.args.packets.now.cut) c.clear-2.ensures.items) in
+    let text = c.deref-2.ensures.value ∙ (c.in_ok-put_last.ensures ∙ ap (λ t. t ++ last_text c.args.task.now.packets.now.cut) c.clear-2.ensures.items) in
     let part = subst (AppendsSome _ _) text c.in_err-put_all-2.ensures.err in
     on_err c.from_residual-in_err-put_all-2.result
-    (going_cut c.args.settings.workers (c.args.settings.objects / 2) c.args.script.now c.args.packets.now _ _ c.rounds.control.plane.board (last_text c.args.packets.now.cut) _ _ _ [] [] going (refl, append-nil (last_text c.args.packets.now.cut)) part)
+    (going_cut c.args.task.now.settings.workers (c.args.task.now.settings.objects / 2) c.args.task.now.script.now c.args.task.now.packets.now _ _ c.rounds.control.plane.board (last_text c.args.task.now.packets.now.cut) _ _ _ [] [] going (refl, append-nil (last_text c.args.task.now.packets.now.cut)) part)
 
 pub returns-clause-ok : goal.returns-clause-ok
 returns-clause-ok g c =
     let inv = c.rounds.invariant in
     let going = rw c.in_default.is at inv.going in
-    let text = c.deref-2.ensures.value ∙ (c.in_ok-put_last.ensures ∙ ap (λ t. t ++ last_text c.args.packets.now.cut) c.clear-2.ensures.items) in
+    let text = c.deref-2.ensures.value ∙ (c.in_ok-put_last.ensures ∙ ap (λ t. t ++ last_text c.args.task.now.packets.now.cut) c.clear-2.ensures.items) in
     let told = subst (Appends _ _) text c.in_ok-put_all-2.ensures.ok in
-    going_ends c.args.settings.workers (c.args.settings.objects / 2) c.args.script.now c.args.packets.now _ c.rounds.control _ _ _ going told refl inv.settled
+    going_ends c.args.task.now.settings.workers (c.args.task.now.settings.objects / 2) c.args.task.now.script.now c.args.task.now.packets.now _ c.rounds.control _ _ _ going told refl inv.settled
 
 pub returns-clause-summary : goal.returns-clause-summary
 returns-clause-summary g c =
     let inv = c.rounds.invariant in
-    counts_end c.args.packets.now c.args.script.now (stage_of c.rounds.control c.rounds.progress) c.rounds.next c.rounds.counts c.version.result.applied c.rounds.refused_lines _ c.in_default.is inv.counts (ap (λ v. v.applied) c.version.ensures) inv.refused
+    counts_end c.args.task.now.packets.now c.args.task.now.script.now (stage_of c.rounds.control c.rounds.reading.progress) c.rounds.next c.rounds.counts c.version.result.applied c.rounds.refused_lines _ c.in_default.is inv.counts (ap (λ v. v.applied) c.version.ensures) inv.refused
