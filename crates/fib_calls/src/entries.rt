@@ -278,6 +278,9 @@ fn a_leaf_is_followed_in_its_row(rt: HostRuntime) -> Result<(), Fail> {
     let alloc = rt.alloc();
     let mut config = Config::new(alloc, 1000)?;
     let mut entries = Entries::new(alloc)?;
-    assert!(rt; follows_all(alloc, &mut entries, &mut config)? && follows_ends(alloc, &mut entries, &mut config)?);
+    assert!(rt;
+        follows_all(alloc, &mut entries, &mut config)?
+            && follows_ends(alloc, &mut entries, &mut config)?
+    );
     Ok(())
 }
