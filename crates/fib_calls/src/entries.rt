@@ -1,5 +1,5 @@
-// Each public call once, with ample memory: what a recursive route makes.
-ghost use Rattle.std.specs.Prelude.{IfOk};
+// Each public call once, with ample memory: what a recursive route makes, and a leaf's route that changes.
+ghost use Rattle.std.specs.Prelude.{IfOk, ◌<◌};
 ghost use Rattle.fib_resolve.specs.Reachable.{IsWritten};
 
 use fib_addr::{Addr, Prefix};
@@ -98,5 +98,124 @@ fn a_recursive_route_makes_a_host(rt: HostRuntime) -> Result<(), Fail> {
     let mut entries = Entries::new(alloc)?;
     let is_fresh = entries.len() == 5 && entries.size() == 20;
     assert!(rt; is_fresh && follows_the_route(&mut entries, &config)?);
+    Ok(())
+}
+
+/// The route of that prefix of length 8 gets a path via that next hop, or the path goes.
+fn edit_via(
+    alloc: Global,
+    comes: bool,
+    route: u32,
+    hop: u32,
+    weight: u8,
+) -> Result<Edit, AllocError>
+    requires { 0 < weight }
+    ensures { IfOk result IsWritten }
+{
+    let mut paths = List::new(alloc);
+    paths.push(PathSpec {
+        kind: SpecKind::Recursive(Addr(hop)),
+        weight,
+        preference: 0,
+        need: Need::Any,
+    })?;
+    let prefix = Prefix::masked(Addr(route), 8);
+    let api = false;
+    if comes {
+        return Ok(Edit::AddRoute { prefix, api, paths });
+    }
+    Ok(Edit::DelRoute { prefix, api, paths })
+}
+
+/// Four routes over two next hops, and after them what becomes of the second: the other next hop comes, the first one goes, and the path
+/// that is left gets another weight.
+fn edit_of(alloc: Global, number: u32) -> Result<Edit, AllocError>
+    ensures { IfOk result IsWritten }
+{
+    match number {
+        0 => edit_via(alloc, true, 0x1400_0000, 0x0a00_0007, 1),
+        1 => edit_via(alloc, true, 0x1e00_0000, 0x0a00_0007, 1),
+        2 => edit_via(alloc, true, 0x2800_0000, 0x0a00_0008, 1),
+        3 => edit_via(alloc, true, 0x3200_0000, 0x0a00_0008, 1),
+        4 => edit_via(alloc, true, 0x1e00_0000, 0x0a00_0008, 1),
+        5 => edit_via(alloc, false, 0x1e00_0000, 0x0a00_0007, 1),
+        _ => edit_via(alloc, true, 0x1e00_0000, 0x0a00_0008, 9),
+    }
+}
+
+/// Whether both say the same of that entry.
+fn agree_at(entries: &Entries, anew: &Entries, e: Prefix) -> bool {
+    entries.chosen(e) == anew.chosen(e)
+        && entries.marked(e) == anew.marked(e)
+        && entries.dependants(e).len() == anew.dependants(e).len()
+        && entries.looped(e, 0) == anew.looped(e, 0)
+}
+
+/// Whether both know as many entries, objects and lists.
+fn are_as_large(entries: &Entries, anew: &Entries) -> bool {
+    entries.len() == anew.len()
+        && entries.size() == anew.size()
+        && entries.lists().count() == anew.lists().count()
+}
+
+/// Whether both know the same.
+fn agree(entries: &Entries, anew: &Entries) -> bool {
+    for place in 0..anew.len() {
+        if !agree_at(entries, anew, anew.at(place)) {
+            return false;
+        }
+    }
+    are_as_large(entries, anew)
+}
+
+/// Whether the entries know what is made anew.
+fn are_as_anew(alloc: Global, entries: &Entries, config: &Config) -> Result<bool, AllocError> {
+    let anew = Entries::of(alloc, config.tables())?;
+    Ok(agree(entries, &anew))
+}
+
+/// Whether the edit of the second route touches it alone, and the entries that follow it are as if made anew.
+fn follows_a_leaf(
+    alloc: Global,
+    entries: &mut Entries,
+    config: &mut Config,
+    number: u32,
+) -> Result<bool, Fail> {
+    config.edit(&edit_of(alloc, number)?)?;
+    let prefix = Prefix::masked(Addr(0x1e00_0000), 8);
+    let source = FibSource::Cli;
+    let followed = entries.follow_changes(config, &[Change::Route { prefix, source }], 1000)?;
+    let is_alone = followed.touched.list() == [prefix].as_slice();
+    Ok(is_alone && are_as_anew(alloc, entries, config)?)
+}
+
+/// The first four edits, and entries of what they make.
+fn has_four(alloc: Global, entries: &mut Entries, config: &mut Config) -> Result<bool, Fail> {
+    for number in 0..4 {
+        config.edit(&edit_of(alloc, number)?)?;
+    }
+    *entries = Entries::of(alloc, config.tables())?;
+    Ok(entries.len() == 11)
+}
+
+fn follows_all(alloc: Global, entries: &mut Entries, config: &mut Config) -> Result<bool, Fail> {
+    if !has_four(alloc, entries, config)? {
+        return Ok(false);
+    }
+    for number in 4..7 {
+        if !follows_a_leaf(alloc, entries, config, number)? {
+            return Ok(false);
+        }
+    }
+    Ok(true)
+}
+
+// Each of the three changes is followed in the row of the second route.
+#[test]
+fn a_leaf_is_followed_in_its_row(rt: HostRuntime) -> Result<(), Fail> {
+    let alloc = rt.alloc();
+    let mut config = Config::new(alloc, 1000)?;
+    let mut entries = Entries::new(alloc)?;
+    assert!(rt; follows_all(alloc, &mut entries, &mut config)?);
     Ok(())
 }

@@ -1,14 +1,13 @@
 -- The edges by where they lead: each entry's sources, each once.
-use Rattle.std.proofs.Common.{arith, ◌≡◌, ◌≢◌, ℕ, zero, suc, ◌+◌, ◌<◌, ◌≤◌, Bool, true, false, ◌==◌, ◌&&◌, List, [], ◌∷◌, ◌++◌, length, take, replicate, get_or, Option, Some, None, inl, inr, refl, sym, ◌∙◌, ap, subst, slice_get, slice_set, filter_map, option_to_list, if◌then◌else◌, ◌↔◌}
+use Rattle.std.proofs.Common.{arith, ◌≡◌, ◌≢◌, ℕ, zero, suc, ◌<◌, Bool, true, false, ◌==◌, ◌&&◌, List, [], ◌∷◌, ◌++◌, length, replicate, get_or, Option, Some, None, inl, inr, refl, sym, ◌∙◌, ap, subst, slice_get, slice_set, if◌then◌else◌}
 use Rattle.std.specs.Prelude.{All, Contains}
 use Rattle.std.specs.List.{AllByRecursion, AllZip, IsDistinct}
 use Rattle.std.specs.Set.{unique_keys}
 use Rattle.std.specs.Cmp.{IsEquivalence}
 use Rattle.std.proofs.Math.ListN.{length-replicate}
-use Rattle.std.proofs.lemmas.Bool.{false≢true, cases_eq}
+use Rattle.std.proofs.lemmas.Bool.{false≢true}
 use Rattle.std.proofs.lemmas.Bool.Decides.{Decides-eqb, eqb_tells}
 use Rattle.std.proofs.lemmas.List.{get_or-set_same, get_or-set_other}
-use Rattle.std.proofs.lemmas.List.Elements.{Contains-append_cases, Contains-append_left, Contains-append_right}
 use Rattle.fib_list.proofs.Lists.{either, Contains-nil}
 use Rattle.fib_list.proofs.Booleans.{and_both}
 use Rattle.fib_reach.specs.Walks.{AllDiffer}

@@ -1,13 +1,12 @@
 -- Pairs by their keys.
-use Rattle.std.proofs.Common.{arith, ◌≡◌, ℕ, suc, ◌+◌, ◌<◌, Bool, true, false, not, ◌&&◌, ◌==◌, List, [], ◌∷◌, length, map, Option, Some, None, refl, sym, ◌∙◌, ap, cond}
+use Rattle.std.proofs.Common.{◌≡◌, ℕ, suc, ◌+◌, ◌<◌, Bool, not, List, [], ◌∷◌, length, map, Option, Some, None, refl, sym, ◌∙◌, ap, cond}
 use Rattle.std.specs.Prelude.{IfSome, position}
 use Rattle.std.specs.HashMap.{HashMap, get}
-use Rattle.std.specs.List.{position_or_len, prefix_len}
+use Rattle.std.specs.List.{prefix_len}
 use Rattle.std.proofs.lemmas.List.Quantifiers.{position-Some}
-use Rattle.fib_addr.specs.Prefixes.{Prefix, same_prefix}
-use Rattle.fib_resolve.specs.Keys.{source_rank, same_source}
+use Rattle.fib_addr.specs.Prefixes.{Prefix}
+use Rattle.fib_resolve.specs.Keys.{source_rank}
 use Rattle.fib_resolve.specs.declared.pairs.Pair.{Pair}
-use Rattle.fib_resolve.specs.declared.types.FibSource.{FibSource}
 use Rattle.fib_resolve.specs.declared.types.FibSource.TheVariants as sources
 use Rattle.fib_entries.specs.inner.Building.{same_key, AreByKey}
 

@@ -1,5 +1,4 @@
 use Rattle.std.proofs.Common.{ℕ, List, ◌<◌, ◌∙◌, subst}
-use Rattle.std.specs.Prelude.{IfOk}
 use Rattle.std.proofs.lemmas.Result.{IfOk-weaker}
 use Rattle.fib_entries.specs.inner.Edges.{IsTurned, AreSourcesIn}
 use Rattle.fib_entries.proofs.Grouping.{sources_once, edges_once, edge_laws}

@@ -1,8 +1,7 @@
-use Rattle.std.proofs.Common.{arith, ℕ, List, take, get_or, [], ◌∷◌, ◌++◌, sym, ◌∙◌, ap, subst, refl}
+use Rattle.std.proofs.Common.{ℕ, List, take, get_or, [], ◌∷◌, ◌++◌, sym, ◌∙◌, subst, refl}
 use Rattle.std.specs.Prelude.{Contains}
 use Rattle.std.proofs.lemmas.List.{take_more, take_all}
 use Rattle.std.proofs.lemmas.Option.{slice_get_read}
-use Rattle.fib_addr.specs.Prefixes.{Prefix}
 use Rattle.fib_entries.proofs.Grouping.{AreAt, at_push, sources_listed, source_inside, at_place_in}
 use Rattle.fib_entries.proofs.groups.dependants_of.Goals as goal
 

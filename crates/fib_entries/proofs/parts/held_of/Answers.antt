@@ -1,4 +1,4 @@
-use Rattle.std.proofs.Common.{arith, sym, ◌∙◌, subst, refl, ◌+◌}
+use Rattle.std.proofs.Common.{sym, ◌∙◌, subst, refl, ◌+◌}
 use Rattle.std.proofs.lemmas.Option.{slice_get_read}
 use Rattle.fib_entries.specs.inner.Building.{ArePicked}
 use Rattle.fib_resolve.specs.Pairs.{pairs}

@@ -1,9 +1,9 @@
-use Rattle.std.proofs.Common.{◌≡◌, ◌<◌, ℕ, List, length, sym, ◌∙◌, subst}
-use Rattle.std.specs.Prelude.{IfOk, Contains, slice_index}
+use Rattle.std.proofs.Common.{◌<◌, ℕ, List, length, sym, subst}
+use Rattle.std.specs.Prelude.{Contains, slice_index}
 use Rattle.std.proofs.lemmas.Result.{IfOk-weaker}
 use Rattle.fib_loops.specs.Loops.{AreEdges, IsLooped}
 use Rattle.fib_entries.specs.inner.Building.{AreRows, AreAnew}
-use Rattle.fib_entries.specs.inner.Edges.{AreEdgesOf, AreSourcesIn}
+use Rattle.fib_entries.specs.inner.Edges.{AreEdgesOf}
 use Rattle.fib_entries.proofs.Anew.{falls_by}
 use Rattle.fib_entries.proofs.Edging.{edge_places, places_join}
 use Rattle.fib_entries.proofs.KeptEdges.{edges_join, none_looped}
