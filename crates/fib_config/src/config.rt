@@ -2,7 +2,7 @@
 ghost use Rattle.std.specs.Prelude.{◌≡◌, ℕ, ◌≤◌, ◌<◌, ◌^◌, ◌-◌, OnOk, OnErr, IfOk, IfErr, None, Ok, length};
 ghost use Rattle.std.specs.List.{AllByRecursion};
 ghost use Rattle.fib_resolve.specs.Tables.{fresh, IsSound};
-ghost use Rattle.fib_resolve.specs.Edits.{edited};
+ghost use Rattle.fib_resolve.specs.Edits.{edited, paths_at};
 ghost use Rattle.fib_resolve.specs.Refusals.{refused, edited_in_turn, reasons, first_reason};
 ghost use Rattle.fib_config.specs.Undone.{undone, undone_all};
 ghost use Rattle.fib_changes.specs.Differ.{Differ, change_of};
@@ -13,7 +13,8 @@ use crate::digest::Digest;
 use crate::errors::{BatchError, EditError};
 use crate::undo::{Edited, EditedAll, Undo};
 use crate::{changes, edits};
-use fib_resolve::{Duplicate, Edit, List, Refusal, Tables};
+use fib_addr::Prefix;
+use fib_resolve::{Duplicate, Edit, FibSource, List, Path, Refusal, Tables};
 use std::alloc::{AllocError, Global};
 use std::marker::Model;
 
@@ -66,6 +67,15 @@ impl Config {
         ensures sound { IsSound result.now }
     {
         &self.held
+    }
+
+    /// The paths of the route of that prefix and source; none where there is no such route.
+    ///
+    /// It takes no search where the last edits left the routes' keys known, as an edit of a route does unless memory was wanted.
+    pub fn paths_of(&self, prefix: Prefix, source: FibSource) -> &[Path]
+        ensures { result.now ≡ paths_at prefix source self.now.tables.routes }
+    {
+        changes::paths_at(prefix, source, &self.held, &self.digest)
     }
 
     /// A configuration of the same tables and room.
