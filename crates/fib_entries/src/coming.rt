@@ -4,6 +4,7 @@ ghost use Rattle.std.specs.List.{insert};
 ghost use Rattle.fib_addr.specs.Prefixes.{contains};
 ghost use Rattle.fib_cover.specs.Covers.{IsAscending};
 ghost use Rattle.fib_paths.specs.PathLists.{IsUsedLess};
+ghost use Rattle.fib_resolve.specs.Edits.{paths_at};
 ghost use Rattle.fib_entries.specs.Known.{prefix_of};
 ghost use Rattle.fib_entries.specs.declared.rows.Row.{Row as RowValue};
 ghost use Rattle.fib_entries.specs.inner.Coming.{IsArriving, IsPlaced, HasCome, blank_row, with_pairs};
@@ -13,7 +14,7 @@ use crate::apply::{alone, moved, own};
 use crate::change::Target;
 use crate::changes::{Followed, Touched};
 use crate::going::take_out;
-use crate::leaf::{are_far, is_none, is_short, is_written, paths_at, suits};
+use crate::leaf::{are_far, is_none, is_short, is_written, suits};
 use crate::links::attach;
 use crate::replace::Own;
 use crate::rows::Row;
@@ -45,9 +46,16 @@ fn is_outside(rows: &[Row], place: usize, p: Prefix) -> bool
     }
 }
 
-/// Where the prefix's row belongs, where it comes with the route of that source, and it alone.
-pub fn arriving(rows: &[Row], tables: &Tables, p: Prefix, source: FibSource) -> Option<usize>
-    requires { IsAscending (map prefix_of rows.now) }
+/// Where the prefix's row belongs, where it comes with the route of that source and list, and it alone.
+pub fn arriving(
+    rows: &[Row],
+    tables: &Tables,
+    p: Prefix,
+    source: FibSource,
+    new: &[Path],
+) -> Option<usize>
+    requires ascending { IsAscending (map prefix_of rows.now) }
+    requires list { new.now ≡ paths_at p source tables.now.routes }
     ensures arriving { IfSome result (λ place. IsArriving rows.now tables.now p source place) }
     ensures inside { IfSome result (λ place. place ≤ length rows.now) }
 {
@@ -66,7 +74,6 @@ pub fn arriving(rows: &[Row], tables: &Tables, p: Prefix, source: FibSource) -> 
     if !are_far(p, tables.neighbors.as_slice()) {
         return None;
     }
-    let new = paths_at(p, source, tables.routes.as_slice());
     if is_none(new) {
         return None;
     }

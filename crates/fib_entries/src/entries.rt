@@ -3,6 +3,7 @@ ghost use Rattle.std.specs.Prelude.{◌∷◌, ◌-◌, ◌^◌, IfNone, OnErr, 
 ghost use Rattle.fib_reach.specs.Walks.{AllDiffer};
 ghost use Rattle.fib_addr.specs.Prefixes.{Prefix as PrefixValue, IsPrefix};
 ghost use Rattle.fib_resolve.specs.Aims.{marked_list};
+ghost use Rattle.fib_resolve.specs.Edits.{paths_at};
 ghost use Rattle.fib_resolve.specs.Pairs.{cover};
 ghost use Rattle.fib_resolve.specs.Loops.{targets, looped_at};
 ghost use Rattle.fib_resolve.specs.Tables.{IsSound, fresh};
@@ -23,7 +24,7 @@ use crate::changes::Followed;
 use crate::coming::{arriving, come};
 use crate::ends::News;
 use crate::going::{leave, leaving, size_at};
-use crate::leaf::{paths_at, ready, top_rank};
+use crate::leaf::{ready, top_rank};
 use crate::look::row;
 use crate::plies::{lowered, own_size, raised};
 use crate::rows::Row;
@@ -95,25 +96,33 @@ impl Entries {
     }
 
     /// Follows the change of the route of that prefix and source in its own row, where rows and neighbors tell that the change touches that
-    /// row alone; None where they don't. After want of memory all is as before.
+    /// row alone; None where they don't. The list is the route's in the tables. After want of memory all is as before.
     pub(crate) fn follow_leaf(
         &mut self,
         tables: &Tables,
         prefix: Prefix,
         source: FibSource,
+        new: &[Path],
         most: u32,
     ) -> Result<Option<Followed>, AllocError>
         requires sound { IsSound tables.now }
+        requires list { new.now ≡ paths_at prefix source tables.now.routes }
         requires most { most < 2 ^ 32 - 1 }
         ensures followed { IfOk result (λ o. IfSome o (λ f. (S : TablesValue) → StandsFor self.old S →
             Differ (changes.Route prefix source ∷ []) S tables.now → IsFollowed self.old self.new S tables.now most f)) }
         ensures none { IfOk result (λ o. IfNone o (self.new ≡ self.old)) }
         ensures err { OnErr result (self.new ≡ self.old) }
     {
-        let Some(at) = ready(self.rows.as_slice(), &self.lists, tables, prefix, source) else {
+        let Some(at) = ready(
+            self.rows.as_slice(),
+            &self.lists,
+            tables,
+            prefix,
+            source,
+            new,
+        ) else {
             return Ok(None);
         };
-        let new = paths_at(prefix, source, tables.routes.as_slice());
         if !is_other(&self.lists, at.1, new) {
             return Ok(None);
         }
@@ -307,29 +316,37 @@ impl Entries {
 
 impl Entries {
     /// Follows the loss of the route of that prefix and source, where rows and neighbors tell that the prefix's row goes with it and that
-    /// nothing else is touched; None where they don't. After want of memory all is as before.
+    /// nothing else is touched; None where they don't. The list is the route's in the tables. After want of memory all is as before.
     pub(crate) fn follow_going(
         &mut self,
         tables: &Tables,
         prefix: Prefix,
         source: FibSource,
+        new: &[Path],
         most: u32,
     ) -> Result<Option<Followed>, AllocError>
         requires sound { IsSound tables.now }
+        requires list { new.now ≡ paths_at prefix source tables.now.routes }
         requires most { most < 2 ^ 32 - 1 }
         ensures followed { IfOk result (λ o. IfSome o (λ f. (S : TablesValue) → StandsFor self.old S →
             Differ (changes.Route prefix source ∷ []) S tables.now → IsFollowed self.old self.new S tables.now most f)) }
         ensures none { IfOk result (λ o. IfNone o (self.new ≡ self.old)) }
         ensures err { OnErr result (self.new ≡ self.old) }
     {
-        let Some(at) = leaving(self.rows.as_slice(), &self.lists, tables, prefix, source) else {
+        let Some(at) = leaving(
+            self.rows.as_slice(),
+            &self.lists,
+            tables,
+            prefix,
+            source,
+            new,
+        ) else {
             return Ok(None);
         };
         let size = size_at(self.rows.as_slice(), at.0, prefix);
         let Some(objects) = lowered(self.objects, size, most) else {
             return Ok(None);
         };
-        let new = paths_at(prefix, source, tables.routes.as_slice());
         let followed = leave(self.alloc, &mut self.rows, &mut self.lists, at, prefix, new)?;
         self.order.remove(prefix);
         self.objects = objects;
@@ -337,25 +354,26 @@ impl Entries {
     }
 
     /// Follows the first route of that prefix and source, where rows and neighbors tell that the prefix comes with it and that nothing else
-    /// is touched; None where they don't. After want of memory all is as before.
+    /// is touched; None where they don't. The list is the route's in the tables. After want of memory all is as before.
     pub(crate) fn follow_coming(
         &mut self,
         tables: &Tables,
         prefix: Prefix,
         source: FibSource,
+        new: &[Path],
         most: u32,
     ) -> Result<Option<Followed>, AllocError>
         requires sound { IsSound tables.now }
+        requires list { new.now ≡ paths_at prefix source tables.now.routes }
         requires most { most < 2 ^ 32 - 1 }
         ensures followed { IfOk result (λ o. IfSome o (λ f. (S : TablesValue) → StandsFor self.old S →
             Differ (changes.Route prefix source ∷ []) S tables.now → IsFollowed self.old self.new S tables.now most f)) }
         ensures none { IfOk result (λ o. IfNone o (self.new ≡ self.old)) }
         ensures err { OnErr result (self.new ≡ self.old) }
     {
-        let Some(place) = arriving(self.rows.as_slice(), tables, prefix, source) else {
+        let Some(place) = arriving(self.rows.as_slice(), tables, prefix, source, new) else {
             return Ok(None);
         };
-        let new = paths_at(prefix, source, tables.routes.as_slice());
         if !self.lists.has_room(new) {
             return Ok(None);
         }
@@ -387,24 +405,26 @@ impl Entries {
     }
 
     /// Follows the change of the route of that prefix and source, where rows and neighbors tell that it touches that prefix alone, whether
-    /// its row stays, goes or comes; None where they don't. After want of memory all is as before.
+    /// its row stays, goes or comes; None where they don't. The list is the route's in the tables. After want of memory all is as before.
     pub(crate) fn follow_alone(
         &mut self,
         tables: &Tables,
         prefix: Prefix,
         source: FibSource,
+        new: &[Path],
         most: u32,
     ) -> Result<Option<Followed>, AllocError>
         requires sound { IsSound tables.now }
+        requires list { new.now ≡ paths_at prefix source tables.now.routes }
         requires most { most < 2 ^ 32 - 1 }
         ensures followed { IfOk result (λ o. IfSome o (λ f. (S : TablesValue) → StandsFor self.old S →
             Differ (changes.Route prefix source ∷ []) S tables.now → IsFollowed self.old self.new S tables.now most f)) }
         ensures none { IfOk result (λ o. IfNone o (self.new ≡ self.old)) }
         ensures err { OnErr result (self.new ≡ self.old) }
     {
-        match self.follow_leaf(tables, prefix, source, most)? {
+        match self.follow_leaf(tables, prefix, source, new, most)? {
             Some(followed) => Ok(Some(followed)),
-            None => self.follow_coming_or_going(tables, prefix, source, most),
+            None => self.follow_coming_or_going(tables, prefix, source, new, most),
         }
     }
 
@@ -414,18 +434,20 @@ impl Entries {
         tables: &Tables,
         prefix: Prefix,
         source: FibSource,
+        new: &[Path],
         most: u32,
     ) -> Result<Option<Followed>, AllocError>
         requires sound { IsSound tables.now }
+        requires list { new.now ≡ paths_at prefix source tables.now.routes }
         requires most { most < 2 ^ 32 - 1 }
         ensures followed { IfOk result (λ o. IfSome o (λ f. (S : TablesValue) → StandsFor self.old S →
             Differ (changes.Route prefix source ∷ []) S tables.now → IsFollowed self.old self.new S tables.now most f)) }
         ensures none { IfOk result (λ o. IfNone o (self.new ≡ self.old)) }
         ensures err { OnErr result (self.new ≡ self.old) }
     {
-        match self.follow_going(tables, prefix, source, most)? {
+        match self.follow_going(tables, prefix, source, new, most)? {
             Some(followed) => Ok(Some(followed)),
-            None => self.follow_coming(tables, prefix, source, most),
+            None => self.follow_coming(tables, prefix, source, new, most),
         }
     }
 }

@@ -5,6 +5,7 @@ ghost use Rattle.fib_resolve.specs.Tables.{IsSound};
 ghost use Rattle.fib_resolve.specs.Touched.{is_touched};
 ghost use Rattle.fib_resolve.specs.declared.types.Tables.{Tables as TablesValue};
 ghost use Rattle.fib_changes.specs.Differ.{Differ};
+ghost use Rattle.fib_changes.specs.declared.change.Change.TheVariants as change_kinds;
 ghost use Rattle.fib_entries.specs.Known.{StandsFor, prefix_of};
 ghost use Rattle.fib_entries.specs.inner.Compare.{is_new, moved_one, moved_new};
 ghost use Rattle.fib_entries.specs.inner.Leaf.{IsFollowed};
@@ -17,7 +18,7 @@ use fib_addr::Prefix;
 use fib_changes::Change;
 use fib_config::Config;
 use fib_list::List;
-use fib_resolve::Tables;
+use fib_resolve::{FibSource, Tables};
 use std::alloc::{AllocError, Global};
 
 /// Whether the change touches the prefix.
@@ -207,7 +208,7 @@ impl Entries {
             Differ changes.now S after.now.tables → IsTooMany (size after.now.tables) most e) }
         ensures err { OnErr result (self.new ≡ self.old) }
     {
-        match self.follow_one(after.tables(), changes, most)? {
+        match self.follow_one(after, changes, most)? {
             Some(followed) => Ok(followed),
             None => self.follow_anew(after, changes, most),
         }
@@ -217,24 +218,41 @@ impl Entries {
     /// as before.
     fn follow_one(
         &mut self,
-        tables: &Tables,
+        after: &Config,
         changes: &[Change],
         most: u32,
     ) -> Result<Option<Followed>, AllocError>
-        requires sound { IsSound tables.now }
-        requires most { most < 2 ^ 32 - 1 }
+        requires { most < 2 ^ 32 - 1 }
         ensures followed { IfOk result (λ o. IfSome o (λ f. (S : TablesValue) → StandsFor self.old S →
-            Differ changes.now S tables.now → IsFollowed self.old self.new S tables.now most f)) }
+            Differ changes.now S after.now.tables → IsFollowed self.old self.new S after.now.tables most f)) }
         ensures none { IfOk result (λ o. IfNone o (self.new ≡ self.old)) }
         ensures err { OnErr result (self.new ≡ self.old) }
     {
         match changes {
             [Change::Route { prefix, source }] => {
-                self.follow_alone(tables, *prefix, *source, most)
+                self.follow_route(after, *prefix, *source, most)
             }
-            [change] => self.follow_news(tables, *change, most),
+            [change] => self.follow_news(after.tables(), *change, most),
             _ => Ok(None),
         }
+    }
+
+    /// The same where a route's list changed, which is looked up once.
+    fn follow_route(
+        &mut self,
+        after: &Config,
+        prefix: Prefix,
+        source: FibSource,
+        most: u32,
+    ) -> Result<Option<Followed>, AllocError>
+        requires { most < 2 ^ 32 - 1 }
+        ensures followed { IfOk result (λ o. IfSome o (λ f. (S : TablesValue) → StandsFor self.old S →
+            Differ (change_kinds.Route prefix source ∷ []) S after.now.tables → IsFollowed self.old self.new S after.now.tables most f)) }
+        ensures none { IfOk result (λ o. IfNone o (self.new ≡ self.old)) }
+        ensures err { OnErr result (self.new ≡ self.old) }
+    {
+        let new = after.paths_of(prefix, source);
+        self.follow_alone(after.tables(), prefix, source, new, most)
     }
 
     /// The same by entries made anew, which are compared with those before.

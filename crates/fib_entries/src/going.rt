@@ -3,6 +3,7 @@ ghost use Rattle.std.specs.Prelude.{◌≡◌, ◌+◌, ◌<◌, IfOk, IfSome, I
 ghost use Rattle.std.specs.List.{remove};
 ghost use Rattle.fib_cover.specs.Covers.{IsAscending};
 ghost use Rattle.fib_interned.specs.Interned.{kept_of};
+ghost use Rattle.fib_resolve.specs.Edits.{paths_at};
 ghost use Rattle.fib_resolve.specs.declared.types.Path.{Path as PathValue};
 ghost use Rattle.fib_entries.specs.Known.{content_of, prefix_of};
 ghost use Rattle.fib_entries.specs.declared.rows.Row.{Row as RowValue};
@@ -12,7 +13,7 @@ ghost use Rattle.fib_entries.specs.inner.Plies.{own_size, entry_at, entry_before
 
 use crate::apply::{alone, moved};
 use crate::changes::{Followed, Touched};
-use crate::leaf::{is_none, leaf_place, only_list, paths_at, suits};
+use crate::leaf::{is_none, leaf_place, only_list, suits};
 use crate::links::detach;
 use crate::plies::own_size;
 use crate::rows::Row;
@@ -21,16 +22,19 @@ use fib_paths::{PathListId, PathLists};
 use fib_resolve::{FibSource, Path, Tables};
 use std::alloc::{AllocError, Global};
 
-/// The place of the prefix's row and the number of its list, where the row goes with the route of that source, and it alone.
+/// The place of the prefix's row and the number of its list, where the row goes with the route of that source, whose list is then that,
+/// and it alone.
 pub fn leaving(
     rows: &[Row],
     lists: &PathLists,
     tables: &Tables,
     p: Prefix,
     source: FibSource,
+    new: &[Path],
 ) -> Option<(usize, PathListId)>
     requires ascending { IsAscending (map prefix_of rows.now) }
     requires held { AreHeld rows.now lists.now }
+    requires list { new.now ≡ paths_at p source tables.now.routes }
     ensures leaving { IfSome result (λ x. (old : Items PathValue) × IsLeaving rows.now lists.now tables.now p source x.0 x.1 old) }
     ensures inside { IfSome result (λ x. x.0 < length rows.now) }
 {
@@ -40,7 +44,6 @@ pub fn leaving(
     let Some(id) = only_list(&rows[place], source) else {
         return None;
     };
-    let new = paths_at(p, source, tables.routes.as_slice());
     if !is_none(new) {
         return None;
     }

@@ -6,7 +6,6 @@ ghost use Rattle.std.specs.List.{list_all, list_any};
 ghost use Rattle.fib_addr.specs.Prefixes.{Prefix as PrefixValue, IsPrefix, contains};
 ghost use Rattle.fib_cover.specs.Covers.{IsAscending};
 ghost use Rattle.fib_resolve.specs.Edits.{paths_at};
-ghost use Rattle.fib_resolve.specs.Tables.{is_route};
 ghost use Rattle.fib_resolve.specs.Keys.{source_rank};
 ghost use Rattle.fib_entries.specs.declared.rows.Row.{Row as RowValue};
 ghost use Rattle.fib_resolve.specs.declared.types.Neighbor.{Neighbor as NeighborValue};
@@ -18,26 +17,8 @@ use crate::rows::Row;
 use fib_addr::Prefix;
 use fib_list::List;
 use fib_paths::{PathListId, PathLists};
-use fib_resolve::{Aim, End, FibSource, Marked, Neighbor, Path, PathKind, Route, Tables, keys};
+use fib_resolve::{Aim, End, FibSource, Marked, Neighbor, Path, PathKind, Tables, keys};
 use std::alloc::{AllocError, Global};
-
-fn is_route(prefix: Prefix, source: FibSource, r: &Route) -> bool
-    ensures { result ≡ is_route prefix source r.now }
-{
-    r.prefix == prefix && keys::is_same_source(r.source, source)
-}
-
-/// The list of the route of that prefix and source; empty where there is none.
-pub fn paths_at<'a>(prefix: Prefix, source: FibSource, routes: &'a [Route]) -> &'a [Path]
-    ensures { result.now ≡ paths_at prefix source routes.now }
-{
-    for r in routes {
-        if is_route(prefix, source, r) {
-            return r.paths.as_slice();
-        }
-    }
-    &[]
-}
 
 /// Whether the path is over no interface and needs nothing.
 fn is_plain(path: &Path) -> bool
@@ -283,16 +264,19 @@ pub fn is_none(paths: &[Path]) -> bool
     paths.is_empty()
 }
 
-/// The place of the prefix's row and the number of its list, where the change of its route of that source touches that row alone.
+/// The place of the prefix's row and the number of its list, where the change of its route of that source to that list touches the row
+/// alone.
 pub fn ready(
     rows: &[Row],
     lists: &PathLists,
     tables: &Tables,
     p: Prefix,
     source: FibSource,
+    new: &[Path],
 ) -> Option<(usize, PathListId)>
     requires ascending { IsAscending (map prefix_of rows.now) }
     requires held { AreHeld rows.now lists.now }
+    requires list { new.now ≡ paths_at p source tables.now.routes }
     ensures { IfSome result (λ x. (old : Items PathValue) × IsReady rows.now lists.now tables.now p source x.0 x.1 old) }
 {
     let Some(place) = leaf_place(rows, tables.neighbors.as_slice(), p, source) else {
@@ -301,7 +285,6 @@ pub fn ready(
     let Some(id) = only_list(&rows[place], source) else {
         return None;
     };
-    let new = paths_at(p, source, tables.routes.as_slice());
     if is_none(new) {
         return None;
     }

@@ -2,7 +2,6 @@ use Rattle.std.proofs.Common.{◌≡◌, true, List, sym, ap, ◌∙◌, subst}
 use Rattle.std.specs.Prelude.{Contains}
 use Rattle.std.specs.List.{list_all}
 use Rattle.std.proofs.lemmas.Bool.{false≢true}
-use Rattle.fib_resolve.specs.Edits.{paths_at}
 use Rattle.fib_resolve.specs.declared.types.Neighbor.{Neighbor}
 use Rattle.fib_resolve.specs.declared.types.Path.{Path}
 use Rattle.fib_entries.specs.inner.Leaf.{is_plain, shared_path}
@@ -10,7 +9,7 @@ use Rattle.fib_entries.proofs.coming.arriving.Goals as goal
 
 pub returns-clause-arriving : goal.returns-clause-arriving
 returns-clause-arriving c =
-    let list = c.paths_at-new.ensures ∙ ap (paths_at c.args.p c.args.source) c.as_slice-2.ensures in
+    let list = c.requires.list in
     let new = c.suits.ensures c.if-not-suits.false in
     record {
       gap = c.in-Some.ensures.gap;

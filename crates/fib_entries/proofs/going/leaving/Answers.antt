@@ -3,7 +3,6 @@ use Rattle.std.specs.Prelude.{Contains}
 use Rattle.std.proofs.lemmas.Option.{slice_get_read}
 use Rattle.fib_changes.proofs.Edits.{in_front}
 use Rattle.fib_interned.proofs.Finding.{some_is, contains_at}
-use Rattle.fib_resolve.specs.Edits.{paths_at}
 use Rattle.fib_resolve.specs.declared.types.FibSource.{FibSource}
 use Rattle.fib_entries.specs.declared.rows.Row.{Row}
 use Rattle.fib_entries.specs.inner.Leaf.{IsLeafAt}
@@ -20,7 +19,7 @@ pub returns-clause-leaving : goal.returns-clause-leaving
 returns-clause-leaving c =
     let at = slice_get_read c.args.rows.now _ c.in-Some.place c.index-rows-place.result refl c.in-Some.ensures.inside c.index-rows-place.is in
     let m = subst (λ l. IsLeafAt c.args.rows.now l c.in-Some.place c.args.p c.args.source) c.as_slice.ensures c.in-Some.ensures.leaf in
-    let list = c.paths_at-new.ensures ∙ ap (paths_at c.args.p c.args.source) c.as_slice-2.ensures in
+    let list = c.requires.list in
     let old = c.suits.ensures c.if-not-suits.false in (
       c.content.result.now,
       record {

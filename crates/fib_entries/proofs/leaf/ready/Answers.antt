@@ -5,7 +5,6 @@ use Rattle.std.proofs.lemmas.Bool.{false≢true}
 use Rattle.std.proofs.lemmas.Option.{slice_get_read}
 use Rattle.fib_changes.proofs.Edits.{in_front}
 use Rattle.fib_interned.proofs.Finding.{some_is, contains_at}
-use Rattle.fib_resolve.specs.Edits.{paths_at}
 use Rattle.fib_resolve.specs.declared.types.FibSource.{FibSource}
 use Rattle.fib_resolve.specs.declared.types.Path.{Path}
 use Rattle.fib_entries.specs.declared.rows.Row.{Row}
@@ -23,7 +22,7 @@ pub returns : goal.returns
 returns c =
     let at = slice_get_read c.args.rows.now _ c.in-Some.place c.index-rows-place.result refl c.in-Some.ensures.inside c.index-rows-place.is in
     let m = subst (λ l. IsLeafAt c.args.rows.now l c.in-Some.place c.args.p c.args.source) c.as_slice.ensures c.in-Some.ensures.leaf in
-    let list = c.paths_at-new.ensures ∙ ap (paths_at c.args.p c.args.source) c.as_slice-2.ensures in
+    let list = c.requires.list in
     let new = c.suits.ensures c.if-not-suits.false in
     let old = c.suits-2.ensures c.if-not-suits-2.false in (
       c.content.result.now,

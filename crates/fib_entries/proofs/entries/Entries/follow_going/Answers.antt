@@ -1,5 +1,4 @@
 use Rattle.std.proofs.Common.{◌≡◌, ◌+◌, List, ◌∷◌, [], refl, sym, ap, ◌∙◌, subst, ℕ}
-use Rattle.fib_resolve.specs.Edits.{paths_at}
 use Rattle.fib_resolve.specs.declared.types.Path.{Path}
 use Rattle.fib_resolve.specs.declared.types.Tables.{Tables}
 use Rattle.fib_changes.specs.Differ.{Differ}
@@ -24,13 +23,13 @@ leave-requires-clause-kept c = leaving_kept c.self.inside.rows.items c.self.insi
 pub invariant_of-self-2 : goal.invariant_of-self-2
 invariant_of-self-2 c =
     left_fields c.self.inside.rows.items c.leave.new.rows.items c.self.inside.lists c.leave.new.lists c.self.inside.order c.remove.new.self c.args.tables.now c.args.prefix c.args.source c.in-Some.at.0 c.in-Some.at.1 c.in-Some.ensures.leaving.0
-    c.paths_at-new.result.now c.in_ok-followed.followed c.self.invariant
+    c.args.new.now c.in_ok-followed.followed c.self.invariant
     (subst (λ (l : List Row). IsLeaving l c.self.inside.lists c.args.tables.now c.args.prefix c.args.source c.in-Some.at.0 c.in-Some.at.1 c.in-Some.ensures.leaving.0) c.as_slice.ensures.value c.in-Some.ensures.leaving.1) c.in_ok-followed.ensures.done
     c.remove.ensures.ordered c.remove.ensures.members
 
 pub returns-clause-followed : goal.returns-clause-followed
 returns-clause-followed c =
-    let list : c.paths_at-new.result.now ≡ paths_at c.args.prefix c.args.source c.args.tables.now.routes = c.paths_at-new.ensures ∙ ap (paths_at c.args.prefix c.args.source) c.as_slice-3.ensures in
+    let list = c.requires.list in
     let size : c.size_at-size.result ≡ own_size c.args.prefix (entry_before c.self.inside.rows.items c.in-Some.at.0) (entry_at c.self.inside.rows.items (c.in-Some.at.0 + 1)) =
     c.size_at-size.ensures ∙ ap (λ (l : List Row). own_size c.args.prefix (entry_before l c.in-Some.at.0) (entry_at l (c.in-Some.at.0 + 1))) c.as_slice-2.ensures.value in
     let number = c.in-Some-lowered.ensures in

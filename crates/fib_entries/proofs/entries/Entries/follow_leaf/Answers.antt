@@ -1,6 +1,5 @@
 use Rattle.std.proofs.Common.{arith, ◌≡◌, ◌≤◌, ◌+◌, List, ◌∷◌, [], Some, refl, sym, ap, ◌∙◌, subst}
 use Rattle.std.specs.Prelude.{Contains}
-use Rattle.fib_resolve.specs.Edits.{paths_at}
 use Rattle.fib_resolve.specs.declared.types.Path.{Path}
 use Rattle.fib_resolve.specs.declared.types.Tables.{Tables}
 use Rattle.fib_changes.specs.Differ.{Differ}
@@ -17,12 +16,12 @@ ready-requires-clause-held c = λ r p d e. c.self.invariant.held r p (subst (λ 
 pub invariant_of-self-2 : goal.invariant_of-self-2
 invariant_of-self-2 c =
     fields_after c.self.inside.rows.items c.change.new.rows.items c.self.inside.lists c.change.new.lists c.self.inside.order c.args.tables.now c.args.prefix c.args.source c.in-Some.at.0 c.in-Some.at.1 c.in-Some.ensures.0
-    c.paths_at-new.result.now (c.top_rank-top.result + 1) c.in_ok-followed.followed c.self.invariant
+    c.args.new.now (c.top_rank-top.result + 1) c.in_ok-followed.followed c.self.invariant
     (subst (λ (l : List Row). IsReady l c.self.inside.lists c.args.tables.now c.args.prefix c.args.source c.in-Some.at.0 c.in-Some.at.1 c.in-Some.ensures.0) c.as_slice.ensures.value c.in-Some.ensures.1) c.in_ok-followed.ensures.done
 
 pub returns-clause-followed : goal.returns-clause-followed
 returns-clause-followed c =
-    let list : c.paths_at-new.result.now ≡ paths_at c.args.prefix c.args.source c.args.tables.now.routes = c.paths_at-new.ensures ∙ ap (paths_at c.args.prefix c.args.source) c.as_slice-2.ensures in
+    let list = c.requires.list in
     let le : c.self.inside.objects ≤ c.args.most = omega (arith, c.if-self-most.false) in
     subst (λ (v : Known). (S : Tables) → StandsFor v S → Differ (changes.Route c.args.prefix c.args.source ∷ []) S c.args.tables.now
     → IsFollowed v (known c.change.new.rows.items c.change.new.lists c.self.inside.objects) S c.args.tables.now c.args.most c.in_ok-followed.followed) c.self.view_is
@@ -30,5 +29,5 @@ returns-clause-followed c =
     c.in-Some.ensures.0 c.top_rank-top.result c.args.most c.in_ok-followed.followed
     (subst (λ (l : List Row). IsReady l c.self.inside.lists c.args.tables.now c.args.prefix c.args.source c.in-Some.at.0 c.in-Some.at.1 c.in-Some.ensures.0) c.as_slice.ensures.value c.in-Some.ensures.1) c.self.invariant.named.counted.apart
     (subst (λ (l : List Path). IsChanged c.self.inside.rows.items c.change.new.rows.items c.self.inside.lists c.change.new.lists c.in-Some.at.0 c.args.prefix c.in-Some.at.1 c.args.source l (c.top_rank-top.result + 1) c.in_ok-followed.followed) list c.in_ok-followed.ensures.done)
-    refl (λ t k. subst (λ (l : List Row). rank_of l t ≤ c.top_rank-top.result) c.as_slice-3.ensures.value (c.top_rank-top.ensures t (subst (λ (l : List Path). Contains (goals_of l) t) (sym list) k)))
+    refl (λ t k. subst (λ (l : List Row). rank_of l t ≤ c.top_rank-top.result) c.as_slice-2.ensures.value (c.top_rank-top.ensures t (subst (λ (l : List Path). Contains (goals_of l) t) (sym list) k)))
     c.requires.sound le c.requires.most (λ e. c.is_other.ensures.other c.if-not-is_other.false (e ∙ ap Some (sym list))))
