@@ -2,10 +2,10 @@
 ghost use Rattle.std.specs.Prelude.{IfOk};
 ghost use Rattle.fib_resolve.specs.Reachable.{IsWritten};
 
-use fib_addr::Addr;
+use fib_addr::{Addr, Prefix};
 use fib_config::{BatchError, Config, EditError, EditedAll};
-use fib_resolve::{Edit, List, Name, Refusal};
-use std::alloc::Global;
+use fib_resolve::{Edit, FibSource, List, Name, Need, PathSpec, Refusal, SpecKind};
+use std::alloc::{AllocError, Global};
 use std::test::Fail;
 
 /// The name, which must be one.
@@ -117,12 +117,41 @@ fn is_refused_whole(alloc: Global, config: &mut Config) -> Result<bool, Fail> {
     Ok(config.change_all(&twice).is_err() && config.tables().interfaces.len() == 0)
 }
 
+// 20.0.0.0/8, which drops.
+fn dropping_route(alloc: Global) -> Result<Edit, AllocError>
+    ensures { IfOk result IsWritten }
+{
+    let mut paths = List::new(alloc);
+    paths.push(PathSpec {
+        kind: SpecKind::Drop,
+        weight: 1,
+        preference: 0,
+        need: Need::Any,
+    })?;
+    Ok(Edit::AddRoute {
+        prefix: Prefix::masked(Addr(0x1400_0000), 8),
+        api: false,
+        paths,
+    })
+}
+
+// Whether the path of a route is found by its prefix and source, and none by another source.
+fn is_found(alloc: Global, config: &mut Config) -> Result<bool, Fail> {
+    let edit = dropping_route(alloc)?;
+    config.edit(&edit)?;
+    let prefix = Prefix::masked(Addr(0x1400_0000), 8);
+    let own = config.paths_of(prefix, FibSource::Cli).len();
+    let other = config.paths_of(prefix, FibSource::Api).len();
+    Ok(own == 1 && other == 0)
+}
+
 fn is_right(alloc: Global, config: &mut Config, scene: u32) -> Result<bool, Fail> {
     match scene {
         0 => links_are_right(alloc, config),
         1 => is_taken_back(alloc, config),
         2 => are_taken_back(alloc, config),
-        _ => is_refused_whole(alloc, config),
+        3 => is_refused_whole(alloc, config),
+        _ => is_found(alloc, config),
     }
 }
 
@@ -132,10 +161,10 @@ fn plays(alloc: Global, scene: u32) -> Result<bool, Fail> {
     is_right(alloc, &mut config, scene)
 }
 
-// Two links of thirty-two objects; an edit, a batch and a refused batch that are taken back.
+// Two links of thirty-two objects; an edit, a batch and a refused batch that are taken back; and a route's path.
 #[test]
 fn what_a_configuration_does(rt: HostRuntime) -> Result<(), Fail> {
-    for scene in 0..4 {
+    for scene in 0..5 {
         if !plays(rt.alloc(), scene)? {
             return Err("a scene went otherwise".into());
         }
