@@ -10,8 +10,7 @@ use Rattle.fib_resolve.specs.declared.pairs.Pair.{Pair}
 use Rattle.fib_resolve.specs.declared.types.FibSource.{FibSource}
 use Rattle.fib_resolve.specs.declared.types.Path.{Path}
 use Rattle.fib_changes.proofs.Edits.{in_cases, in_front, in_rest}
-use Rattle.fib_changes.proofs.SamePairs.{map_in}
-use Rattle.fib_interned.proofs.Finding.{some_is, contains_at, get_set_there}
+use Rattle.fib_interned.proofs.Finding.{contains_at, get_set_there}
 use Rattle.fib_entries.specs.Known.{PathKept, content_of, prefix_of, IsHeld}
 use Rattle.fib_entries.specs.inner.Coming.{IsPlaced, blank_row, with_pairs}
 use Rattle.fib_entries.specs.inner.Fields.{AreCounted, AreFields, AreNamed, count_in}
@@ -23,7 +22,7 @@ use Rattle.fib_entries.proofs.Linking.{zip_at, zip_from, attached_names, set_nam
 use Rattle.fib_entries.proofs.Listing.{pair_of}
 use Rattle.fib_entries.proofs.Looking.{one_place}
 use Rattle.fib_entries.proofs.Naming.{named_held, once_more}
-use Rattle.fib_entries.proofs.Placing.{inserted_from, inserted_old, inserted_at, inserted_map, inserted_ascending, length_map, gap_absent, same_order}
+use Rattle.fib_entries.proofs.Placing.{inserted_from, inserted_old, inserted_at, inserted_map, inserted_ascending, length_map, same_order}
 use Rattle.fib_entries.proofs.Replacing.{set_from}
 use Rattle.fib_entries.proofs.Using.{once, recounted, counted_taken, taken_stays, content_taken}
 

@@ -6,8 +6,7 @@ use Rattle.std.proofs.lemmas.Bool.{false≢true}
 use Rattle.std.proofs.lemmas.Bool.Decides.{Decides-eqb}
 use Rattle.fib_list.proofs.Lists.{either, Contains-nil, each-append, each-flat_map}
 use Rattle.fib_list.proofs.Booleans.{and_both}
-use Rattle.fib_addr.specs.Prefixes.{Prefix, IsPrefix, same_prefix, host, masked}
-use Rattle.fib_addr.specs.Longest.{everything}
+use Rattle.fib_addr.specs.Prefixes.{Prefix, IsPrefix, host}
 use Rattle.fib_addr.proofs.PrefixLaws.{same_prefix-Decides}
 use Rattle.fib_resolve.specs.Aims.{kind_aim, kind_counts, marked}
 use Rattle.fib_resolve.specs.Forwarding.{is_up, is_met}
@@ -30,7 +29,6 @@ use Rattle.fib_resolve.specs.declared.types.Neighbor.{Neighbor}
 use Rattle.fib_resolve.specs.declared.types.Path.{Path}
 use Rattle.fib_resolve.specs.declared.types.PathKind.{PathKind}
 use Rattle.fib_resolve.specs.declared.types.PathKind.TheVariants as kinds
-use Rattle.fib_resolve.specs.declared.types.Route.{Route}
 use Rattle.fib_resolve.specs.declared.types.Tables.{Tables}
 use Rattle.fib_resolve.proofs.OneList.{one_if, one_unless}
 use Rattle.fib_resolve.proofs.PairLaws.{each-all}
@@ -40,12 +38,11 @@ use Rattle.fib_changes.specs.declared.change.Change.{Change}
 use Rattle.fib_changes.specs.declared.change.Change.TheVariants as changes
 use Rattle.fib_changes.proofs.SamePairs.{map_from, Origin, origin, base, neighbor, derived}
 use Rattle.fib_interned.proofs.Finding.{contains_at, find_place, none_some, some_is}
-use Rattle.fib_entries.specs.Known.{Known, PathKept, prefix_of, content_of, StandsFor}
+use Rattle.fib_entries.specs.Known.{Known, prefix_of, StandsFor}
 use Rattle.fib_entries.specs.declared.ends.News.{News}
 use Rattle.fib_entries.specs.declared.ends.News.TheVariants as news
-use Rattle.fib_entries.specs.declared.rows.Row.{Row}
 use Rattle.fib_entries.specs.declared.changes.Followed.{Followed}
-use Rattle.fib_entries.specs.inner.Ends.{IsEndEdit, IsNews, HasNear, end_over, aim_over, aim_at, end_at, is_mac, has_flag, has_mac, renewed, is_old, is_old_row, with_aim, with_counts}
+use Rattle.fib_entries.specs.inner.Ends.{IsEndEdit, IsNews, HasNear, end_over, is_mac, has_flag, renewed, is_old, is_old_row}
 use Rattle.fib_entries.specs.inner.Leaf.{IsFollowed}
 use Rattle.fib_entries.proofs.Comparing.{differ_not}
 use Rattle.fib_entries.proofs.Ending.{cover_same, looped_same, met_same}

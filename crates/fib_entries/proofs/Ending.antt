@@ -1,22 +1,20 @@
 -- What stays the same where flags and MACs alone differ.
-use Rattle.std.proofs.Common.{arith, ◌≡◌, ◌≢◌, ℕ, zero, suc, ◌+◌, ◌-◌, ◌*◌, ◌/◌, ◌<◌, ◌≤◌, ◌^◌, Bool, true, false, not, ◌&&◌, ◌==◌, List, [], ◌∷◌, ◌++◌, map, length, inl, inr, refl, sym, ◌∙◌, ap, subst, ◌↔◌}
-use Rattle.std.specs.Prelude.{Contains, flat_map, nat_lt}
-use Rattle.std.specs.Set.{is_member, unique_keys}
+use Rattle.std.proofs.Common.{arith, ◌≡◌, ◌≢◌, ℕ, ◌+◌, ◌-◌, ◌*◌, ◌/◌, ◌<◌, ◌≤◌, ◌^◌, false, not, List, [], ◌∷◌, length, inl, inr, refl, sym, ◌∙◌, ap, subst, ◌↔◌}
+use Rattle.std.specs.Prelude.{Contains, flat_map}
 use Rattle.std.proofs.lemmas.Bool.{false≢true, cases_lt}
 use Rattle.std.proofs.Math.Pow.{shr_lt, shr_mono, shl-shr, pow-add}
 use Rattle.std.proofs.lemmas.Bool.Decides.{Decides-eqb}
 use Rattle.std.proofs.lemmas.Map.Made.{length-from_same_keys}
 use Rattle.std.specs.Cmp.Lexicographic.{pointwise}
-use Rattle.fib_list.proofs.Lists.{either, Contains-nil, Contains-flat_map}
+use Rattle.fib_list.proofs.Lists.{either, Contains-flat_map}
 use Rattle.fib_addr.specs.Prefixes.{Prefix, IsPrefix, same_prefix, contains, host, size_of}
 use Rattle.fib_addr.specs.Longest.{everything, longest, longer}
 use Rattle.fib_addr.proofs.PrefixLaws.{same_prefix-Decides, same_prefix_equiv}
 use Rattle.fib_resolve.specs.Keys.{same_path}
-use Rattle.fib_resolve.specs.Pairs.{base_pairs, pairs, entries, chosen, cover, attached_by, attached_of, best_pair, paths_of, recursive_hops, short_prefixes, route_pair}
-use Rattle.fib_resolve.specs.Loops.{targets, kind_targets, looped, looped_kind, is_kept, Kept}
+use Rattle.fib_resolve.specs.Pairs.{base_pairs, pairs, entries, chosen, cover, attached_by, attached_of, best_pair, paths_of, recursive_hops, short_prefixes}
+use Rattle.fib_resolve.specs.Loops.{targets, kind_targets, looped, looped_kind, Kept}
 use Rattle.fib_resolve.specs.Forwarding.{is_met}
 use Rattle.fib_resolve.specs.Sizes.{plies, plies_of, size, kind_adjacency, adjacencies_of, adjacencies, same_adjacency}
-use Rattle.fib_resolve.specs.Tables.{IsSound}
 use Rattle.fib_resolve.specs.Touched.{differ}
 use Rattle.fib_resolve.specs.declared.pairs.Adjacency.{Adjacency}
 use Rattle.fib_resolve.specs.declared.pairs.Pair.{Pair}
@@ -26,19 +24,19 @@ use Rattle.fib_resolve.specs.declared.types.PathKind.{PathKind}
 use Rattle.fib_resolve.specs.declared.types.PathKind.TheVariants as kinds
 use Rattle.fib_resolve.specs.declared.types.Route.{Route}
 use Rattle.fib_resolve.specs.declared.types.Tables.{Tables}
-use Rattle.fib_resolve.proofs.Covering.{distinct_keys, entries_apart, pairs_apart}
+use Rattle.fib_resolve.proofs.Covering.{entries_apart, pairs_apart}
 use Rattle.fib_resolve.proofs.OneList.{one_list}
 use Rattle.fib_resolve.proofs.Touching.{best_of, best_paths_same}
-use Rattle.fib_changes.specs.Sources.{all_hops, BaseCaught, ArePrefixes, SameEntry, SamePairs}
-use Rattle.fib_changes.specs.Causes.{IsCaught, IsThrough}
+use Rattle.fib_changes.specs.Sources.{all_hops, BaseCaught, ArePrefixes, SameEntry}
+use Rattle.fib_changes.specs.Causes.{IsThrough}
 use Rattle.fib_changes.specs.Ranks.{Falls}
-use Rattle.fib_changes.proofs.CauseLaws.{any_from, marks_through_all}
+use Rattle.fib_changes.proofs.CauseLaws.{marks_through_all}
 use Rattle.fib_changes.proofs.Covers.{covers_agree, short_from}
-use Rattle.fib_changes.proofs.Edits.{any_in, in_cases, in_front, in_rest}
+use Rattle.fib_changes.proofs.Edits.{in_front, in_rest}
 use Rattle.fib_changes.proofs.SamePairs.{flat_map_from, from_origin, base, same_pairs_from, same_chosen, same_met, same_targets}
 use Rattle.fib_entries.specs.Known.{holders, kind_met}
 use Rattle.fib_entries.specs.inner.Ends.{IsEndEdit}
-use Rattle.fib_entries.proofs.Comparing.{same_bits, map_same}
+use Rattle.fib_entries.proofs.Comparing.{same_bits}
 use Rattle.fib_entries.proofs.Counting.{counts_same}
 use Rattle.fib_entries.proofs.Leafing.{front_half, base_cases, from_front, from_route, entry_of_pair}
 use Rattle.fib_entries.proofs.LeafRows.{pair_at}

@@ -1,21 +1,20 @@
 -- A leaf that goes: what is known stands for the tables afterwards.
-use Rattle.std.proofs.Common.{arith, ◌≡◌, ◌≢◌, ℕ, ◌+◌, ◌-◌, ◌<◌, ◌≤◌, ◌^◌, Bool, true, false, not, ◌==◌, List, [], ◌∷◌, map, Option, Some, None, ◌⊎◌, inl, inr, refl, sym, ◌∙◌, ap, subst, slice_get, ◌↔◌, if◌then◌else◌}
+use Rattle.std.proofs.Common.{arith, ◌≡◌, ◌≢◌, ℕ, ◌+◌, ◌-◌, ◌<◌, ◌≤◌, ◌^◌, Bool, true, false, ◌==◌, List, [], ◌∷◌, map, Some, inl, inr, refl, sym, ◌∙◌, ap, subst, slice_get, ◌↔◌, if◌then◌else◌}
 use Rattle.std.specs.Prelude.{Contains, IsSome, min, filter_map}
 use Rattle.std.specs.List.{list_all, remove}
 use Rattle.std.proofs.lemmas.Bool.{false≢true, cases_lt}
 use Rattle.std.proofs.lemmas.Bool.Decides.{Decides-eqb}
 use Rattle.fib_list.proofs.Lists.{Contains-nil}
-use Rattle.fib_addr.specs.Prefixes.{Prefix, IsPrefix, contains, host}
+use Rattle.fib_addr.specs.Prefixes.{Prefix, IsPrefix, contains}
 use Rattle.fib_cover.specs.Covers.{ArePrefixes, IsAscending}
 use Rattle.fib_resolve.specs.Edits.{paths_at}
 use Rattle.fib_resolve.specs.Loops.{targets}
 use Rattle.fib_resolve.specs.Pairs.{pairs, entries, recursive_of, route_pair}
 use Rattle.fib_resolve.specs.Sizes.{size}
-use Rattle.fib_resolve.specs.Tables.{IsSound, is_route}
+use Rattle.fib_resolve.specs.Tables.{IsSound}
 use Rattle.fib_resolve.specs.declared.pairs.Pair.{Pair}
 use Rattle.fib_resolve.specs.declared.types.FibSource.{FibSource}
 use Rattle.fib_resolve.specs.declared.types.Path.{Path}
-use Rattle.fib_resolve.specs.declared.types.Route.{Route}
 use Rattle.fib_resolve.specs.declared.types.Tables.{Tables}
 use Rattle.fib_changes.specs.Differ.{Differ}
 use Rattle.fib_changes.specs.declared.change.Change.TheVariants as changes
@@ -27,7 +26,7 @@ use Rattle.fib_entries.specs.Known.{PathKept, Known, content_of, prefix_of, rank
 use Rattle.fib_entries.specs.Changes.{AreTouched, AreMoved}
 use Rattle.fib_entries.specs.inner.Fields.{AreCounted, AreFields}
 use Rattle.fib_entries.specs.inner.Going.{IsLeaving, IsWithdrawn, HasLeft}
-use Rattle.fib_entries.specs.inner.Leaf.{IsLeafEdit, IsFollowed, IsButFor, goals_of, is_plain, shared_path, moved_at}
+use Rattle.fib_entries.specs.inner.Leaf.{IsLeafEdit, IsFollowed, IsButFor, goals_of, is_plain, moved_at}
 use Rattle.fib_entries.specs.inner.Plies.{own_size, entry_at, entry_before, before_of, IsGap}
 use Rattle.fib_entries.specs.declared.changes.Followed.{Followed}
 use Rattle.fib_entries.specs.declared.rows.Row.{Row}
@@ -35,7 +34,7 @@ use Rattle.fib_entries.proofs.Growing.{IsGrown, size_more}
 use Rattle.fib_entries.proofs.LeafRows.{IsLeafMade, row_by, no_row, entry_same, entry_own, entry_was, stands_leaf, touched_leaf, moved_leaf, still_leaf}
 use Rattle.fib_entries.proofs.LeafSizes.{plain_targets}
 use Rattle.fib_entries.proofs.Leafing.{chosen_same, from_route}
-use Rattle.fib_entries.proofs.Listing.{listed_route, source_of_route, own_list, own_some, own_before, own_after, chosen_before, chosen_after, counted_own, counted_none, holders_are, OwnPairs}
+use Rattle.fib_entries.proofs.Listing.{source_of_route, own_list, own_some, own_before, own_after, chosen_before, chosen_after, counted_own, counted_none, holders_are, OwnPairs}
 use Rattle.fib_entries.proofs.Naming.{some_content}
 use Rattle.fib_entries.proofs.Placing.{gap_removed, size_gone}
 use Rattle.fib_entries.proofs.Ready.{alone_row}

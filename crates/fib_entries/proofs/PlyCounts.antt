@@ -1,10 +1,9 @@
 -- How many plies a prefix adds to those of others.
-use Rattle.std.proofs.Common.{arith, ◌≡◌, ◌≢◌, ℕ, zero, suc, ◌+◌, ◌-◌, ◌*◌, ◌/◌, ◌^◌, ◌<◌, ◌≤◌, Bool, true, false, not, ◌&&◌, ◌||◌, ◌==◌, cond, List, [], ◌∷◌, ◌++◌, map, length, Option, Some, None, ◌⊎◌, inl, inr, refl, sym, ◌∙◌, ap, subst, slice_get, ◌↔◌}
+use Rattle.std.proofs.Common.{arith, ◌≡◌, ℕ, zero, suc, ◌+◌, ◌*◌, ◌/◌, ◌<◌, ◌≤◌, Bool, true, false, not, ◌&&◌, ◌||◌, cond, List, ◌∷◌, length, Option, Some, None, ◌⊎◌, inl, inr, refl, sym, ◌∙◌, ap, subst, slice_get, ◌↔◌}
 use Rattle.std.specs.Prelude.{Contains, flat_map, nat_lt}
 use Rattle.std.specs.List.{range_with_len}
 use Rattle.std.specs.Set.{is_member, unique_keys}
-use Rattle.std.proofs.lemmas.Bool.{false≢true, lt-ltb, cases_eq, cases_lt}
-use Rattle.std.proofs.lemmas.Bool.Decides.{Decides-eqb}
+use Rattle.std.proofs.lemmas.Bool.{false≢true, lt-ltb, cases_eq}
 use Rattle.std.proofs.lemmas.Map.Views.{Contains-from_any}
 use Rattle.fib_list.proofs.Lists.{either, Contains-nil, Contains-flat_map}
 use Rattle.fib_list.proofs.Booleans.{or_cases}
@@ -15,10 +14,10 @@ use Rattle.fib_cover.specs.Covers.{IsAscending, ArePrefixes}
 use Rattle.fib_resolve.specs.Sizes.{plies_of}
 use Rattle.fib_changes.proofs.Edits.{any_in, in_cases, in_front, in_rest}
 use Rattle.fib_changes.proofs.SamePairs.{map_in, map_from, flat_map_from}
-use Rattle.fib_interned.proofs.Finding.{some_is, none_some, contains_at}
+use Rattle.fib_interned.proofs.Finding.{none_some, contains_at}
 use Rattle.fib_entries.specs.inner.Plies.{is_on_way, is_own, own_below, before_of, IsGap}
 use Rattle.fib_entries.proofs.LeafSizes.{lengths_same}
-use Rattle.fib_entries.proofs.PlyOrder.{on_way_from, on_way_to, shared_near}
+use Rattle.fib_entries.proofs.PlyOrder.{on_way_from, shared_near}
 
 -- the ply at a depth on the way to p
 abbrev pub ply : Prefix → ℕ → Prefix

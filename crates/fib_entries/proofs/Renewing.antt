@@ -1,60 +1,45 @@
 -- Rows stand for the tables after an interface's flag or a neighbor's MAC changed.
-use Rattle.std.proofs.Common.{arith, ◌≡◌, ◌≢◌, ℕ, zero, suc, ◌+◌, ◌-◌, ◌<◌, ◌≤◌, ◌^◌, Bool, true, false, not, ◌&&◌, ◌||◌, ◌==◌, List, [], ◌∷◌, map, filter, length, Option, Some, None, inl, inr, refl, sym, ◌∙◌, ap, ap₂, subst, slice_get, get_or, if◌then◌else◌}
-use Rattle.std.specs.Prelude.{Contains, min, find, slice_set}
+use Rattle.std.proofs.Common.{arith, ◌≡◌, ℕ, zero, suc, ◌+◌, ◌-◌, ◌<◌, ◌≤◌, ◌^◌, Bool, true, false, not, ◌&&◌, ◌||◌, ◌==◌, List, [], ◌∷◌, map, filter, length, Option, Some, None, inl, inr, refl, sym, ◌∙◌, ap, ap₂, subst, slice_get, get_or, if◌then◌else◌}
+use Rattle.std.specs.Prelude.{Contains, min, slice_set}
 use Rattle.std.specs.List.{list_any}
 use Rattle.std.proofs.lemmas.Bool.{false≢true, cases_lt}
 use Rattle.std.proofs.lemmas.Bool.Decides.{Decides-eqb}
 use Rattle.std.proofs.lemmas.Option.{slice_get_read}
 use Rattle.fib_list.proofs.Lists.{either, Contains-nil}
 use Rattle.fib_list.proofs.Booleans.{and_both}
-use Rattle.fib_addr.specs.Prefixes.{Prefix, IsPrefix, same_prefix, host}
-use Rattle.fib_addr.proofs.PrefixLaws.{same_prefix-Decides}
+use Rattle.fib_addr.specs.Prefixes.{Prefix, same_prefix}
 use Rattle.fib_cover.specs.Covers.{IsAscending}
-use Rattle.fib_resolve.specs.Aims.{kind_aim, kind_counts, marked, marked_list}
-use Rattle.fib_resolve.specs.Forwarding.{is_up, is_met}
-use Rattle.fib_resolve.specs.Loops.{targets, looped, looped_kind}
-use Rattle.fib_resolve.specs.Pairs.{pairs, entries, chosen, cover}
-use Rattle.fib_resolve.specs.Resolution.{mac_of, hop_end, attached_end}
+use Rattle.fib_resolve.specs.Aims.{marked, marked_list}
+use Rattle.fib_resolve.specs.Loops.{looped_kind}
+use Rattle.fib_resolve.specs.Pairs.{chosen}
 use Rattle.fib_resolve.specs.Sizes.{size}
-use Rattle.fib_resolve.specs.Tables.{IsSound}
-use Rattle.fib_resolve.specs.Touched.{is_touched, kind_changes, differ, other_flag, other_mac, same_mac}
+use Rattle.fib_resolve.specs.Touched.{is_touched, kind_changes}
 use Rattle.fib_resolve.specs.declared.aims.Aim.{Aim}
 use Rattle.fib_resolve.specs.declared.aims.Aim.TheVariants as aims
 use Rattle.fib_resolve.specs.declared.aims.Marked.{Marked}
-use Rattle.fib_resolve.specs.declared.types.Address.{Address}
-use Rattle.fib_resolve.specs.declared.types.End.{End}
 use Rattle.fib_resolve.specs.declared.types.End.TheVariants as answers
 use Rattle.fib_resolve.specs.declared.types.FibSource.{FibSource}
-use Rattle.fib_resolve.specs.declared.types.Need.{Need}
 use Rattle.fib_resolve.specs.declared.types.Path.{Path}
-use Rattle.fib_resolve.specs.declared.types.PathKind.{PathKind}
-use Rattle.fib_resolve.specs.declared.types.PathKind.TheVariants as kinds
 use Rattle.fib_resolve.specs.declared.types.Tables.{Tables}
 use Rattle.fib_resolve.proofs.Covering.{filter_in, filter_from}
 use Rattle.fib_resolve.proofs.TouchedEntries.{touched_effective}
-use Rattle.fib_changes.specs.Differ.{Differ}
-use Rattle.fib_changes.specs.Ranks.{Falls}
-use Rattle.fib_changes.specs.declared.change.Change.{Change}
-use Rattle.fib_changes.specs.declared.change.Change.TheVariants as changes
 use Rattle.fib_changes.proofs.CauseLaws.{both_halves}
 use Rattle.fib_changes.proofs.Edits.{in_front, in_rest}
 use Rattle.fib_changes.proofs.SamePairs.{map_from}
 use Rattle.fib_interned.proofs.Finding.{some_is, none_some}
-use Rattle.fib_entries.specs.Known.{PathKept, Known, prefix_of, row_of, rank_of, rank_in, ArePairs, IsRow, StandsFor, kind_met}
+use Rattle.fib_entries.specs.Known.{PathKept, Known, prefix_of, rank_of, ArePairs, IsRow, StandsFor, kind_met}
 use Rattle.fib_entries.specs.Changes.{AreTouched, AreMoved}
 use Rattle.fib_entries.specs.declared.rows.Row.{Row}
 use Rattle.fib_entries.specs.declared.changes.Followed.{Followed}
-use Rattle.fib_entries.specs.inner.Building.{AreHeld}
-use Rattle.fib_entries.specs.inner.Fields.{AreFields, AreNamed}
+use Rattle.fib_entries.specs.inner.Fields.{AreFields}
 use Rattle.fib_entries.specs.declared.ends.News.{News}
 use Rattle.fib_entries.specs.declared.ends.News.TheVariants as news
 use Rattle.fib_entries.specs.inner.Ends.{IsEndEdit, aim_over, aim_at, is_mac, has_flag, has_mac, with_counts, with_aim, renewed, is_old, is_old_row, renewed_row, mapped}
 use Rattle.fib_entries.specs.inner.Leaf.{IsFollowed}
 use Rattle.fib_entries.proofs.Anew.{filter_differ}
-use Rattle.fib_entries.proofs.Comparing.{differ_not, map_same}
-use Rattle.fib_entries.proofs.Ending.{cover_same, same_entry, chosen_same, targets_same, looped_same, looped_kind_same, met_same, kind_met_same, falls_same, entry_same, holders_same, size_same, pairs_same}
+use Rattle.fib_entries.proofs.Comparing.{map_same}
+use Rattle.fib_entries.proofs.Ending.{same_entry, chosen_same, targets_same, looped_kind_same, kind_met_same, falls_same, entry_same, holders_same, size_same, pairs_same}
 use Rattle.fib_entries.proofs.Following.{known}
-use Rattle.fib_entries.proofs.Leafing.{near_half, only_one}
 use Rattle.fib_entries.proofs.Touches.{ascending_differ}
 
 -- lists under a map, place by place

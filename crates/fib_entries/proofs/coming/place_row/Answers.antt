@@ -1,4 +1,4 @@
-use Rattle.std.proofs.Common.{◌≡◌, ◌∷◌, [], List, ℕ, sym, ap, ◌∙◌, subst}
+use Rattle.std.proofs.Common.{List, ℕ, sym, ap, ◌∙◌, subst}
 use Rattle.std.specs.Prelude.{map, slice_set}
 use Rattle.std.specs.List.{insert}
 use Rattle.fib_cover.specs.Covers.{IsAscending}

@@ -1,7 +1,5 @@
-use Rattle.std.proofs.Common.{arith, ◌≡◌, List, length, refl, sym, ◌∙◌, ap, slice_get, Some}
-use Rattle.std.specs.Prelude.{slice_set}
-use Rattle.fib_resolve.specs.declared.aims.Marked.{Marked}
-use Rattle.fib_entries.specs.inner.Ends.{renewed, mapped}
+use Rattle.std.proofs.Common.{arith, ◌∙◌}
+use Rattle.fib_entries.specs.inner.Ends.{renewed}
 use Rattle.fib_entries.proofs.Renewing.{mapped_start, mapped_step, mapped_all}
 use Rattle.fib_entries.proofs.ends.renew_marks.Goals as goal
 

@@ -1,4 +1,4 @@
-use Rattle.std.proofs.Common.{◌≡◌, ◌∙◌, sym}
+use Rattle.std.proofs.Common.{◌∙◌, sym}
 use Rattle.fib_entries.proofs.Renewing.{row_kept}
 use Rattle.fib_entries.proofs.ends.renew_row.Goals as goal
 

@@ -1,5 +1,5 @@
-use Rattle.std.proofs.Common.{arith, ◌≡◌, List, length, refl, sym, ◌∙◌, ap, slice_get, Some}
-use Rattle.fib_entries.specs.inner.Ends.{renewed_row, mapped}
+use Rattle.std.proofs.Common.{arith, ◌∙◌}
+use Rattle.fib_entries.specs.inner.Ends.{renewed_row}
 use Rattle.fib_entries.proofs.Renewing.{mapped_start, mapped_step, mapped_all}
 use Rattle.fib_entries.proofs.ends.renew_rows.Goals as goal
 

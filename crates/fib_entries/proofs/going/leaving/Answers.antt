@@ -1,4 +1,4 @@
-use Rattle.std.proofs.Common.{◌≡◌, true, List, [], ℕ, refl, sym, ap, ◌∙◌, subst}
+use Rattle.std.proofs.Common.{List, [], ℕ, refl, sym, ap, ◌∙◌, subst}
 use Rattle.std.specs.Prelude.{Contains}
 use Rattle.std.proofs.lemmas.Option.{slice_get_read}
 use Rattle.fib_changes.proofs.Edits.{in_front}

@@ -1,4 +1,4 @@
-use Rattle.std.proofs.Common.{◌≡◌, List, sym, ap, ◌∙◌, subst}
+use Rattle.std.proofs.Common.{List, sym, ◌∙◌, subst}
 use Rattle.fib_resolve.specs.declared.types.Path.{Path}
 use Rattle.fib_interned.proofs.Finding.{some_is}
 use Rattle.fib_entries.specs.inner.Leaf.{AreDetached, goals_of}

@@ -1,4 +1,4 @@
-use Rattle.std.proofs.Common.{arith, ◌≡◌, ◌≤◌, List, ◌∷◌, [], sym, subst}
+use Rattle.std.proofs.Common.{arith, ◌≤◌, List, ◌∷◌, [], sym, subst}
 use Rattle.fib_resolve.specs.declared.types.Tables.{Tables}
 use Rattle.fib_changes.specs.Differ.{Differ}
 use Rattle.fib_entries.specs.declared.rows.Row.{Row}
