@@ -22,6 +22,7 @@ pub mod Listing
 pub mod LeafRows
 pub mod LeafSizes
 pub mod Linking
+pub mod Holding
 pub mod Ready
 pub mod Replacing
 pub mod Naming

@@ -23,7 +23,8 @@ use Rattle.std.specs.Prelude.{IsSome}
 use Rattle.fib_interned.specs.Interned.{Takes, kept_of}
 use Rattle.fib_entries.specs.Known.{PathKept, prefix_of, row_of}
 use Rattle.fib_entries.specs.declared.rows.Row.{Row}
-use Rattle.fib_entries.specs.inner.Leaf.{IsButFor, AreAttached, AreDetached, pushed, popped, lacking, with_dependants, goal_of, goals_of, IsLinked, IsToLink, IsToUnlink}
+use Rattle.fib_entries.specs.inner.Dependants.{IsWithout}
+use Rattle.fib_entries.specs.inner.Leaf.{IsButFor, AreAttached, AreDetached, pushed, popped, with_dependants, goal_of, goals_of, IsLinked, IsToLink, IsToUnlink, IsUnlinked}
 use Rattle.fib_entries.proofs.Anew.{filter_differ}
 use Rattle.fib_entries.proofs.Looking.{one_place}
 use Rattle.fib_entries.proofs.Standing.{find_missed}
@@ -113,26 +114,8 @@ module _ (p : Prefix) where
     once = λ o. append_differ r.dependants (p ∷ []) o (tt, tt) (λ x y c d is. member_not r.dependants p new (subst (Contains r.dependants) (is ∙ sym (one_goal p y d)) c));
   }
 
-  but_lacking : (r : Row) → IsButFor p r (lacking p r)
-  but_lacking r = record {
-    prefix = refl;
-    pairs = refl;
-    looped = refl;
-    met = refl;
-    marked = refl;
-    rank = refl;
-    others = λ d off. (
-      λ c. (filter_from (λ z. not (same_prefix p z)) r.dependants d c).0,
-      λ c. filter_in (λ z. not (same_prefix p z)) r.dependants d c (other d off),
-    );
-    once = λ o. filter_differ (λ z. not (same_prefix p z)) r.dependants o;
-  }
-    where
-      other : (d : Prefix) → p ≢ d → not (same_prefix p d) ≡ true
-      other d off = elim (either (same_prefix p d)) [ inl is ↦ absurd (off ((same_prefix-Decides p d).0 is)) | inr isnt ↦ ap not isnt ]
-
-  gone : (r : Row) → Contains (lacking p r).dependants p → ⊥
-  gone r c = false≢true (sym (ap not ((same_prefix-Decides p p).1 refl)) ∙ (filter_from (λ z. not (same_prefix p z)) r.dependants p c).1)
+  but_without : (r : Row) (list : List Prefix) → IsWithout p r.dependants list → IsButFor p r (with_dependants r list)
+  but_without r list w = record { prefix = refl; pairs = refl; looped = refl; met = refl; marked = refl; rank = refl; others = w.others; once = λ o. w.once }
 
   -- nothing is attached
   pub attached_none : (rows : List Row) → AreAttached p [] rows rows
@@ -196,9 +179,10 @@ module _ (p : Prefix) where
   pub detached_kept : (kept : List Prefix) (rows : List Row) (t : Prefix) → Contains kept t → AreDetached p (t ∷ []) kept rows rows
   detached_kept kept rows t there = zip_same _ rows (λ r c. (but_self p r, (λ d. (d, λ it. subst (Contains kept) (one_goal t r.prefix it) there), λ d. d.0)))
 
-  pub detached_one : (kept : List Prefix) (rows : List Row) → IsAscending (map prefix_of rows) → (k : ℕ) (r : Row) → slice_get rows k ≡ Some r → (Contains kept r.prefix → ⊥) → AreDetached p (r.prefix ∷ []) kept rows (slice_set rows k (lacking p r))
-  detached_one kept rows asc k r at off_kept = zip_set _ rows k r (lacking p r) at
-      (but_lacking r, (λ d. absurd (gone r d), λ d. absurd (off_kept (d.1 (in_front r.prefix r.prefix [] refl)))))
+  pub detached_one : (kept : List Prefix) (rows : List Row) → IsAscending (map prefix_of rows) → (k : ℕ) (r : Row) (list : List Prefix) → slice_get rows k ≡ Some r → IsWithout p r.dependants list → (Contains kept r.prefix → ⊥)
+      → AreDetached p (r.prefix ∷ []) kept rows (slice_set rows k (with_dependants r list))
+  detached_one kept rows asc k r list at w off_kept = zip_set _ rows k r (with_dependants r list) at
+      (but_without r list w, (λ d. absurd (w.gone d), λ d. absurd (off_kept (d.1 (in_front r.prefix r.prefix [] refl)))))
       (λ j q there off. (but_self p q, (λ d. (d, λ it. absurd (other_row rows asc k j r q at there off (sym (one_goal r.prefix q.prefix it)))), λ d. d.0)))
 
   pub detached_then : (gs hs kept : List Prefix) (rows mid new : List Row) → AreDetached p gs kept rows mid → AreDetached p hs kept mid new → AreDetached p (gs ++ hs) kept rows new
@@ -256,6 +240,9 @@ module _ (p : Prefix) (kind : PathKind) (rows new : List Row) (asc : IsAscending
   pub link_inside : IsToLink k p kind rows → k < length rows
   link_inside (r, at, goal, none) = at_inside rows k r at
 
+  pub link_absent : IsToLink k p kind rows → (r : Row) → slice_get rows k ≡ Some r → is_member same_prefix r.dependants p ≡ false
+  link_absent (r, at, goal, none) q there = subst (λ (z : Row). is_member same_prefix z.dependants p ≡ false) (some_is r q (sym at ∙ there)) none
+
   pub linked : IsToLink k p kind rows → ((r : Row) → slice_get rows k ≡ Some r → new ≡ slice_set rows k (pushed p r)) → IsAscending (map prefix_of new) × AreAttached p (goal_of kind) rows new × IsLinked k p rows new
   linked (r, at, goal, none) made =
       let is = made r at in (
@@ -267,11 +254,12 @@ module _ (p : Prefix) (kind : PathKind) (rows new : List Row) (asc : IsAscending
   pub unlink_inside : (kept : List Prefix) → IsToUnlink k kept kind rows → k < length rows
   unlink_inside kept (r, at, goal, none) = at_inside rows k r at
 
-  pub unlinked : (kept : List Prefix) → IsToUnlink k kept kind rows → ((r : Row) → slice_get rows k ≡ Some r → new ≡ slice_set rows k (lacking p r)) → IsAscending (map prefix_of new) × AreDetached p (goal_of kind) kept rows new
+  pub unlinked : (kept : List Prefix) → IsToUnlink k kept kind rows → ((r : Row) → slice_get rows k ≡ Some r → IsUnlinked k p r rows new) → IsAscending (map prefix_of new) × AreDetached p (goal_of kind) kept rows new
   unlinked kept (r, at, goal, none) made =
-      let is = made r at in (
-        subst (λ l. IsAscending (map prefix_of l)) (sym is) (subst IsAscending (sym (set_names rows k r (lacking p r) at refl)) asc),
-        subst (AreDetached p (goal_of kind) kept rows) (sym is) (subst (λ g. AreDetached p g kept rows (slice_set rows k (lacking p r))) (sym goal) (detached_one p kept rows asc k r at none)),
+      let u = made r at in
+      let s = with_dependants r u.0 in (
+        subst (λ l. IsAscending (map prefix_of l)) (sym u.2) (subst IsAscending (sym (set_names rows k r s at refl)) asc),
+        subst (AreDetached p (goal_of kind) kept rows) (sym u.2) (subst (λ g. AreDetached p g kept rows (slice_set rows k s)) (sym goal) (detached_one p kept rows asc k r u.0 at u.1 none)),
       )
 
 pub linked_inside : (k : ℕ) (p : Prefix) (before rows : List Row) → IsLinked k p before rows → k < length rows

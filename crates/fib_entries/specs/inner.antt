@@ -1,5 +1,6 @@
 pub mod Building
 pub mod Compare
+pub mod Dependants
 pub mod Edges
 pub mod Fields
 pub mod Waking

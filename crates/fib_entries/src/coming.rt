@@ -13,6 +13,7 @@ ghost use Rattle.fib_entries.specs.inner.Plies.{IsGap};
 use crate::apply::{alone, moved, own};
 use crate::change::Target;
 use crate::changes::{Followed, Touched};
+use crate::dependants::Dependants;
 use crate::going::take_out;
 use crate::leaf::{are_far, is_none, is_short, is_written, suits};
 use crate::links::attach;
@@ -93,7 +94,7 @@ fn blank(alloc: Global, p: Prefix, own: Own) -> Row
         looped: own.looped,
         met: own.met,
         marked: own.marked,
-        dependants: List::new(alloc),
+        dependants: Dependants::new(alloc),
         rank: own.rank,
     }
 }
@@ -159,7 +160,7 @@ fn place_row(
     let source = own.source;
     let room = room(alloc)?;
     put_in(rows, at.0, blank(alloc, at.1, own))?;
-    match attach(alloc, rows, lists, at.1, new, new) {
+    match attach(rows, lists, at.1, new, new) {
         Ok(id) => {
             set_pairs(rows, at.0, filled(room, (source, id)));
             Ok(())

@@ -71,7 +71,6 @@ pub fn take_out(rows: &mut Vec<Row>, place: usize)
 
 /// The prefix leaves the dependants of its next hops, its row at that place goes, and its list is given. Takes no memory.
 fn withdraw(
-    alloc: Global,
     rows: &mut Vec<Row>,
     lists: &mut PathLists,
     at: (usize, PathListId),
@@ -83,7 +82,7 @@ fn withdraw(
     requires kept { IsSome (kept_of lists.old at.1) }
     ensures { (before : Items PathValue) → content_of lists.old at.1 ≡ Some before → IsWithdrawn rows.old.items rows.new.items lists.old lists.new at.0 p at.1 before new.now }
 {
-    detach(alloc, rows, p, lists.content(at.1), new);
+    detach(rows, p, lists.content(at.1), new);
     take_out(rows, at.0);
     lists.give(at.1);
 }
@@ -115,7 +114,7 @@ pub fn leave(
 {
     let touched = alone(alloc, p)?;
     let moved = moved(alloc, p, rank_at(rows.as_slice(), at.0), 0)?;
-    withdraw(alloc, rows, lists, at, p, new);
+    withdraw(rows, lists, at, p, new);
     Ok(Followed {
         touched: Touched::of(touched),
         moved,

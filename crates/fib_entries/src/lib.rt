@@ -10,6 +10,7 @@ mod change;
 mod changes;
 mod coming;
 mod compare;
+mod dependants;
 mod edges;
 mod ends;
 mod entries;

@@ -1,5 +1,5 @@
 // Dependants of the next hops of one prefix's list, as the list changes.
-ghost use Rattle.std.specs.Prelude.{false, ◌≡◌, ◌<◌, ◌-◌, ◌^◌, ◌∷◌, [], option_to_list, IfOk, OnOk, OnErr, IfSome, IfNone, Some, map, length, slice_get, slice_set, flat_map, not, filter, Contains, List as Items};
+ghost use Rattle.std.specs.Prelude.{false, ◌≡◌, ◌<◌, ◌-◌, ◌^◌, ◌∷◌, [], option_to_list, IfOk, OnOk, OnErr, IfSome, IfNone, Some, map, length, slice_get, slice_set, List as Items};
 ghost use Rattle.std.specs.Set.{is_member};
 ghost use Rattle.std.specs.List.{list_any};
 ghost use Rattle.fib_addr.specs.Prefixes.{same_prefix, Prefix as PrefixValue};
@@ -8,16 +8,14 @@ ghost use Rattle.fib_interned.specs.Interned.{AreInterned, Takes};
 ghost use Rattle.fib_paths.specs.PathLists.{IsUsedLess};
 ghost use Rattle.fib_entries.specs.Known.{prefix_of, row_of};
 ghost use Rattle.fib_entries.specs.declared.rows.Row.{Row as RowValue};
-ghost use Rattle.fib_entries.specs.inner.Leaf.{goal_of, goals_of, pushed, popped, lacking, with_dependants, AreAttached, AreDetached, IsLinked, IsToLink, IsToUnlink};
+ghost use Rattle.fib_entries.specs.inner.Leaf.{goal_of, goals_of, pushed, popped, AreAttached, AreDetached, IsLinked, IsToLink, IsToUnlink, IsUnlinked};
 
 use crate::look::{is_same, place_of};
 use crate::rows::Row;
 use fib_addr::Prefix;
-use fib_list::List;
 use fib_paths::{PathListId, PathLists};
 use fib_resolve::{Path, PathKind};
-use std::alloc::{AllocError, Global};
-use std::mem;
+use std::alloc::AllocError;
 
 /// The entry of the path's next hop.
 pub fn goal_of(path: &Path) -> Option<Prefix>
@@ -45,59 +43,30 @@ fn is_goal(path: &Path, p: Prefix) -> bool
     }
 }
 
-/// Whether the prefix is among them.
-fn has(list: &[Prefix], p: Prefix) -> bool
-    ensures { result ≡ is_member same_prefix list.now p }
-{
-    list.iter().any(|d| is_same(p, *d))
-}
-
-/// Takes the list out of its place, which then has the empty one.
-fn taken(alloc: Global, list: &mut List<Prefix>) -> Vec<Prefix>
-    ensures taken { result.items ≡ list.old }
-    ensures left { list.new ≡ [] }
-{
-    mem::replace(list, List::new(alloc)).into_vec()
-}
-
 /// The prefix becomes the last dependant of the row at that place.
 fn push_at(rows: &mut Vec<Row>, place: usize, p: Prefix) -> Result<(), AllocError>
-    requires { place < length rows.old.items }
+    requires inside { place < length rows.old.items }
+    requires absent { (r : RowValue) → slice_get rows.old.items place ≡ Some r → is_member same_prefix r.dependants p ≡ false }
     ensures ok { OnOk result ((r : RowValue) → slice_get rows.old.items place ≡ Some r → rows.new.items ≡ slice_set rows.old.items place (pushed p r)) }
     ensures err { OnErr result (rows.new.items ≡ rows.old.items) }
 {
-    rows[place].dependants.push(p)?;
-    Ok(())
+    rows[place].dependants.put(p)
 }
 
 /// The last dependant of the row at that place goes.
-fn pop_at(alloc: Global, rows: &mut Vec<Row>, place: usize)
+fn pop_at(rows: &mut Vec<Row>, place: usize)
     requires { place < length rows.old.items }
     ensures { (r : RowValue) → slice_get rows.old.items place ≡ Some r → rows.new.items ≡ slice_set rows.old.items place (popped r) }
 {
-    let row = &mut rows[place];
-    let mut items = taken(alloc, &mut row.dependants);
-    let left = items.len().saturating_sub(1);
-    items.truncate(left);
-    row.dependants = List::from_vec(items);
-}
-
-/// Those of the prefixes that are others.
-fn without(items: &mut Vec<Prefix>, p: Prefix)
-    ensures { items.new.items ≡ filter (λ d. not (same_prefix p d)) items.old.items }
-{
-    items.retain(|d| !is_same(p, *d));
+    rows[place].dependants.pop();
 }
 
 /// The prefix goes from the dependants of the row at that place.
-fn remove_at(alloc: Global, rows: &mut Vec<Row>, place: usize, p: Prefix)
+fn remove_at(rows: &mut Vec<Row>, place: usize, p: Prefix)
     requires { place < length rows.old.items }
-    ensures { (r : RowValue) → slice_get rows.old.items place ≡ Some r → rows.new.items ≡ slice_set rows.old.items place (lacking p r) }
+    ensures { (r : RowValue) → slice_get rows.old.items place ≡ Some r → IsUnlinked place p r rows.old.items rows.new.items }
 {
-    let row = &mut rows[place];
-    let mut items = taken(alloc, &mut row.dependants);
-    without(&mut items, p);
-    row.dependants = List::from_vec(items);
+    rows[place].dependants.remove(p);
 }
 
 /// The place of the row of the path's next hop, where that lacks the prefix among its dependants.
@@ -112,7 +81,7 @@ fn place_to(rows: &[Row], p: Prefix, path: &Path) -> Option<usize>
     let Some(place) = place_of(rows, goal) else {
         return None;
     };
-    if has(rows[place].dependants.as_slice(), p) {
+    if rows[place].dependants.has(p) {
         return None;
     }
     Some(place)
@@ -132,17 +101,16 @@ fn link(rows: &mut Vec<Row>, place: usize, p: Prefix, path: &Path) -> Result<(),
 }
 
 /// The prefix that was pushed at that place goes.
-fn unlink(alloc: Global, rows: &mut Vec<Row>, place: usize)
+fn unlink(rows: &mut Vec<Row>, place: usize)
     requires { (p : PrefixValue) × (before : Items RowValue) × IsLinked place p before rows.old.items }
     ensures { (p : PrefixValue) (before : Items RowValue) → IsLinked place p before rows.old.items → rows.new.items ≡ before }
 {
-    pop_at(alloc, rows, place);
+    pop_at(rows, place);
 }
 
 /// Makes the prefix a dependant of the rows of the paths' next hops, and gives the content a user more. After want of memory all is as
 /// before.
 pub fn attach(
-    alloc: Global,
     rows: &mut Vec<Row>,
     lists: &mut PathLists,
     p: Prefix,
@@ -161,15 +129,15 @@ pub fn attach(
         [path, left @ ..] => match place_to(rows.as_slice(), p, path) {
             Some(place) => {
                 link(rows, place, p, path)?;
-                match attach(alloc, rows, lists, p, left, content) {
+                match attach(rows, lists, p, left, content) {
                     Ok(id) => Ok(id),
                     Err(e) => {
-                        unlink(alloc, rows, place);
+                        unlink(rows, place);
                         Err(e)
                     }
                 }
             }
-            None => attach(alloc, rows, lists, p, left, content),
+            None => attach(rows, lists, p, left, content),
         },
         [] => lists.take(content),
     }
@@ -194,26 +162,26 @@ fn place_from(rows: &[Row], path: &Path, kept: &[Path]) -> Option<usize>
 }
 
 /// Takes the prefix from the dependants of the row of the path's next hop, unless that is one of the kept paths'.
-fn detach_one(alloc: Global, rows: &mut Vec<Row>, p: Prefix, path: &Path, kept: &[Path])
+fn detach_one(rows: &mut Vec<Row>, p: Prefix, path: &Path, kept: &[Path])
     requires { IsAscending (map prefix_of rows.old.items) }
     ensures ascending { IsAscending (map prefix_of rows.new.items) }
     ensures detached { AreDetached p (goal_of path.now.kind) (goals_of kept.now) rows.old.items rows.new.items }
 {
     match place_from(rows.as_slice(), path, kept) {
-        Some(place) => remove_at(alloc, rows, place, p),
+        Some(place) => remove_at(rows, place, p),
         None => {}
     }
 }
 
 /// Takes the prefix from the dependants of the rows of the paths' next hops, but for those of the kept paths. Takes no memory.
-pub fn detach(alloc: Global, rows: &mut Vec<Row>, p: Prefix, left: &[Path], kept: &[Path])
+pub fn detach(rows: &mut Vec<Row>, p: Prefix, left: &[Path], kept: &[Path])
     requires { IsAscending (map prefix_of rows.old.items) }
     ensures { AreDetached p (goals_of left.now) (goals_of kept.now) rows.old.items rows.new.items }
 {
     match left {
         [path, left @ ..] => {
-            detach_one(alloc, rows, p, path, kept);
-            detach(alloc, rows, p, left, kept);
+            detach_one(rows, p, path, kept);
+            detach(rows, p, left, kept);
         }
         [] => {}
     }

@@ -83,8 +83,8 @@ pub fn replace(
     ensures rows { OnErr result (rows.new.items ≡ rows.old.items) }
     ensures lists { OnErr result (lists.new ≡ lists.old) }
 {
-    let id = attach(alloc, rows, lists, swap.prefix, swap.new, swap.new)?;
-    detach(alloc, rows, swap.prefix, swap.old, swap.new);
+    let id = attach(rows, lists, swap.prefix, swap.new, swap.new)?;
+    detach(rows, swap.prefix, swap.old, swap.new);
     settle(alloc, rows, swap.place, id, own);
     lists.give(swap.id);
     Ok(())

@@ -1,4 +1,5 @@
 // What is kept of an entry.
+use crate::dependants::Dependants;
 use fib_addr::Prefix;
 use fib_list::List;
 use fib_paths::PathListId;
@@ -17,7 +18,7 @@ pub struct Row {
     /// For each path of the chosen list, what it is for and whether it counts.
     pub marked: List<Marked>,
     /// The entries with an edge to it, each once.
-    pub dependants: List<Prefix>,
+    pub dependants: Dependants,
     /// A number that falls along each edge that isn't looped.
     pub rank: u32,
 }

@@ -10,6 +10,7 @@ ghost use Rattle.fib_entries.specs.Known.{IsRow};
 ghost use Rattle.fib_entries.specs.inner.Building.{AreAnew, AreParts, AreRows, AreTaken};
 ghost use Rattle.fib_entries.specs.inner.Edges.{AreEdgesOf, AreSourcesIn};
 
+use crate::dependants::Dependants;
 use crate::edges::{edges_of, kept_of};
 use crate::groups::{backward, dependants_of};
 use crate::parts::{self, Parts};
@@ -39,13 +40,14 @@ fn row_at(
     let _count = parts.lists.count();
     // Read so that the proof knows that it is a prefix.
     let _len = prefix.len();
+    let set = Dependants::of(alloc, dependants.as_slice())?;
     Ok(Row {
         prefix,
         pairs: parts::held_of(alloc, parts, prefix)?,
         looped: parts::marks_of(alloc, parts.snapshot, prefix)?,
         met: parts::mets_of(alloc, parts.snapshot, prefix)?,
         marked: parts::marked_of(alloc, parts.snapshot, prefix)?,
-        dependants,
+        dependants: set,
         rank,
     })
 }

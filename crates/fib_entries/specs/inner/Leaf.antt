@@ -28,6 +28,7 @@ use Rattle.fib_changes.specs.Differ.{Differ}
 use Rattle.fib_entries.specs.Known.{Known, StandsFor, PathKept, prefix_of, row_of, rank_of, content_of}
 use Rattle.fib_interned.specs.Interned.{AreInterned, Takes, Gives}
 use Rattle.fib_resolve.specs.Edits.{paths_at}
+use Rattle.fib_entries.specs.inner.Dependants.{IsWithout}
 use Rattle.fib_entries.specs.declared.rows.Row.{Row}
 use Rattle.fib_entries.specs.declared.replace.Own.{Own}
 use Rattle.fib_entries.specs.declared.changes.Moved.{Moved}
@@ -124,9 +125,6 @@ pushed p r = with_dependants r (r.dependants ++ p ∷ [])
 abbrev pub popped : Row → Row
 popped r = with_dependants r (take (length r.dependants - 1) r.dependants)
 
-abbrev pub lacking : Prefix → Row → Row
-lacking p r = with_dependants r (filter (λ d. not (same_prefix p d)) r.dependants)
-
 -- row by row, the prefix came to the dependants of these
 abbrev pub AreAttached : Prefix → List Prefix → List Row → List Row → Type 0
 AreAttached p goals old new = AllZip (λ r s. IsButFor p r s × (Contains s.dependants p ↔ Contains r.dependants p ⊎ Contains goals r.prefix)) old new
@@ -138,6 +136,10 @@ AreDetached p goals kept old new = AllZip (λ r s. IsButFor p r s × (Contains s
 -- the prefix was pushed at that place
 abbrev pub IsLinked : ℕ → Prefix → List Row → List Row → Type 0
 IsLinked place p old new = (r : Row) × (slice_get old place ≡ Some r) × (new ≡ slice_set old place (pushed p r))
+
+-- the prefix went from the dependants of the row at that place
+abbrev pub IsUnlinked : ℕ → Prefix → Row → List Row → List Row → Type 0
+IsUnlinked place p r old new = (list : List Prefix) × IsWithout p r.dependants list × (new ≡ slice_set old place (with_dependants r list))
 
 -- the row at that place is that of the path's next hop, and lacks the prefix
 abbrev pub IsToLink : ℕ → Prefix → PathKind → List Row → Type 0

@@ -1,5 +1,5 @@
 use Rattle.std.proofs.lemmas.Result.{on_ok_weaker}
-use Rattle.fib_entries.proofs.Linking.{linked}
+use Rattle.fib_entries.proofs.Linking.{link_absent, linked}
 use Rattle.fib_entries.proofs.links.link.Goals as goal
 
 pub returns-clause-ascending : goal.returns-clause-ascending
@@ -7,3 +7,6 @@ returns-clause-ascending c = on_ok_weaker c.push_at.result (λ made. (linked c.a
 
 pub returns-clause-attached : goal.returns-clause-attached
 returns-clause-attached c = on_ok_weaker c.push_at.result (λ made. (linked c.args.p c.args.path.now.kind c.args.rows.now.items c.push_at.new.rows.items c.requires.ascending c.args.place c.requires.there made).1) c.push_at.ensures.ok
+
+pub push_at-requires-clause-absent : goal.push_at-requires-clause-absent
+push_at-requires-clause-absent c = link_absent c.args.p c.args.path.now.kind c.args.rows.now.items c.args.rows.now.items c.requires.ascending c.args.place c.requires.there
