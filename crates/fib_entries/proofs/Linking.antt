@@ -240,8 +240,8 @@ module _ (p : Prefix) (kind : PathKind) (rows new : List Row) (asc : IsAscending
   pub link_inside : IsToLink k p kind rows → k < length rows
   link_inside (r, at, goal, none) = at_inside rows k r at
 
-  pub link_absent : IsToLink k p kind rows → (r : Row) → slice_get rows k ≡ Some r → is_member same_prefix r.dependants p ≡ false
-  link_absent (r, at, goal, none) q there = subst (λ (z : Row). is_member same_prefix z.dependants p ≡ false) (some_is r q (sym at ∙ there)) none
+  pub link_absent : IsToLink k p kind rows → (r : Row) × (slice_get rows k ≡ Some r) × (is_member same_prefix r.dependants p ≡ false)
+  link_absent (r, at, goal, none) = (r, at, none)
 
   pub linked : IsToLink k p kind rows → ((r : Row) → slice_get rows k ≡ Some r → new ≡ slice_set rows k (pushed p r)) → IsAscending (map prefix_of new) × AreAttached p (goal_of kind) rows new × IsLinked k p rows new
   linked (r, at, goal, none) made =

@@ -45,8 +45,7 @@ fn is_goal(path: &Path, p: Prefix) -> bool
 
 /// The prefix becomes the last dependant of the row at that place.
 fn push_at(rows: &mut Vec<Row>, place: usize, p: Prefix) -> Result<(), AllocError>
-    requires inside { place < length rows.old.items }
-    requires absent { (r : RowValue) → slice_get rows.old.items place ≡ Some r → is_member same_prefix r.dependants p ≡ false }
+    requires { (r : RowValue) × (slice_get rows.old.items place ≡ Some r) × (is_member same_prefix r.dependants p ≡ false) }
     ensures ok { OnOk result ((r : RowValue) → slice_get rows.old.items place ≡ Some r → rows.new.items ≡ slice_set rows.old.items place (pushed p r)) }
     ensures err { OnErr result (rows.new.items ≡ rows.old.items) }
 {

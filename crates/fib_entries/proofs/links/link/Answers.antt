@@ -8,5 +8,5 @@ returns-clause-ascending c = on_ok_weaker c.push_at.result (λ made. (linked c.a
 pub returns-clause-attached : goal.returns-clause-attached
 returns-clause-attached c = on_ok_weaker c.push_at.result (λ made. (linked c.args.p c.args.path.now.kind c.args.rows.now.items c.push_at.new.rows.items c.requires.ascending c.args.place c.requires.there made).1) c.push_at.ensures.ok
 
-pub push_at-requires-clause-absent : goal.push_at-requires-clause-absent
-push_at-requires-clause-absent c = link_absent c.args.p c.args.path.now.kind c.args.rows.now.items c.args.rows.now.items c.requires.ascending c.args.place c.requires.there
+pub push_at-requires : goal.push_at-requires
+push_at-requires c = link_absent c.args.p c.args.path.now.kind c.args.rows.now.items c.args.rows.now.items c.requires.ascending c.args.place c.requires.there
