@@ -4,7 +4,7 @@ ghost use Rattle.fib_cover.specs.Covers.{IsAscending};
 ghost use Rattle.fib_interned.specs.Interned.{kept_of};
 ghost use Rattle.fib_paths.specs.PathLists.{IsUsedLess};
 ghost use Rattle.fib_entries.specs.Known.{prefix_of};
-ghost use Rattle.fib_entries.specs.declared.rows.Row.{Row as RowValue};
+ghost use Rattle.fib_entries.specs.Rows.{Row as RowValue};
 ghost use Rattle.fib_entries.specs.inner.Leaf.{IsChanged};
 
 use crate::apply::{alone, moved, own};
@@ -36,7 +36,8 @@ fn rank_at(rows: &[Row], place: usize) -> u32
     requires { (r : RowValue) × (slice_get rows.now place ≡ Some r) × (length r.pairs ≡ 1) }
     ensures { (r : RowValue) → slice_get rows.now place ≡ Some r → result ≡ r.rank }
 {
-    rows[place].rank
+    let row = &rows[place];
+    row.body.rank
 }
 
 /// Replaces the list of the row at that place, whose number is beside it, and tells the prefix, and the rank that it had where it gets

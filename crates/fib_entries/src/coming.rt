@@ -6,7 +6,7 @@ ghost use Rattle.fib_cover.specs.Covers.{IsAscending};
 ghost use Rattle.fib_paths.specs.PathLists.{IsUsedLess};
 ghost use Rattle.fib_resolve.specs.Edits.{paths_at};
 ghost use Rattle.fib_entries.specs.Known.{prefix_of};
-ghost use Rattle.fib_entries.specs.declared.rows.Row.{Row as RowValue};
+ghost use Rattle.fib_entries.specs.Rows.{Row as RowValue};
 ghost use Rattle.fib_entries.specs.inner.Coming.{IsArriving, IsPlaced, HasCome, blank_row, with_pairs};
 ghost use Rattle.fib_entries.specs.inner.Plies.{IsGap};
 
@@ -18,7 +18,7 @@ use crate::going::take_out;
 use crate::leaf::{are_far, is_none, is_short, is_written, suits};
 use crate::links::attach;
 use crate::replace::Own;
-use crate::rows::Row;
+use crate::rows::{Body, Row};
 use fib_addr::Prefix;
 use fib_list::List;
 use fib_paths::{PathListId, PathLists};
@@ -85,18 +85,18 @@ pub fn arriving(
 }
 
 /// The row that comes, without its list.
-fn blank(alloc: Global, p: Prefix, own: Own) -> Row
-    ensures { result ≡ blank_row p own }
+fn blank(alloc: Global, p: Prefix, own: Own) -> Result<Row, AllocError>
+    ensures { IfOk result (λ r. r ≡ blank_row p own) }
 {
-    Row {
-        prefix: p,
+    let body = Body {
         pairs: List::new(alloc),
         looped: own.looped,
         met: own.met,
         marked: own.marked,
         dependants: Dependants::new(alloc),
         rank: own.rank,
-    }
+    };
+    Row::new(alloc, p, body)
 }
 
 fn put_in(rows: &mut Vec<Row>, place: usize, row: Row) -> Result<(), AllocError>
@@ -136,7 +136,7 @@ fn set_pairs(rows: &mut Vec<Row>, place: usize, pairs: List<(FibSource, PathList
     requires { place < length rows.old.items }
     ensures { (r : RowValue) → slice_get rows.old.items place ≡ Some r → rows.new.items ≡ slice_set rows.old.items place (with_pairs pairs r) }
 {
-    rows[place].pairs = pairs;
+    rows[place].body.pairs = pairs;
 }
 
 /// Puts the prefix's row in at the place beside which it is given: its prefix becomes a dependant of the list's next hops, and the list is
@@ -159,7 +159,8 @@ fn place_row(
 {
     let source = own.source;
     let room = room(alloc)?;
-    put_in(rows, at.0, blank(alloc, at.1, own))?;
+    let row = blank(alloc, at.1, own)?;
+    put_in(rows, at.0, row)?;
     match attach(rows, lists, at.1, new, new) {
         Ok(id) => {
             set_pairs(rows, at.0, filled(room, (source, id)));

@@ -78,17 +78,27 @@ pub fn are_alike(lists: &PathLists, r: &Row, others: &PathLists, s: &Row) -> boo
     requires after { AreKept others.now s.now.pairs }
     ensures { IsTrue result ↔ AreAlike lists.now others.now r.now s.now }
 {
-    if !all_there(lists, r.pairs.as_slice(), others, s.pairs.as_slice()) {
+    if !all_there(
+        lists,
+        r.body.pairs.as_slice(),
+        others,
+        s.body.pairs.as_slice(),
+    ) {
         return false;
     }
-    if !all_there(others, s.pairs.as_slice(), lists, r.pairs.as_slice()) {
+    if !all_there(
+        others,
+        s.body.pairs.as_slice(),
+        lists,
+        r.body.pairs.as_slice(),
+    ) {
         return false;
     }
-    if !same_bools(r.looped.as_slice(), s.looped.as_slice()) {
+    if !same_bools(r.body.looped.as_slice(), s.body.looped.as_slice()) {
         return false;
     }
-    if !same_bools(r.met.as_slice(), s.met.as_slice()) {
+    if !same_bools(r.body.met.as_slice(), s.body.met.as_slice()) {
         return false;
     }
-    same_marks(r.marked.as_slice(), s.marked.as_slice())
+    same_marks(r.body.marked.as_slice(), s.body.marked.as_slice())
 }

@@ -7,7 +7,7 @@ ghost use Rattle.fib_resolve.specs.Forwarding.{is_up};
 ghost use Rattle.fib_resolve.specs.declared.types.FibSource.{FibSource as FibSourceValue};
 ghost use Rattle.fib_resolve.specs.Resolution.{is_neighbor, mac_of};
 ghost use Rattle.fib_entries.specs.Known.{prefix_of};
-ghost use Rattle.fib_entries.specs.declared.rows.Row.{Row as RowValue};
+ghost use Rattle.fib_entries.specs.Rows.{Row as RowValue};
 ghost use Rattle.fib_entries.specs.inner.Building.{AreHeld};
 ghost use Rattle.fib_entries.specs.inner.Compare.{AreKept};
 ghost use Rattle.fib_entries.specs.inner.Ends.{aim_over, aim_at, is_mac, has_flag, has_mac, renewed, is_old, is_old_row, renewed_row, IsLink, IsNear};
@@ -117,7 +117,7 @@ pub fn is_near(rows: &[Row], lists: &PathLists, interface: u32, addr: Addr) -> b
     ensures { IsTrue result → (r : RowValue) × Contains rows.now r × (r.prefix ≡ host addr) × ((q : FibSourceValue × ℕ) × Contains r.pairs q × IsNear lists.now interface q) }
 {
     match row(rows, Prefix::host(addr)) {
-        Some(found) => has_adjacency(lists, found.pairs.as_slice(), interface),
+        Some(found) => has_adjacency(lists, found.body.pairs.as_slice(), interface),
         None => false,
     }
 }
@@ -200,7 +200,11 @@ fn is_old(news: &News, mark: &Marked) -> bool
 fn is_old_row(news: &News, row: &Row) -> bool
     ensures { result ≡ is_old_row news.now row.now }
 {
-    row.marked.as_slice().iter().any(|mark| is_old(news, mark))
+    row.body
+        .marked
+        .as_slice()
+        .iter()
+        .any(|mark| is_old(news, mark))
 }
 
 /// The prefixes of the rows of which it does.
@@ -253,9 +257,9 @@ fn renew_row(alloc: Global, row: &mut Row, news: &News)
     if !is_old_row(news, row) {
         return;
     }
-    let mut marks = mem::replace(&mut row.marked, List::new(alloc)).into_vec();
+    let mut marks = mem::replace(&mut row.body.marked, List::new(alloc)).into_vec();
     renew_marks(&mut marks, news);
-    row.marked = List::from_vec(marks);
+    row.body.marked = List::from_vec(marks);
 }
 
 fn renew_rows(alloc: Global, rows: &mut Vec<Row>, news: &News)

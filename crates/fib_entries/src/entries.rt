@@ -238,7 +238,7 @@ impl Entries {
         ensures kept { (p : Source × ℕ) → Contains result.now p → IsSome (kept_of self.now.lists p.1) }
     {
         match row(self.rows.as_slice(), prefix) {
-            Some(r) => r.pairs.as_slice(),
+            Some(r) => r.body.pairs.as_slice(),
             None => &[],
         }
     }
@@ -248,7 +248,7 @@ impl Entries {
         ensures { (S : TablesValue) → StandsFor self.now S → option_copied result ≡ chosen_of S prefix }
     {
         match row(self.rows.as_slice(), prefix) {
-            Some(r) => match r.pairs.as_slice().first() {
+            Some(r) => match r.body.pairs.as_slice().first() {
                 Some((_, id)) => Some(self.lists.content(*id)),
                 None => None,
             },
@@ -261,7 +261,7 @@ impl Entries {
         ensures { (S : TablesValue) → StandsFor self.now S → result ≡ looped_at S prefix place }
     {
         match row(self.rows.as_slice(), prefix) {
-            Some(r) => match r.looped.as_slice().get(place) {
+            Some(r) => match r.body.looped.as_slice().get(place) {
                 Some(mark) => *mark,
                 None => false,
             },
@@ -274,7 +274,7 @@ impl Entries {
         ensures { (S : TablesValue) → StandsFor self.now S → result.now ≡ marked_list S prefix }
     {
         match row(self.rows.as_slice(), prefix) {
-            Some(r) => r.marked.as_slice(),
+            Some(r) => r.body.marked.as_slice(),
             None => &[],
         }
     }
@@ -286,7 +286,7 @@ impl Entries {
             Contains result.now d ↔ Contains (targets S d) prefix }
     {
         match row(self.rows.as_slice(), prefix) {
-            Some(r) => r.dependants.as_slice(),
+            Some(r) => r.body.dependants.as_slice(),
             None => &[],
         }
     }
@@ -308,7 +308,7 @@ impl Entries {
         ensures { result ≡ rank_of self.now.rows prefix }
     {
         match row(self.rows.as_slice(), prefix) {
-            Some(r) => r.rank,
+            Some(r) => r.body.rank,
             None => 0,
         }
     }

@@ -6,7 +6,7 @@ ghost use Rattle.fib_interned.specs.Interned.{kept_of};
 ghost use Rattle.fib_resolve.specs.Edits.{paths_at};
 ghost use Rattle.fib_resolve.specs.declared.types.Path.{Path as PathValue};
 ghost use Rattle.fib_entries.specs.Known.{content_of, prefix_of};
-ghost use Rattle.fib_entries.specs.declared.rows.Row.{Row as RowValue};
+ghost use Rattle.fib_entries.specs.Rows.{Row as RowValue};
 ghost use Rattle.fib_entries.specs.inner.Building.{AreHeld};
 ghost use Rattle.fib_entries.specs.inner.Going.{IsLeaving, IsWithdrawn, HasLeft};
 ghost use Rattle.fib_entries.specs.inner.Plies.{own_size, entry_at, entry_before};
@@ -92,7 +92,8 @@ fn rank_at(rows: &[Row], place: usize) -> u32
     requires { place < length rows.now }
     ensures { (r : RowValue) → slice_get rows.now place ≡ Some r → result ≡ r.rank }
 {
-    rows[place].rank
+    let row = &rows[place];
+    row.body.rank
 }
 
 /// Takes the row at that place out, whose list's number is beside it, where the list afterwards is that. Tells the prefix, and the rank

@@ -7,7 +7,7 @@ ghost use Rattle.fib_cover.specs.Covers.{IsAscending};
 ghost use Rattle.fib_interned.specs.Interned.{AreInterned, Takes};
 ghost use Rattle.fib_paths.specs.PathLists.{IsUsedLess};
 ghost use Rattle.fib_entries.specs.Known.{prefix_of, row_of};
-ghost use Rattle.fib_entries.specs.declared.rows.Row.{Row as RowValue};
+ghost use Rattle.fib_entries.specs.Rows.{Row as RowValue};
 ghost use Rattle.fib_entries.specs.inner.Leaf.{goal_of, goals_of, pushed, popped, AreAttached, AreDetached, IsLinked, IsToLink, IsToUnlink, IsUnlinked};
 
 use crate::look::{is_same, place_of};
@@ -49,7 +49,7 @@ fn push_at(rows: &mut Vec<Row>, place: usize, p: Prefix) -> Result<(), AllocErro
     ensures ok { OnOk result ((r : RowValue) → slice_get rows.old.items place ≡ Some r → rows.new.items ≡ slice_set rows.old.items place (pushed p r)) }
     ensures err { OnErr result (rows.new.items ≡ rows.old.items) }
 {
-    rows[place].dependants.put(p)
+    rows[place].body.dependants.put(p)
 }
 
 /// The last dependant of the row at that place goes.
@@ -57,7 +57,7 @@ fn pop_at(rows: &mut Vec<Row>, place: usize)
     requires { place < length rows.old.items }
     ensures { (r : RowValue) → slice_get rows.old.items place ≡ Some r → rows.new.items ≡ slice_set rows.old.items place (popped r) }
 {
-    rows[place].dependants.pop();
+    rows[place].body.dependants.pop();
 }
 
 /// The prefix goes from the dependants of the row at that place.
@@ -65,7 +65,14 @@ fn remove_at(rows: &mut Vec<Row>, place: usize, p: Prefix)
     requires { place < length rows.old.items }
     ensures { (r : RowValue) → slice_get rows.old.items place ≡ Some r → IsUnlinked place p r rows.old.items rows.new.items }
 {
-    rows[place].dependants.remove(p);
+    rows[place].body.dependants.remove(p);
+}
+
+/// Whether the prefix is among the row's dependants.
+fn has(row: &Row, p: Prefix) -> bool
+    ensures { result ≡ is_member same_prefix row.now.dependants p }
+{
+    row.body.dependants.has(p)
 }
 
 /// The place of the row of the path's next hop, where that lacks the prefix among its dependants.
@@ -80,7 +87,7 @@ fn place_to(rows: &[Row], p: Prefix, path: &Path) -> Option<usize>
     let Some(place) = place_of(rows, goal) else {
         return None;
     };
-    if rows[place].dependants.has(p) {
+    if has(&rows[place], p) {
         return None;
     }
     Some(place)

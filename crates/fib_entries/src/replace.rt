@@ -4,7 +4,7 @@ ghost use Rattle.fib_cover.specs.Covers.{IsAscending};
 ghost use Rattle.fib_interned.specs.Interned.{AreInterned, kept_of};
 ghost use Rattle.fib_paths.specs.PathLists.{IsUsedLess};
 ghost use Rattle.fib_entries.specs.Known.{prefix_of};
-ghost use Rattle.fib_entries.specs.declared.rows.Row.{Row as RowValue};
+ghost use Rattle.fib_entries.specs.Rows.{Row as RowValue};
 ghost use Rattle.fib_entries.specs.inner.Leaf.{AreReplaced, settled};
 
 use crate::links::{attach, detach};
@@ -51,11 +51,11 @@ fn settle_row(alloc: Global, row: &mut Row, id: PathListId, own: Own)
     requires { length row.old.pairs ≡ 1 }
     ensures { row.new ≡ settled id own row.old }
 {
-    set_pair(alloc, &mut row.pairs, (own.source, id));
-    row.looped = own.looped;
-    row.met = own.met;
-    row.marked = own.marked;
-    row.rank = own.rank;
+    set_pair(alloc, &mut row.body.pairs, (own.source, id));
+    row.body.looped = own.looped;
+    row.body.met = own.met;
+    row.body.marked = own.marked;
+    row.body.rank = own.rank;
 }
 
 /// The row at that place gets it.

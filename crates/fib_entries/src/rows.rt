@@ -4,11 +4,12 @@ use fib_addr::Prefix;
 use fib_list::List;
 use fib_paths::PathListId;
 use fib_resolve::{FibSource, Marked};
+use std::alloc::{AllocError, Global};
+use std::marker::Model;
 
-/// What is known of an entry.
+/// What is known of an entry beside its prefix.
 #[derive(Drop)]
-pub struct Row {
-    pub prefix: Prefix,
+pub struct Body {
     /// Its sources with the numbers of their lists, the best first.
     pub pairs: List<(FibSource, PathListId)>,
     /// For each path of the chosen list, whether it is looped.
@@ -21,4 +22,39 @@ pub struct Row {
     pub dependants: Dependants,
     /// A number that falls along each edge that isn't looped.
     pub rank: u32,
+}
+
+/// What is known of an entry. Only its prefix lies in the list of rows, so that little moves where a row comes or goes.
+#[derive(Drop)]
+pub struct Row {
+    pub prefix: Prefix,
+    pub body: Box<Body>,
+}
+
+impl Model for Row {
+    ghost use Rattle.fib_entries.specs.Rows.{Row};
+
+    ghost Value = { Row };
+
+    ghost view = { λ s. record {
+      prefix = s.prefix;
+      pairs = s.body.value.pairs;
+      looped = s.body.value.looped;
+      met = s.body.value.met;
+      marked = s.body.value.marked;
+      dependants = s.body.value.dependants;
+      rank = s.body.value.rank;
+    } };
+}
+
+impl Row {
+    ghost use Rattle.std.specs.Prelude.{◌≡◌, IfOk};
+
+    /// The row of a prefix.
+    pub fn new(alloc: Global, prefix: Prefix, body: Body) -> Result<Row, AllocError>
+        ensures { IfOk result (λ r. r ≡ record { prefix = prefix; pairs = body.pairs; looped = body.looped; met = body.met; marked = body.marked; dependants = body.dependants; rank = body.rank }) }
+    {
+        let body = Box::new(alloc, body)?;
+        Ok(Row { prefix, body })
+    }
 }

@@ -15,7 +15,7 @@ use crate::edges::{edges_of, kept_of};
 use crate::groups::{backward, dependants_of};
 use crate::parts::{self, Parts};
 use crate::ranks::ranks;
-use crate::rows::Row;
+use crate::rows::{Body, Row};
 use fib_addr::Prefix;
 use fib_list::List;
 use fib_paths::{PathListId, PathLists};
@@ -41,15 +41,15 @@ fn row_at(
     // Read so that the proof knows that it is a prefix.
     let _len = prefix.len();
     let set = Dependants::of(alloc, dependants.as_slice())?;
-    Ok(Row {
-        prefix,
+    let body = Body {
         pairs: parts::held_of(alloc, parts, prefix)?,
         looped: parts::marks_of(alloc, parts.snapshot, prefix)?,
         met: parts::mets_of(alloc, parts.snapshot, prefix)?,
         marked: parts::marked_of(alloc, parts.snapshot, prefix)?,
         dependants: set,
         rank,
-    })
+    };
+    Row::new(alloc, prefix, body)
 }
 
 /// The rows of the entries in this order, with these ranks. `back` has the edges turned round, each once.

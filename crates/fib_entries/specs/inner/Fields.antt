@@ -10,7 +10,7 @@ use Rattle.fib_resolve.specs.declared.types.Path.{Path}
 use Rattle.fib_resolve.specs.declared.types.FibSource.{FibSource}
 use Rattle.fib_interned.specs.Interned.{AreInterned}
 use Rattle.fib_entries.specs.inner.Building.{AreHeld}
-use Rattle.fib_entries.specs.declared.rows.Row.{Row}
+use Rattle.fib_entries.specs.Rows.{Row}
 
 -- the users of each kept list are as many as the count says, and each list that has some is kept
 pub record AreCounted (lists : List PathKept) (f : List Path → ℕ) : Type 0 where
