@@ -112,6 +112,31 @@ module _ (v : Known) (S T : Tables) (p : Prefix) (source : FibSource) (place : �
     ];
   }
 
+  -- the size grows by what the entry makes
+  grown : IsGrown S T p
+  grown = record {
+    others = λ e off. entry_same S T p source arriving_edit e off;
+    lacks = no_entry;
+    has = (entry_own S T p source arriving_edit).1 m.some;
+    lists = λ e off. chosen_same S T p source arriving_edit e off;
+    plain = ap (list_all is_plain) (chosen_after S T p source arriving_edit) ∙ m.plain;
+  }
+
+  pub size_law : size T ≡ size S + own_size p (entry_before v.rows place) (entry_at v.rows place)
+  size_law =
+      size_more S T p grown (map prefix_of v.rows) k.entries k.ordered (λ e c. (let q = map_from prefix_of v.rows e c in subst IsPrefix q.2 (k.rows q.0 q.1).prefix)) place m.gap m.prefix
+      ∙ ap (λ n. size S + n) (sym (size_came v.rows place p))
+
+  -- which can be too much
+  pub beyond_law : (n most : ℕ) → n ≡ v.objects + own_size p (entry_before v.rows place) (entry_at v.rows place) → most < n → n < 2 ^ 32 - 1 → (most < size T) × (n ≡ min (size T) (2 ^ 32 - 1))
+  beyond_law n most = by n v.objects (size S) (size T) _ most k.objects size_law
+    where
+      by : (n vo ss st a most : ℕ) → vo ≡ min ss (2 ^ 32 - 1) → st ≡ ss + a → n ≡ vo + a → most < n → n < 2 ^ 32 - 1 → (most < st) × (n ≡ min st (2 ^ 32 - 1))
+      by n vo ss st a most b c d e f = elim (cases_lt ss (2 ^ 32 - 1)) [
+        | inl under ↦ (omega (arith, b, c, d, e, f, under), omega (arith, b, c, d, e, f, under))
+        | inr above ↦ absurd (omega (arith, b, d, f, above))
+      ]
+
 module _ (v w : Known) (S T : Tables) (p : Prefix) (source : FibSource) (place top most : ℕ) (k : StandsFor v S) (m : IsArriving v.rows T p source place) (differ : Differ (changes.Route p source ∷ []) S T) (after : IsSound T)
     (apart : AreInterned v.lists) (r : IsPlaced v.rows w.rows v.lists w.lists place p (paths_at p source T.routes) (plain_own source (paths_at p source T.routes) (top + 1)))
     (count : w.objects ≡ v.objects + own_size p (entry_before v.rows place) (entry_at v.rows place)) (fits : w.objects ≤ most) (small : most < 2 ^ 32 - 1)
@@ -236,28 +261,12 @@ module _ (v w : Known) (S T : Tables) (p : Prefix) (source : FibSource) (place t
   rank_none : rank_of v.rows p ≡ 0
   rank_none = ap rank_in (no_row v.rows p (gap_absent (map prefix_of v.rows) place p m.gap))
 
-  -- the size grows by what the entry makes
-  grown : IsGrown S T p
-  grown = record {
-    others = λ e off. entry_same S T p source h e off;
-    lacks = no_entry v S T p source place k m differ after;
-    has = (entry_own S T p source h).1 m.some;
-    lists = λ e off. chosen_same S T p source h e off;
-    plain = ap (list_all is_plain) (chosen_after S T p source h) ∙ m.plain;
-  }
-
-  good : ArePrefixes (map prefix_of v.rows)
-  good e c = (let q = map_from prefix_of v.rows e c in subst IsPrefix q.2 (k.rows q.0 q.1).prefix)
-
-  size_law : size T ≡ size S + own_size p (before_of (map prefix_of v.rows) place) (slice_get (map prefix_of v.rows) place)
-  size_law = size_more S T p grown (map prefix_of v.rows) k.entries k.ordered good place m.gap m.prefix
-
   sizes : (w.objects ≡ min (size T) (2 ^ 32 - 1)) × (size T ≡ w.objects)
-  sizes = by w.objects v.objects (size S) (size T) _ _ count k.objects size_law (size_came v.rows place p) fits small
+  sizes = by w.objects v.objects (size S) (size T) _ count k.objects (size_law v S T p source place k m differ after) fits small
     where
-      by : (wo vo ss st a b : ℕ) → wo ≡ vo + a → vo ≡ min ss (2 ^ 32 - 1) → st ≡ ss + b → a ≡ b → wo ≤ most → most < 2 ^ 32 - 1 → (wo ≡ min st (2 ^ 32 - 1)) × (st ≡ wo)
-      by wo vo ss st a b c d e f g i = elim (cases_lt ss (2 ^ 32 - 1)) [
-        | inl under ↦ (omega (arith, c, d, e, f, g, i, under), omega (arith, c, d, e, f, g, i, under))
+      by : (wo vo ss st a : ℕ) → wo ≡ vo + a → vo ≡ min ss (2 ^ 32 - 1) → st ≡ ss + a → wo ≤ most → most < 2 ^ 32 - 1 → (wo ≡ min st (2 ^ 32 - 1)) × (st ≡ wo)
+      by wo vo ss st a c d e g i = elim (cases_lt ss (2 ^ 32 - 1)) [
+        | inl under ↦ (omega (arith, c, d, e, g, i, under), omega (arith, c, d, e, g, i, under))
         | inr above ↦ absurd (omega (arith, c, d, g, i, above))
       ]
 

@@ -36,8 +36,7 @@ fn rank_at(rows: &[Row], place: usize) -> u32
     requires { (r : RowValue) × (slice_get rows.now place ≡ Some r) × (length r.pairs ≡ 1) }
     ensures { (r : RowValue) → slice_get rows.now place ≡ Some r → result ≡ r.rank }
 {
-    let row = &rows[place];
-    row.body.rank
+    rows[place].rank()
 }
 
 /// Replaces the list of the row at that place, whose number is beside it, and tells the prefix, and the rank that it had where it gets

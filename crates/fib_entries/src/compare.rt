@@ -78,27 +78,17 @@ pub fn are_alike(lists: &PathLists, r: &Row, others: &PathLists, s: &Row) -> boo
     requires after { AreKept others.now s.now.pairs }
     ensures { IsTrue result ↔ AreAlike lists.now others.now r.now s.now }
 {
-    if !all_there(
-        lists,
-        r.body.pairs.as_slice(),
-        others,
-        s.body.pairs.as_slice(),
-    ) {
+    if !all_there(lists, r.pairs(), others, s.pairs()) {
         return false;
     }
-    if !all_there(
-        others,
-        s.body.pairs.as_slice(),
-        lists,
-        r.body.pairs.as_slice(),
-    ) {
+    if !all_there(others, s.pairs(), lists, r.pairs()) {
         return false;
     }
-    if !same_bools(r.body.looped.as_slice(), s.body.looped.as_slice()) {
+    if !same_bools(r.looped(), s.looped()) {
         return false;
     }
-    if !same_bools(r.body.met.as_slice(), s.body.met.as_slice()) {
+    if !same_bools(r.met(), s.met()) {
         return false;
     }
-    same_marks(r.body.marked.as_slice(), s.body.marked.as_slice())
+    same_marks(r.marked(), s.marked())
 }

@@ -117,7 +117,7 @@ pub fn is_near(rows: &[Row], lists: &PathLists, interface: u32, addr: Addr) -> b
     ensures { IsTrue result → (r : RowValue) × Contains rows.now r × (r.prefix ≡ host addr) × ((q : FibSourceValue × ℕ) × Contains r.pairs q × IsNear lists.now interface q) }
 {
     match row(rows, Prefix::host(addr)) {
-        Some(found) => has_adjacency(lists, found.body.pairs.as_slice(), interface),
+        Some(found) => has_adjacency(lists, found.pairs(), interface),
         None => false,
     }
 }
@@ -200,11 +200,7 @@ fn is_old(news: &News, mark: &Marked) -> bool
 fn is_old_row(news: &News, row: &Row) -> bool
     ensures { result ≡ is_old_row news.now row.now }
 {
-    row.body
-        .marked
-        .as_slice()
-        .iter()
-        .any(|mark| is_old(news, mark))
+    row.marked().iter().any(|mark| is_old(news, mark))
 }
 
 /// The prefixes of the rows of which it does.

@@ -1,11 +1,12 @@
 // Entries that stand for tables.
-ghost use Rattle.std.specs.Prelude.{◌∷◌, ◌-◌, ◌^◌, IfNone, OnErr, ◌≡◌, ◌<◌, ◌↔◌, IfOk, IfSome, IsSome, Some, ℕ, [], length, map, option_copied, slice_get, Contains};
+ghost use Rattle.std.specs.Prelude.{◌∷◌, ◌-◌, ◌^◌, IfNone, OnErr, ◌≡◌, ◌<◌, ◌↔◌, IfOk, IfSome, IsSome, Some, ℕ, [], length, map, option_copied, slice_get, min, Contains};
 ghost use Rattle.fib_reach.specs.Walks.{AllDiffer};
 ghost use Rattle.fib_addr.specs.Prefixes.{Prefix as PrefixValue, IsPrefix};
 ghost use Rattle.fib_resolve.specs.Aims.{marked_list};
 ghost use Rattle.fib_resolve.specs.Edits.{paths_at};
 ghost use Rattle.fib_resolve.specs.Pairs.{cover};
 ghost use Rattle.fib_resolve.specs.Loops.{targets, looped_at};
+ghost use Rattle.fib_resolve.specs.Sizes.{size};
 ghost use Rattle.fib_resolve.specs.Tables.{IsSound, fresh};
 ghost use Rattle.fib_resolve.specs.declared.types.Tables.{Tables as TablesValue};
 ghost use Rattle.fib_entries.specs.Known.{StandsFor, ArePairs, row_of, rank_of, chosen_of, prefix_of};
@@ -26,7 +27,7 @@ use crate::ends::News;
 use crate::going::{leave, leaving, size_at};
 use crate::leaf::{ready, top_rank};
 use crate::look::row;
-use crate::plies::{lowered, own_size, raised};
+use crate::plies::{beyond, lowered, own_size, raised};
 use crate::rows::Row;
 use crate::{ends, whole};
 use fib_addr::{Addr, Prefix};
@@ -238,7 +239,7 @@ impl Entries {
         ensures kept { (p : Source × ℕ) → Contains result.now p → IsSome (kept_of self.now.lists p.1) }
     {
         match row(self.rows.as_slice(), prefix) {
-            Some(r) => r.body.pairs.as_slice(),
+            Some(r) => r.pairs(),
             None => &[],
         }
     }
@@ -248,7 +249,7 @@ impl Entries {
         ensures { (S : TablesValue) → StandsFor self.now S → option_copied result ≡ chosen_of S prefix }
     {
         match row(self.rows.as_slice(), prefix) {
-            Some(r) => match r.body.pairs.as_slice().first() {
+            Some(r) => match r.pairs().first() {
                 Some((_, id)) => Some(self.lists.content(*id)),
                 None => None,
             },
@@ -261,7 +262,7 @@ impl Entries {
         ensures { (S : TablesValue) → StandsFor self.now S → result ≡ looped_at S prefix place }
     {
         match row(self.rows.as_slice(), prefix) {
-            Some(r) => match r.body.looped.as_slice().get(place) {
+            Some(r) => match r.looped().get(place) {
                 Some(mark) => *mark,
                 None => false,
             },
@@ -274,7 +275,7 @@ impl Entries {
         ensures { (S : TablesValue) → StandsFor self.now S → result.now ≡ marked_list S prefix }
     {
         match row(self.rows.as_slice(), prefix) {
-            Some(r) => r.body.marked.as_slice(),
+            Some(r) => r.marked(),
             None => &[],
         }
     }
@@ -286,7 +287,7 @@ impl Entries {
             Contains result.now d ↔ Contains (targets S d) prefix }
     {
         match row(self.rows.as_slice(), prefix) {
-            Some(r) => r.body.dependants.as_slice(),
+            Some(r) => r.dependants().as_slice(),
             None => &[],
         }
     }
@@ -308,7 +309,7 @@ impl Entries {
         ensures { result ≡ rank_of self.now.rows prefix }
     {
         match row(self.rows.as_slice(), prefix) {
-            Some(r) => r.body.rank,
+            Some(r) => r.rank(),
             None => 0,
         }
     }
@@ -449,5 +450,29 @@ impl Entries {
             Some(followed) => Ok(Some(followed)),
             None => self.follow_coming(tables, prefix, source, new, most),
         }
+    }
+    /// The size of the tables, where it is above the most that is allowed, and rows and neighbors tell that the prefix comes with that route
+    /// and that nothing else is touched; None where they don't. The list is the route's in the tables.
+    pub(crate) fn too_many_with(
+        &self,
+        tables: &Tables,
+        prefix: Prefix,
+        source: FibSource,
+        new: &[Path],
+        most: u32,
+    ) -> Option<u32>
+        requires sound { IsSound tables.now }
+        requires list { new.now ≡ paths_at prefix source tables.now.routes }
+        ensures { IfSome result (λ n. (S : TablesValue) → StandsFor self.now S →
+            Differ (changes.Route prefix source ∷ []) S tables.now → (most < size tables.now) × (n ≡ min (size tables.now) (2 ^ 32 - 1))) }
+    {
+        let Some(place) = arriving(self.rows.as_slice(), tables, prefix, source, new) else {
+            return None;
+        };
+        let size = own_size(self.rows.as_slice(), place, place, prefix);
+        let Some(objects) = beyond(self.objects, size, most) else {
+            return None;
+        };
+        Some(objects)
     }
 }

@@ -1,5 +1,5 @@
 // Entries that follow a change of the tables.
-ghost use Rattle.std.specs.Prelude.{◌≡◌, ◌≤◌, ◌++◌, ◌∷◌, [], IfSome, IfNone, IfOk, IfErr, OnOk, OnErr, ◌<◌, ◌-◌, ◌^◌, map, flat_map, filter, if◌then◌else◌};
+ghost use Rattle.std.specs.Prelude.{◌≡◌, ◌≤◌, ◌++◌, ◌∷◌, [], IfSome, IfNone, IfOk, IfErr, OnOk, OnErr, ◌<◌, ◌-◌, ◌^◌, map, flat_map, filter, min, if◌then◌else◌};
 ghost use Rattle.fib_resolve.specs.Sizes.{size};
 ghost use Rattle.fib_resolve.specs.Tables.{IsSound};
 ghost use Rattle.fib_resolve.specs.Touched.{is_touched};
@@ -210,7 +210,47 @@ impl Entries {
     {
         match self.follow_one(after, changes, most)? {
             Some(followed) => Ok(followed),
+            None => self.follow_fitting(after, changes, most),
+        }
+    }
+
+    /// The same where no row is written. The entries aren't made anew where the rows tell that the tables are too large.
+    fn follow_fitting(
+        &mut self,
+        after: &Config,
+        changes: &[Change],
+        most: u32,
+    ) -> Result<Followed, FollowError>
+        requires { most < 2 ^ 32 - 1 }
+        ensures stands { OnOk result ((S : TablesValue) → StandsFor self.old S →
+            Differ changes.now S after.now.tables → StandsFor self.new after.now.tables) }
+        ensures touched { IfOk result (λ f. (S : TablesValue) → StandsFor self.old S →
+            Differ changes.now S after.now.tables → AreTouched S after.now.tables f.touched) }
+        ensures moved { IfOk result (λ f. (S : TablesValue) → StandsFor self.old S →
+            Differ changes.now S after.now.tables → AreMoved self.old.rows self.new.rows f.moved) }
+        ensures fits { OnOk result ((S : TablesValue) → StandsFor self.old S →
+            Differ changes.now S after.now.tables → size after.now.tables ≤ most) }
+        ensures too_many { IfErr result (λ e. (S : TablesValue) → StandsFor self.old S →
+            Differ changes.now S after.now.tables → IsTooMany (size after.now.tables) most e) }
+        ensures err { OnErr result (self.new ≡ self.old) }
+    {
+        match self.too_many(after, changes, most) {
+            Some(size) => Err(FollowError::TooMany(size)),
             None => self.follow_anew(after, changes, most),
+        }
+    }
+
+    /// The size of the tables, where a change alone made it greater than the most that is allowed, and the rows tell so.
+    fn too_many(&self, after: &Config, changes: &[Change], most: u32) -> Option<u32>
+        ensures { IfSome result (λ n. (S : TablesValue) → StandsFor self.now S →
+            Differ changes.now S after.now.tables → (most < size after.now.tables) × (n ≡ min (size after.now.tables) (2 ^ 32 - 1))) }
+    {
+        match changes {
+            [Change::Route { prefix, source }] => {
+                let new = after.paths_of(*prefix, *source);
+                self.too_many_with(after.tables(), *prefix, *source, new, most)
+            }
+            _ => None,
         }
     }
 

@@ -92,8 +92,7 @@ fn rank_at(rows: &[Row], place: usize) -> u32
     requires { place < length rows.now }
     ensures { (r : RowValue) → slice_get rows.now place ≡ Some r → result ≡ r.rank }
 {
-    let row = &rows[place];
-    row.body.rank
+    rows[place].rank()
 }
 
 /// Takes the row at that place out, whose list's number is beside it, where the list afterwards is that. Tells the prefix, and the rank

@@ -64,7 +64,7 @@ pub fn are_far(p: Prefix, neighbors: &[Neighbor]) -> bool
 fn has_other(r: &Row, p: Prefix) -> bool
     ensures { result ≡ has_other p (Some r.now) }
 {
-    r.body.dependants.as_slice().iter().any(|d| !is_same(p, *d))
+    r.dependants().as_slice().iter().any(|d| !is_same(p, *d))
 }
 
 /// Whether another has an edge to the entry of the path's next hop, where it has one.
@@ -96,7 +96,7 @@ fn rank_to(rows: &[Row], path: &Path) -> u32
 {
     match path.kind {
         PathKind::Recursive(a) => match row(rows, Prefix::host(a)) {
-            Some(r) => r.body.rank,
+            Some(r) => r.rank(),
             None => 0,
         },
         _ => 0,
@@ -200,7 +200,7 @@ fn is_last_in(rows: &[Row], place: usize, p: Prefix) -> bool
 pub fn only_list(r: &Row, source: FibSource) -> Option<PathListId>
     ensures { IfSome result (λ id. r.now.pairs ≡ (source, id) ∷ []) }
 {
-    match r.body.pairs.as_slice() {
+    match r.pairs() {
         [pair] => match keys::is_same_source(pair.0, source) {
             true => Some(pair.1),
             false => None,
@@ -222,8 +222,7 @@ fn is_leaf(rows: &[Row], neighbors: &[Neighbor], place: usize, p: Prefix) -> boo
     requires { place < length rows.now }
     ensures { IsTrue result → (r : RowValue) → slice_get rows.now place ≡ Some r → IsLeaf rows.now neighbors.now place p r }
 {
-    let row = &rows[place];
-    if !row.body.dependants.is_empty() {
+    if !rows[place].dependants().is_empty() {
         return false;
     }
     if !is_last_in(rows, place, p) {

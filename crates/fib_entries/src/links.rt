@@ -72,7 +72,7 @@ fn remove_at(rows: &mut Vec<Row>, place: usize, p: Prefix)
 fn has(row: &Row, p: Prefix) -> bool
     ensures { result ≡ is_member same_prefix row.now.dependants p }
 {
-    row.body.dependants.has(p)
+    row.dependants().has(p)
 }
 
 /// The place of the row of the path's next hop, where that lacks the prefix among its dependants.

@@ -106,3 +106,17 @@ pub fn raised(objects: u32, more: u32, most: u32) -> Option<u32>
     }
     Some(objects + more)
 }
+
+/// The objects with those, where they are too many then, and are told exactly.
+pub fn beyond(objects: u32, more: u32, most: u32) -> Option<u32>
+    ensures { IfSome result (λ n. (n ≡ objects + more) × (most < n) × (n < 2 ^ 32 - 1)) }
+{
+    let with = objects.checked_add(more)?;
+    if with == u32::MAX {
+        return None;
+    }
+    if with <= most {
+        return None;
+    }
+    Some(with)
+}

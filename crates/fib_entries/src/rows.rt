@@ -57,4 +57,40 @@ impl Row {
         let body = Box::new(alloc, body)?;
         Ok(Row { prefix, body })
     }
+
+    pub fn pairs(&self) -> &[(FibSource, PathListId)]
+        ensures { result.now ≡ self.now.pairs }
+    {
+        self.body.pairs.as_slice()
+    }
+
+    pub fn looped(&self) -> &[bool]
+        ensures { result.now ≡ self.now.looped }
+    {
+        self.body.looped.as_slice()
+    }
+
+    pub fn met(&self) -> &[bool]
+        ensures { result.now ≡ self.now.met }
+    {
+        self.body.met.as_slice()
+    }
+
+    pub fn marked(&self) -> &[Marked]
+        ensures { result.now ≡ self.now.marked }
+    {
+        self.body.marked.as_slice()
+    }
+
+    pub fn dependants(&self) -> &Dependants
+        ensures { result.now ≡ self.now.dependants }
+    {
+        &self.body.dependants
+    }
+
+    pub fn rank(&self) -> u32
+        ensures { result ≡ self.now.rank }
+    {
+        self.body.rank
+    }
 }

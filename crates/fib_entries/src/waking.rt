@@ -40,7 +40,7 @@ impl Entries {
         ensures { (S : TablesValue) → StandsFor self.now S → result ≡ wakes S entry target }
     {
         match self.row_of(entry) {
-            Some(r) => aims_at(target, r.body.marked.as_slice(), r.body.looped.as_slice()),
+            Some(r) => aims_at(target, r.marked(), r.looped()),
             None => false,
         }
     }

@@ -49,7 +49,8 @@ fn row_at(
         dependants: set,
         rank,
     };
-    Row::new(alloc, prefix, body)
+    let row = Row::new(alloc, prefix, body)?;
+    Ok(row)
 }
 
 /// The rows of the entries in this order, with these ranks. `back` has the edges turned round, each once.

@@ -7,10 +7,10 @@ use Rattle.fib_entries.proofs.ends.is_near.Goals as goal
 pub has_adjacency-requires : goal.has_adjacency-requires
 has_adjacency-requires c = λ p k.
     let t = row_there c.args.rows.now c.host.result c.in-Some.found.now (sym c.in-Some.ensures) in
-    c.requires.held c.in-Some.found.now p t.0 (subst (λ (l : List (FibSource × ℕ)). Contains l p) c.as_slice.ensures k)
+    c.requires.held c.in-Some.found.now p t.0 (subst (λ (l : List (FibSource × ℕ)). Contains l p) c.pairs.ensures k)
 
 pub returns-in-Some : goal.returns-in-Some
 returns-in-Some c = λ is.
     let t = row_there c.args.rows.now c.host.result c.in-Some.found.now (sym c.in-Some.ensures) in
     let q = c.has_adjacency.ensures is in
-    (c.in-Some.found.now, t.0, sym t.1 ∙ c.host.ensures, (q.0, subst (λ (l : List (FibSource × ℕ)). Contains l q.0) c.as_slice.ensures q.1, q.2))
+    (c.in-Some.found.now, t.0, sym t.1 ∙ c.host.ensures, (q.0, subst (λ (l : List (FibSource × ℕ)). Contains l q.0) c.pairs.ensures q.1, q.2))

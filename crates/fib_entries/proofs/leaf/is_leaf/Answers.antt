@@ -8,7 +8,7 @@ pub returns : goal.returns
 returns c = λ far r at.
     let read = slice_get_read c.args.rows.now _ c.args.place c.index-rows-place.result refl c.requires c.index-rows-place.is in
     record {
-      none = ap (λ (z : Row). z.dependants) (some_is r c.index-rows-place.result (sym at ∙ read) ∙ c.index-rows-place.is) ∙ c.is_empty.ensures.0 c.if-not-is_empty.false;
+      none = ap (λ (z : Row). z.dependants) (some_is r c.index-rows-place.result (sym at ∙ read)) ∙ (sym c.dependants.ensures ∙ c.is_empty.ensures.0 c.if-not-is_empty.false);
       next = c.is_last_in.ensures c.if-not-is_last_in.false;
       far = c.are_far.ensures far;
     }

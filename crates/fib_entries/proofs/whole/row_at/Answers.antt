@@ -3,6 +3,7 @@ use Rattle.std.specs.Prelude.{Contains}
 use Rattle.fib_addr.specs.Prefixes.{Prefix}
 use Rattle.fib_reach.specs.Walks.{AllDiffer}
 use Rattle.fib_resolve.specs.Loops.{targets}
+use Rattle.fib_entries.specs.Known.{IsRow}
 use Rattle.fib_entries.proofs.Picking.{picked_all}
 use Rattle.fib_entries.proofs.whole.row_at.Goals as goal
 
@@ -10,7 +11,8 @@ pub returns-clause-row : goal.returns-clause-row
 returns-clause-row c =
     let parts = c.args.parts in
     let same = c.in_ok-set.ensures ∙ c.as_slice.ensures in
-    record {
+    subst (IsRow parts.lists.now parts.snapshot.now) (sym c.in_ok-row.ensures)
+    (record {
       prefix = c.len-len.ensures.prefix;
       pairs = picked_all parts.snapshot.now parts.lists.now c.args.prefix parts.ids.now c.in_ok-held_of.field-0 c.requires.parts.sound c.requires.parts.taken c.in_ok-held_of.ensures;
       looped = c.in_ok-marks_of.ensures;
@@ -18,4 +20,4 @@ returns-clause-row c =
       marked = c.in_ok-marked_of.ensures;
       dependants = λ d. subst (λ (l : List Prefix). Contains l d ↔ Contains (targets parts.snapshot.now d) c.args.prefix) (sym same) (c.requires.all d);
       dependants_once = subst AllDiffer (sym same) c.requires.once;
-    }
+    })

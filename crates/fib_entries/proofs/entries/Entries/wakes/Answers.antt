@@ -5,7 +5,7 @@ use Rattle.fib_entries.proofs.entries.Entries.wakes.Goals as goal
 
 pub returns-in-Some : goal.returns-in-Some
 returns-in-Some c = λ S h.
-    c.aims_at.ensures ∙ (ap (λ l. aims_at c.args.target l c.as_slice-in-Some.result.now) c.as_slice.ensures ∙ (ap (aims_at c.args.target c.in-Some.r.now.marked) c.as_slice-in-Some.ensures
+    c.aims_at.ensures ∙ (ap (λ l. aims_at c.args.target l c.looped.result.now) c.marked.ensures ∙ (ap (aims_at c.args.target c.in-Some.r.now.marked) c.looped.ensures
     ∙ row_wakes c.args.self.now S h c.args.entry c.args.target c.in-Some.r.now (sym c.in-Some.ensures.value)))
 
 pub returns-in-None : goal.returns-in-None
