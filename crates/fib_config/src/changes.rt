@@ -1,16 +1,18 @@
 // The parts of edited tables, made anew.
 
-ghost use Rattle.std.specs.Prelude.{◌≡◌, ℕ, ◌+◌, ◌≤◌, ◌<◌, ◌++◌, [], ◌∷◌, ◌-◌, true, vec_len, vec_capacity, OnOk, OnErr, IfOk, map, filter, not, position, length, unwrap_or, All, take, slice_set, slice_index_or};
+ghost use Rattle.std.specs.Prelude.{◌≡◌, List as ListValue, ℕ, ◌+◌, ◌≤◌, ◌<◌, ◌++◌, [], ◌∷◌, ◌-◌, true, vec_len, vec_capacity, OnOk, OnErr, IfOk, map, filter, not, position, length, unwrap_or, All, take, slice_set, slice_index_or};
 ghost use Rattle.std.specs.List.{list_any, insert, remove};
 ghost use Rattle.fib_config.specs.Undone.{place_of, put_back, undone, undone_all, IsBackOf, IsNeighborBackOf};
 ghost use Rattle.fib_config.specs.inner.Digest.{AreKeys, HasKeys, route_key, neighbor_key};
 ghost use Rattle.fib_resolve.specs.Keys.{key_of, key_lt, same_key};
 ghost use Rattle.fib_resolve.specs.Tables.{has_name, interface_named, same_address, same_neighbor, is_route};
-ghost use Rattle.fib_resolve.specs.Edits.{number_of, with_state, set_neighbor, set_path, set_paths, kind_of, path_of, source_of, paths_at, set_route, without_route, lacks_key, without_paths, route_left, routes_without};
+ghost use Rattle.fib_resolve.specs.Edits.{number_of, with_state, set_neighbor, set_path, set_paths, kind_of, path_of, source_of, paths_at, set_route, without_route, lacks_key, without_paths, route_left, routes_without, with_routes};
 ghost use Rattle.fib_resolve.specs.declared.types.Tables.{Tables as TablesValue};
+ghost use Rattle.fib_resolve.specs.declared.types.Route.{Route as RouteValue};
+ghost use Rattle.fib_config.specs.declared.undo.Back.TheVariants.{Spare};
 
 use crate::digest::{self, Digest};
-use crate::undo::Undo;
+use crate::undo::{Back, Undo};
 use fib_addr::{Addr, Prefix};
 use fib_resolve::{
     Address, Duplicate, FibSource, Interface, List, Name, Neighbor, Path, PathKind, PathSpec,
@@ -308,6 +310,17 @@ fn is_within_last(later: &Undo, undos: &[Undo]) -> bool
     match undos.last() {
         Some(last) => is_within(later, last),
         None => false,
+    }
+}
+
+/// How a deletion after these edits is to be taken back: by a copy of all routes, unless the last of them has one already. That one gives
+/// the routes back whatever they are by then, so what takes the deletion back won't be kept.
+pub fn back_after(undos: &[Undo]) -> Back
+    ensures { result ≡ Spare → (S : TablesValue) (routes : ListValue RouteValue) → undone_all undos.now (with_routes S routes) ≡ undone_all undos.now S }
+{
+    match undos.last() {
+        Some(Undo::Routes(_)) => Back::Spare,
+        _ => Back::Whole,
     }
 }
 

@@ -442,7 +442,8 @@ fn keep(
 {
     kept.changes.reserve(1)?;
     kept.undos.reserve(1)?;
-    let Edited { change, undo } = fitted(alloc, tables, digest, room, edit, Back::Whole)?;
+    let back = changes::back_after(kept.undos.as_slice());
+    let Edited { change, undo } = fitted(alloc, tables, digest, room, edit, back)?;
     kept.changes.push_reserved(change);
     changes::keep_undo(&mut kept.undos, undo);
     Ok(())
