@@ -1,7 +1,6 @@
 use Rattle.std.proofs.Common.{◌≡◌, ◌<◌, ◌∙◌, List, ℕ, ap, subst, sym}
 use Rattle.std.specs.List.{remove}
 use Rattle.fib_resolve.specs.Tables.{is_route}
-use Rattle.fib_resolve.specs.Edits.{without_route}
 use Rattle.fib_resolve.specs.declared.types.Route.{Route}
 use Rattle.fib_config.specs.Undone.{place_of, put_back}
 use Rattle.fib_config.specs.inner.Digest.{AreKeys, Follows, route_key}
