@@ -117,8 +117,13 @@ fn is_refused_whole(alloc: Global, config: &mut Config) -> Result<bool, Fail> {
     Ok(config.change_all(&twice).is_err() && config.tables().interfaces.len() == 0)
 }
 
-// 20.0.0.0/8, which drops.
-fn dropping_route(alloc: Global) -> Result<Edit, AllocError>
+// 20.0.0.0/8 and seven behind it.
+fn prefix_of(number: usize) -> Prefix {
+    Prefix::masked(Addr(0x1400_0000 + (number % 8) as u32 * 0x0100_0000), 8)
+}
+
+// The route of one of them, which drops.
+fn dropping_route(alloc: Global, number: usize) -> Result<Edit, AllocError>
     ensures { IfOk result IsWritten }
 {
     let mut paths = List::new(alloc);
@@ -129,7 +134,7 @@ fn dropping_route(alloc: Global) -> Result<Edit, AllocError>
         need: Need::Any,
     })?;
     Ok(Edit::AddRoute {
-        prefix: Prefix::masked(Addr(0x1400_0000), 8),
+        prefix: prefix_of(number),
         api: false,
         paths,
     })
@@ -137,9 +142,9 @@ fn dropping_route(alloc: Global) -> Result<Edit, AllocError>
 
 // Whether the path of a route is found by its prefix and source, and none by another source.
 fn is_found(alloc: Global, config: &mut Config) -> Result<bool, Fail> {
-    let edit = dropping_route(alloc)?;
+    let edit = dropping_route(alloc, 0)?;
     config.edit(&edit)?;
-    let prefix = Prefix::masked(Addr(0x1400_0000), 8);
+    let prefix = prefix_of(0);
     let own = config.paths_of(prefix, FibSource::Cli).len();
     let other = config.paths_of(prefix, FibSource::Api).len();
     Ok(own == 1 && other == 0)
@@ -167,6 +172,90 @@ fn what_a_configuration_does(rt: HostRuntime) -> Result<(), Fail> {
     for scene in 0..5 {
         if !plays(rt.alloc(), scene)? {
             return Err("a scene went otherwise".into());
+        }
+    }
+    Ok(())
+}
+
+// Five routes, in the order of their prefixes.
+fn five_routes(alloc: Global, config: &mut Config) -> Result<(), Fail> {
+    for number in 0..5 {
+        let edit = dropping_route(alloc, number)?;
+        config.edit(&edit)?;
+    }
+    Ok(())
+}
+
+fn has_five_routes(config: &Config) -> bool {
+    let routes = config.tables().routes.as_slice();
+    for (i, r) in routes.iter().enumerate() {
+        if r.prefix != prefix_of(i) {
+            return false;
+        }
+    }
+    routes.len() == 5
+}
+
+// One of them goes.
+fn deletion(alloc: Global, number: usize) -> Edit
+    ensures { IsWritten result }
+{
+    Edit::DelRoute {
+        prefix: prefix_of(number),
+        api: false,
+        paths: List::new(alloc),
+    }
+}
+
+// Whether a deletion is taken back, in place.
+fn is_put_back(alloc: Global, config: &mut Config, number: usize) -> Result<bool, Fail> {
+    let made = config.change(&deletion(alloc, number))?;
+    let left = config.tables().routes.len();
+    config.undo(made.undo);
+    Ok(left == 4 && has_five_routes(config))
+}
+
+// Whether it is in a copy of the tables, whose four routes fill their vector: they move into the one of the undo.
+fn is_put_back_in_copy(alloc: Global, config: &mut Config) -> Result<bool, Fail> {
+    let made = config.change(&deletion(alloc, 1))?;
+    let mut copy = config.copy()?;
+    copy.undo(made.undo);
+    let is_back = has_five_routes(&copy);
+    let edit = dropping_route(alloc, 5)?;
+    copy.edit(&edit)?;
+    Ok(is_back && copy.tables().routes.len() == 6)
+}
+
+// Whether a batch of deletions is, which keeps one list of routes.
+fn are_put_back(alloc: Global, config: &mut Config) -> Result<bool, Fail> {
+    let edits = [deletion(alloc, 4), deletion(alloc, 0), deletion(alloc, 2)];
+    let EditedAll { undos, .. } = config.change_all(&edits)?;
+    let before = (config.tables().routes.len(), undos.len());
+    config.undo_all(undos);
+    Ok(before == (2, 1) && has_five_routes(config))
+}
+
+fn is_route_back(alloc: Global, config: &mut Config, scene: usize) -> Result<bool, Fail> {
+    five_routes(alloc, config)?;
+    match scene {
+        0 => are_put_back(alloc, config),
+        1 => is_put_back_in_copy(alloc, config),
+        _ => is_put_back(alloc, config, scene - 2),
+    }
+}
+
+// The one owner of the configuration.
+fn puts_back(alloc: Global, scene: usize) -> Result<bool, Fail> {
+    let mut config = Config::new(alloc, 64)?;
+    is_route_back(alloc, &mut config, scene)
+}
+
+// Deletions that are taken back: of a batch, where the routes have no room of their own, and of each of five routes.
+#[test]
+fn what_takes_deletions_back(rt: HostRuntime) -> Result<(), Fail> {
+    for scene in 0..7 {
+        if !puts_back(rt.alloc(), scene)? {
+            return Err("a route isn't back".into());
         }
     }
     Ok(())

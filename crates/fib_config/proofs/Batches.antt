@@ -3,7 +3,8 @@ use Rattle.std.proofs.Common.{◌≡◌, ◌↔◌, ℕ, zero, suc, ◌+◌, ◌
 use Rattle.std.specs.Prelude.{Contains, Option, Some, None, slice_get}
 use Rattle.std.proofs.lemmas.List.Elements.{Contains-append_left, Contains-append_right}
 use Rattle.fib_resolve.specs.Tables.{IsSound}
-use Rattle.fib_resolve.specs.Edits.{edited}
+use Rattle.fib_resolve.specs.Edits.{edited, with_routes}
+use Rattle.fib_resolve.specs.declared.types.Route.{Route}
 use Rattle.fib_resolve.specs.declared.types.Edit.{Edit}
 use Rattle.fib_resolve.specs.declared.types.Tables.{Tables}
 use Rattle.fib_changes.specs.Differ.{Differ, change_of}
@@ -11,6 +12,7 @@ use Rattle.fib_changes.specs.declared.change.Change.{Change}
 use Rattle.fib_changes.specs.declared.change.Change.TheVariants as changes
 use Rattle.fib_changes.proofs.Differing.{edit_differs}
 use Rattle.fib_config.specs.declared.undo.Undo.{Undo}
+use Rattle.fib_config.specs.declared.undo.Undo.TheVariants as undos
 use Rattle.fib_config.specs.Undone.{undone, undone_all}
 
 -- the last edit is taken back first
@@ -44,6 +46,12 @@ pub undone_within_last : (us : List Undo) (k u : Undo) (S : Tables) → slice_ge
     → undone_all us (undone u S) ≡ undone_all us S
 undone_within_last [] k u S at within = absurd (let bad : the_none ≡ the_some k = at in cc)
 undone_within_last (x ∷ us) k u S at within = undone_within (x ∷ us) (length (x ∷ us) - 1) k u S (omega arith) at within
+
+-- where the last one has all routes it matters not what they are
+pub undone_routes_last : (us : List Undo) (old routes : List Route) (S : Tables) → slice_get us (length us - 1) ≡ Some (undos.Routes old)
+    → undone_all us (with_routes S routes) ≡ undone_all us S
+unfolding undone
+undone_routes_last us old routes S at = undone_within_last us (undos.Routes old) (undos.Routes routes) S at (λ T. refl)
 
 pub undone_none : (us : List Undo) (S : Tables) → us ≡ [] → undone_all us S ≡ S
 unfolding undone_all

@@ -6,6 +6,7 @@ use Rattle.std.specs.List.{remove, position_or_len, AllByRecursion, IsDistinct}
 use Rattle.std.proofs.lemmas.Bool.{ltb-false}
 use Rattle.std.proofs.lemmas.List.{map-append}
 use Rattle.indexmap.specs.IndexSet.{IndexSet}
+use Rattle.indexmap.proofs.SetLemmas.{map-remove}
 use Rattle.fib_list.proofs.Lists.{either}
 use Rattle.fib_addr.specs.Prefixes.{Prefix, same_prefix}
 use Rattle.std.proofs.lemmas.Bool.Decides.{Decides-eqb}
@@ -73,6 +74,15 @@ none_out : {X : Type 0} (is : X → Bool) (xs : List X) → AllByRecursion (λ y
 none_out is [] none = refl
 none_out {X} is (x ∷ xs) none = rw none.0 (ap (λ (ys : List X). x ∷ ys) (none_out is xs none.1))
 
+-- without the one at its place, where no other passes
+one_out : {X : Type 0} (is : X → Bool) (xs : List X) → IsOnly is xs → remove xs (place_of is xs) ≡ filter (λ x. not (is x)) xs
+one_out is [] only = refl
+one_out {X} is (x ∷ xs) only =
+    elim (either (is x)) [
+      | inl here ↦ rw here (sym (none_out is xs (only.0 here)))
+      | inr later ↦ rw later (ap (λ (ys : List X). x ∷ ys) (one_out is xs only.1))
+    ]
+
 module _ {X : Type 0} (same : X → X → Bool) (is : X → Bool) (alike : (x y : X) → is x ≡ true → same x y ≡ false → is y ≡ false) where
   others : (x : X) (ys : List X) → is x ≡ true → AllByRecursion (λ y. same x y ≡ false) ys → AllByRecursion (λ y. is y ≡ false) ys
   others x [] here apart = tt
@@ -100,14 +110,8 @@ module _ {X K : Type 0} (key : X → K) where
         | inr later ↦ rw later (ap (λ (ks : List K). key x ∷ ks) (keys_set is new alike xs))
       ]
 
-  -- without the one at its place, where no other passes
   keys_without : (is : X → Bool) (xs : List X) → IsOnly is xs → remove (map key xs) (place_of is xs) ≡ map key (filter (λ x. not (is x)) xs)
-  keys_without is [] only = refl
-  keys_without is (x ∷ xs) only =
-      elim (either (is x)) [
-        | inl here ↦ rw here (ap (map key) (sym (none_out is xs (only.0 here))))
-        | inr later ↦ rw later (ap (λ (ks : List K). key x ∷ ks) (keys_without is xs only.1))
-      ]
+  keys_without is xs only = sym (map-remove key xs (place_of is xs)) ∙ ap (map key) (one_out is xs only)
 
 module _ {X K S : Type 0} (key : X → K) where
   keep_keys : (xs ys : List X) (keys : Option (IndexSet K S)) → map key ys ≡ map key xs → AreKeys key xs keys → AreKeys key ys keys
@@ -135,6 +139,13 @@ route_other p s x y is apart =
       ← nat_eq_equiv.congr (source_rank x.source) (source_rank s) (source_rank y.source) both.1,
     ) apart
 
+only_route : (p : Prefix) (s : FibSource) (rs : List Route) → IsDistinct same_route rs → IsOnly (is_route p s) rs
+only_route p s rs apart = only_one same_route (is_route p s) (route_other p s) rs apart
+
+-- without the route at the place of that prefix and source
+pub route_out : (p : Prefix) (s : FibSource) (rs : List Route) → IsDistinct same_route rs → remove rs (place_of (is_route p s) rs) ≡ without_route p s rs
+route_out p s rs apart = one_out (is_route p s) rs (only_route p s rs apart)
+
 module _ {S : Type 0} where
   pub route_keys_set : (new : Route) (rs : List Route) (keys : Option (IndexSet (Prefix × ℕ) S)) → AreKeys route_key rs keys
       → AreKeys route_key (slice_set rs (place_of (is_route new.prefix new.source) rs) new) keys
@@ -144,7 +155,7 @@ module _ {S : Type 0} where
       → Follows (λ ks. remove ks (place_of (is_route p s) rs)) old new → AreKeys route_key (without_route p s rs) new
   route_keys_without p s rs old new apart are by =
       fewer_keys route_key rs (without_route p s rs) (place_of (is_route p s) rs) old new
-      (keys_without route_key (is_route p s) rs (only_one same_route (is_route p s) (route_other p s) rs apart)) are by
+      (keys_without route_key (is_route p s) rs (only_route p s rs apart)) are by
 
 -- neighbors
 neighbor_like : (i a : ℕ) (n : Neighbor) → is_neighbor i a n ≡ true → neighbor_key n ≡ (i, a)

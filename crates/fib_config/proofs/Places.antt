@@ -1,8 +1,8 @@
 -- A route put in its place, and taken back.
 use Rattle.std.proofs.Common.{arith, ◌≡◌, Bool, ℕ, zero, suc, ◌-◌, ◌≤◌, ◌<◌, List, [], ◌∷◌, ◌++◌, length, take, inl, inr, refl, sym, ap, ◌∙◌, true, false}
 use Rattle.std.specs.Prelude.{slice_set, slice_index_or, nat_lt}
-use Rattle.std.specs.List.{list_any}
-use Rattle.std.proofs.lemmas.Bool.{lt-ltb, le-ltb}
+use Rattle.std.specs.List.{list_any, insert, remove}
+use Rattle.std.proofs.lemmas.Bool.{lt-ltb, le-ltb, le-leb}
 use Rattle.fib_addr.specs.Prefixes.{Prefix}
 use Rattle.fib_resolve.specs.declared.types.FibSource.{FibSource}
 use Rattle.fib_list.proofs.Lists.{either}
@@ -13,10 +13,11 @@ use Rattle.fib_resolve.specs.declared.types.Route.{Route}
 use Rattle.fib_resolve.specs.declared.types.Tables.{Tables}
 use Rattle.fib_resolve.specs.Edits.{with_neighbors, with_routes}
 use Rattle.std.proofs.lemmas.List.{length-append}
+use Rattle.std.proofs.lemmas.List.Edits.{length-remove}
 use Rattle.std.proofs.Math.Seq.{take-append_seam}
 use Rattle.fib_config.specs.declared.undo.Undo.{Undo}
 use Rattle.fib_config.specs.declared.undo.Undo.TheVariants as undos
-use Rattle.fib_config.specs.Undone.{place_of, undone, IsBackOf, IsNeighborBackOf}
+use Rattle.fib_config.specs.Undone.{place_of, put_back, undone, IsBackOf, IsNeighborBackOf}
 use Rattle.fib_config.specs.inner.Digest.{is_neighbor}
 
 pub route_set : (new : Route) (rs : List Route) → place_of (is_route new.prefix new.source) rs < length rs → slice_set rs (place_of (is_route new.prefix new.source) rs) new ≡ set_route new rs
@@ -106,6 +107,18 @@ end_back xs x =
     let e : length (xs ++ x ∷ []) - 1 ≡ length xs = omega (arith, length-append xs (x ∷ [])) in
     rw e (take-append_seam xs (x ∷ []))
 
+-- what went from the place stands there again
+there_again : {X : Type 0} (xs : List X) (i : ℕ) (old : X) → i < length xs → old ≡ slice_index_or xs i old → insert (remove xs i) i old ≡ xs
+there_again [] i old l e = absurd (omega (arith, l))
+there_again (x ∷ xs) zero old l e = ap (λ z. z ∷ xs) e
+there_again {X} (x ∷ xs) (suc i) old l e = ap (λ (zs : List X). x ∷ zs) (there_again xs i old (omega (arith, l)) e)
+
+-- and there is room for it where there is room for all that there were
+pub gone_back : (rs : List Route) (i room : ℕ) (old : Route) → i < length rs → old ≡ slice_index_or rs i old → room ≡ length rs → put_back i old room (remove rs i) ≡ rs
+gone_back rs i room old l e is =
+    let less = length-remove rs i l in
+    rw (le-leb i (length (remove rs i)) (omega (arith, l, less)), lt-ltb (length (remove rs i)) room (omega (arith, less, is))) (there_again rs i old l e)
+
 -- routes taken back in the tables
 pub back_undone : (u : Undo) (S : Tables) (new : List Route) → IsBackOf u new S.routes → undone u (with_routes S new) ≡ S
 unfolding undone
@@ -117,6 +130,7 @@ back_undone (undos.NeighborSet place old) S new h = absurd h
 back_undone (undos.Routes old) S new h = ap (with_routes S) h
 back_undone undos.RouteAdded S new h = ap (with_routes S) h
 back_undone (undos.RouteSet place old) S new h = ap (with_routes S) h
+back_undone (undos.RouteGone place old spare) S new h = ap (with_routes S) h
 
 -- neighbors taken back in the tables
 pub neighbor_back_undone : (u : Undo) (S : Tables) (new : List Neighbor) → IsNeighborBackOf u new S.neighbors → undone u (with_neighbors S new) ≡ S
@@ -129,3 +143,4 @@ neighbor_back_undone (undos.NeighborSet place old) S new h = ap (with_neighbors 
 neighbor_back_undone (undos.Routes old) S new h = absurd h
 neighbor_back_undone undos.RouteAdded S new h = absurd h
 neighbor_back_undone (undos.RouteSet place old) S new h = absurd h
+neighbor_back_undone (undos.RouteGone place old spare) S new h = absurd h

@@ -1,16 +1,18 @@
 // The parts of edited tables, made anew.
 
-ghost use Rattle.std.specs.Prelude.{◌≡◌, ℕ, ◌+◌, ◌≤◌, ◌<◌, ◌++◌, [], ◌∷◌, ◌-◌, true, vec_capacity, OnOk, OnErr, IfOk, map, filter, not, position, length, unwrap_or, All, take, slice_set, slice_index_or};
-ghost use Rattle.std.specs.List.{list_any};
-ghost use Rattle.fib_config.specs.Undone.{place_of, undone, undone_all, IsBackOf, IsNeighborBackOf};
+ghost use Rattle.std.specs.Prelude.{◌≡◌, List as ListValue, ℕ, ◌+◌, ◌≤◌, ◌<◌, ◌++◌, [], ◌∷◌, ◌-◌, true, vec_len, vec_capacity, OnOk, OnErr, IfOk, map, filter, not, position, length, unwrap_or, All, take, slice_set, slice_index_or};
+ghost use Rattle.std.specs.List.{list_any, insert, remove};
+ghost use Rattle.fib_config.specs.Undone.{place_of, put_back, undone, undone_all, IsBackOf, IsNeighborBackOf};
 ghost use Rattle.fib_config.specs.inner.Digest.{AreKeys, HasKeys, route_key, neighbor_key};
 ghost use Rattle.fib_resolve.specs.Keys.{key_of, key_lt, same_key};
 ghost use Rattle.fib_resolve.specs.Tables.{has_name, interface_named, same_address, same_neighbor, is_route};
-ghost use Rattle.fib_resolve.specs.Edits.{number_of, with_state, set_neighbor, set_path, set_paths, kind_of, path_of, source_of, paths_at, set_route, without_route, lacks_key, without_paths, route_left, routes_without};
+ghost use Rattle.fib_resolve.specs.Edits.{number_of, with_state, set_neighbor, set_path, set_paths, kind_of, path_of, source_of, paths_at, set_route, without_route, lacks_key, without_paths, route_left, routes_without, with_routes};
 ghost use Rattle.fib_resolve.specs.declared.types.Tables.{Tables as TablesValue};
+ghost use Rattle.fib_resolve.specs.declared.types.Route.{Route as RouteValue};
+ghost use Rattle.fib_config.specs.declared.undo.Back.TheVariants.{Spare};
 
 use crate::digest::{self, Digest};
-use crate::undo::Undo;
+use crate::undo::{Back, Undo};
 use fib_addr::{Addr, Prefix};
 use fib_resolve::{
     Address, Duplicate, FibSource, Interface, List, Name, Neighbor, Path, PathKind, PathSpec,
@@ -136,6 +138,59 @@ fn drop_last<T: Drop>(alloc: Global, list: &mut List<T>)
     *list = List::from_vec(items);
 }
 
+/// Takes the item at that place out. Takes no memory.
+pub fn remove_at<T: Drop>(alloc: Global, list: &mut List<T>, place: usize) -> T
+    requires { place < length list.old }
+    ensures left { list.new ≡ remove list.old place }
+    ensures value { result ≡ slice_index_or list.old place result }
+{
+    let mut items = mem::replace(list, List::new(alloc)).into_vec();
+    let old = items.remove(place);
+    *list = List::from_vec(items);
+    old
+}
+
+// The items, in the spare vector where theirs has no room for one more. Takes no memory.
+fn with_room<T: Drop>(items: Vec<T>, spare: Vec<T>) -> Vec<T>
+    requires { vec_len items < vec_capacity spare }
+    ensures items { result.items ≡ items.items }
+    ensures room { vec_len result < vec_capacity result }
+{
+    if items.len() < items.capacity() {
+        return items;
+    }
+    let mut from = items;
+    let mut roomy = spare;
+    roomy.clear();
+    if roomy.append(&mut from).is_err() {
+        unreachable!()
+    }
+    roomy
+}
+
+// Puts the item in at that place, where the spare vector has room for all. Takes no memory.
+fn insert_at<T: Drop>(alloc: Global, list: &mut List<T>, place: usize, item: T, spare: Vec<T>)
+    requires place { place ≤ length list.old }
+    requires room { length list.old < vec_capacity spare }
+    ensures { list.new ≡ insert list.old place item }
+{
+    let items = mem::replace(list, List::new(alloc)).into_vec();
+    let mut roomy = with_room(items, spare);
+    if roomy.insert(place, item).is_err() {
+        unreachable!()
+    }
+    *list = List::from_vec(roomy);
+}
+
+// Puts a route that went in again, where the place and the room allow it. Takes no memory.
+fn put_back(alloc: Global, routes: &mut List<Route>, place: usize, old: Route, spare: Vec<Route>)
+    ensures { routes.new ≡ put_back place old (vec_capacity spare) routes.old }
+{
+    if place <= routes.len() && routes.len() < spare.capacity() {
+        insert_at(alloc, routes, place, old, spare);
+    }
+}
+
 /// Puts the route in its place, and says how that is taken back. Where memory is wanted, the routes stay.
 #[tactic(auto, using(crate::proofs::Places::route_set, crate::proofs::Places::route_end, crate::proofs::Places::set_back, crate::proofs::Places::end_back, crate::proofs::Keying::route_keys_set, crate::proofs::Keying::keys_last))]
 pub fn put_route(
@@ -208,6 +263,9 @@ pub fn take_back(alloc: Global, tables: &mut Tables, undo: Undo)
                 let _new = set_at(alloc, &mut tables.routes, place, old);
             }
         }
+        Undo::RouteGone { place, old, spare } => {
+            put_back(alloc, &mut tables.routes, place, old, spare);
+        }
     }
 }
 
@@ -235,12 +293,13 @@ fn is_within(later: &Undo, undo: &Undo) -> bool
         ),
         Undo::Routes(_) => matches!(
             later,
-            Undo::Routes(_) | Undo::RouteAdded | Undo::RouteSet { .. }
+            Undo::Routes(_) | Undo::RouteAdded | Undo::RouteSet { .. } | Undo::RouteGone { .. }
         ),
         Undo::NeighborAdded => false,
         Undo::NeighborSet { .. } => false,
         Undo::RouteAdded => false,
         Undo::RouteSet { .. } => false,
+        Undo::RouteGone { .. } => false,
     }
 }
 
@@ -251,6 +310,17 @@ fn is_within_last(later: &Undo, undos: &[Undo]) -> bool
     match undos.last() {
         Some(last) => is_within(later, last),
         None => false,
+    }
+}
+
+/// How a deletion after these edits is to be taken back: by a copy of all routes, unless the last of them has one already. That one gives
+/// the routes back whatever they are by then, so what takes the deletion back won't be kept.
+pub fn back_after(undos: &[Undo]) -> Back
+    ensures { result ≡ Spare → (S : TablesValue) (routes : ListValue RouteValue) → undone_all undos.now (with_routes S routes) ≡ undone_all undos.now S }
+{
+    match undos.last() {
+        Some(Undo::Routes(_)) => Back::Spare,
+        _ => Back::Whole,
     }
 }
 

@@ -11,7 +11,7 @@ ghost use Rattle.fib_config.specs.Config.{TellsRefusal, TellsFirstRefused};
 
 use crate::digest::Digest;
 use crate::errors::{BatchError, EditError};
-use crate::undo::{Edited, EditedAll, Undo};
+use crate::undo::{Back, Edited, EditedAll, Undo};
 use crate::{changes, edits};
 use fib_addr::Prefix;
 use fib_resolve::{Duplicate, Edit, FibSource, List, Path, Refusal, Tables};
@@ -125,7 +125,13 @@ impl Config {
         ensures refused { IfErr result (TellsRefusal (first_reason (reasons self.old.tables edit.now))) }
         ensures err { OnErr result (self.new ≡ self.old) }
     {
-        edits::change(self.alloc, &mut self.held, &mut self.digest, edit)
+        edits::change(
+            self.alloc,
+            &mut self.held,
+            &mut self.digest,
+            edit,
+            Back::Spare,
+        )
     }
 
     /// Takes an edit back, on the tables that it made. Takes no memory, and gives the tables as they were before it.

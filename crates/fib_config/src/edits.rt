@@ -13,7 +13,7 @@ ghost use Rattle.fib_resolve.specs.Edits.{edited, with_routes, route_left, route
 
 use crate::digest::{self, Digest};
 use crate::errors::{BatchError, EditError};
-use crate::undo::{Edited, EditedAll, Undo};
+use crate::undo::{Back, Edited, EditedAll, Undo};
 use crate::{bounds, changes, reasons, sizes};
 use fib_addr::{Addr, Prefix};
 use fib_changes::Change;
@@ -25,38 +25,77 @@ use indexmap::IndexSet;
 use std::alloc::{AllocError, Global};
 use std::mem;
 
-// Takes the paths with those keys out of the list of that prefix and source, and the route with its last path.
+// Puts the route with the paths that are left of it in its place; it goes where none is left.
 #[tactic(auto)]
 fn leave_route(
     alloc: Global,
+    left: Route,
+    routes: &mut List<Route>,
+    keys: &mut Option<IndexSet<(Prefix, u8)>>,
+    back: Back,
+) -> Result<Undo, AllocError>
+    requires keys { AreKeys route_key routes.old keys.old }
+    requires apart { IsDistinct same_route routes.old }
+    ensures ok { OnOk result (routes.new ≡ route_left left.prefix left.source left.paths routes.old) }
+    ensures back { IfOk result (λ u. IsBackOf u routes.new routes.old) }
+    ensures err { OnErr result (routes.new ≡ routes.old) }
+    ensures keys { AreKeys route_key routes.new keys.new }
+{
+    match left.paths.as_slice() {
+        [] => drop_route(alloc, &left, routes, keys, back),
+        [_, ..] => changes::put_route(alloc, left, routes, keys),
+    }
+}
+
+// Takes out the route of that prefix and source.
+fn drop_route(
+    alloc: Global,
+    gone: &Route,
+    routes: &mut List<Route>,
+    keys: &mut Option<IndexSet<(Prefix, u8)>>,
+    back: Back,
+) -> Result<Undo, AllocError>
+    requires keys { AreKeys route_key routes.old keys.old }
+    requires apart { IsDistinct same_route routes.old }
+    ensures ok { OnOk result (routes.new ≡ without_route gone.now.prefix gone.now.source routes.old) }
+    ensures back { IfOk result (λ u. IsBackOf u routes.new routes.old) }
+    ensures err { OnErr result (routes.new ≡ routes.old) }
+    ensures keys { AreKeys route_key routes.new keys.new }
+{
+    match back {
+        Back::Spare => drop_spared(alloc, gone.prefix, gone.source, routes, keys),
+        Back::Whole => drop_whole(alloc, gone.prefix, gone.source, routes, keys),
+    }
+}
+
+// So that the route goes back into the list, which costs no copy.
+fn drop_spared(
+    alloc: Global,
     prefix: Prefix,
     source: FibSource,
-    paths: List<Path>,
     routes: &mut List<Route>,
     keys: &mut Option<IndexSet<(Prefix, u8)>>,
 ) -> Result<Undo, AllocError>
     requires keys { AreKeys route_key routes.old keys.old }
     requires apart { IsDistinct same_route routes.old }
-    ensures ok { OnOk result (routes.new ≡ route_left prefix source paths routes.old) }
+    ensures ok { OnOk result (routes.new ≡ without_route prefix source routes.old) }
     ensures back { IfOk result (λ u. IsBackOf u routes.new routes.old) }
     ensures err { OnErr result (routes.new ≡ routes.old) }
     ensures keys { AreKeys route_key routes.new keys.new }
 {
-    match paths.as_slice() {
-        [] => drop_route(alloc, prefix, source, routes, keys),
-        [_, ..] => {
-            let route = Route {
-                prefix,
-                source,
-                paths,
-            };
-            changes::put_route(alloc, route, routes, keys)
-        }
+    let place = digest::place_of_route(keys, prefix, source, routes.as_slice());
+    if place < routes.len() {
+        let spare = Vec::with_capacity(alloc, routes.len())?;
+        let old = changes::remove_at(alloc, routes, place);
+        digest::drop_at(keys, place);
+        return Ok(Undo::RouteGone { place, old, spare });
     }
+    drop_whole(alloc, prefix, source, routes, keys)
 }
 
+// So that the whole list comes back, of which what is left is a copy.
 #[tactic(auto, using(crate::proofs::Keying::route_keys_without))]
-fn drop_route(
+fn drop_whole(
     alloc: Global,
     prefix: Prefix,
     source: FibSource,
@@ -115,43 +154,28 @@ fn paths_left(
     changes::without_paths(alloc, old, gone.as_slice())
 }
 
-// Takes the paths out of the route, or the whole route where none is named.
-#[tactic(auto, using(crate::proofs::Places::back_undone))]
-fn del_route(
+// The route of that prefix and source with the paths that are left without those; with none where none is named.
+fn rest_of_route(
     alloc: Global,
-    tables: &mut Tables,
-    digest: &mut Digest,
+    tables: &Tables,
+    digest: &Digest,
     prefix: Prefix,
     source: FibSource,
     specs: &[PathSpec],
-) -> Result<Undo, AllocError>
-    requires few { length tables.old.interfaces ≤ 256 }
-    requires keys { HasKeys tables.old digest.old }
-    requires apart { IsDistinct same_route tables.old.routes }
-    ensures ok { OnOk result (tables.new ≡ with_routes tables.old (routes_without tables.old prefix source specs.now)) }
-    ensures back { IfOk result (λ u. undone u tables.new ≡ tables.old) }
-    ensures err { OnErr result (tables.new ≡ tables.old) }
-    ensures keys { HasKeys tables.new digest.new }
-    ensures bound { digest.new.bound ≡ digest.old.bound }
+) -> Result<Route, AllocError>
+    requires few { length tables.now.interfaces ≤ 256 }
+    requires keys { HasKeys tables.now digest.now }
+    ensures { IfOk result (λ r. route_left r.prefix r.source r.paths tables.now.routes ≡ routes_without tables.now prefix source specs.now) }
 {
-    match specs {
-        [] => {
-            let undo = drop_route(
-                alloc,
-                prefix,
-                source,
-                &mut tables.routes,
-                &mut digest.routes,
-            )?;
-            Ok(undo)
-        }
-        [_, ..] => {
-            let left = paths_left(alloc, tables, digest, prefix, source, specs)?;
-            let routes = &mut tables.routes;
-            let undo = leave_route(alloc, prefix, source, left, routes, &mut digest.routes)?;
-            Ok(undo)
-        }
-    }
+    let paths = match specs {
+        [] => List::new(alloc),
+        [_, ..] => paths_left(alloc, tables, digest, prefix, source, specs)?,
+    };
+    Ok(Route {
+        prefix,
+        source,
+        paths,
+    })
 }
 
 // Sets the paths in the route of that prefix and source, which is made where there is none.
@@ -185,12 +209,13 @@ fn add_route(
 }
 
 // Makes the edit where the tables stand, and says what takes it back.
-#[tactic(auto, unfolding(fib_resolve::specs::Edits::edited, crate::specs::Undone::undone), using(crate::proofs::Places::neighbor_back_undone))]
+#[tactic(auto, unfolding(fib_resolve::specs::Edits::edited, crate::specs::Undone::undone), using(crate::proofs::Places::neighbor_back_undone, crate::proofs::Places::back_undone))]
 fn make(
     alloc: Global,
     tables: &mut Tables,
     digest: &mut Digest,
     edit: &Edit,
+    back: Back,
 ) -> Result<Undo, AllocError>
     requires sound { IsSound tables.old }
     requires keys { HasKeys tables.old digest.old }
@@ -252,7 +277,11 @@ fn make(
         }
         Edit::DelRoute { prefix, api, paths } => {
             let source = changes::source_of(*api);
-            del_route(alloc, tables, digest, *prefix, source, paths.as_slice())
+            let paths = paths.as_slice();
+            let left = rest_of_route(alloc, tables, digest, *prefix, source, paths)?;
+            let routes = &mut tables.routes;
+            let undo = leave_route(alloc, left, routes, &mut digest.routes, back)?;
+            Ok(undo)
         }
     }
 }
@@ -292,6 +321,7 @@ pub fn change(
     tables: &mut Tables,
     digest: &mut Digest,
     edit: &Edit,
+    back: Back,
 ) -> Result<Edited, EditError>
     requires sound { IsSound tables.old }
     requires digest { IsDigest tables.old digest.old }
@@ -310,7 +340,7 @@ pub fn change(
         return Err(EditError::Refused(refusal));
     }
     let change = change_of(tables, edit);
-    let undo = make(alloc, tables, digest, edit)?;
+    let undo = make(alloc, tables, digest, edit, back)?;
     digest.bound = digest.bound.saturating_add(bounds::growth(edit));
     Ok(Edited { change, undo })
 }
@@ -323,6 +353,7 @@ fn fitted(
     digest: &mut Digest,
     room: u32,
     edit: &Edit,
+    back: Back,
 ) -> Result<Edited, EditError>
     requires sound { IsSound tables.old }
     requires digest { IsDigest tables.old digest.old }
@@ -338,7 +369,7 @@ fn fitted(
     ensures err { OnErr result (tables.new ≡ tables.old) }
 {
     let before = digest.bound;
-    let edited = match change(alloc, tables, digest, edit) {
+    let edited = match change(alloc, tables, digest, edit, back) {
         Ok(edited) => edited,
         Err(EditError::Refused(refusal)) => return Err(EditError::Refused(refusal)),
         Err(EditError::Memory) => return Err(EditError::Memory),
@@ -383,7 +414,7 @@ pub fn made(
     ensures refused { IfErr result (TellsRefusal (refused tables.old room edit.now)) }
     ensures err { OnErr result (tables.new ≡ tables.old) }
 {
-    let edited = fitted(alloc, tables, digest, room, edit)?;
+    let edited = fitted(alloc, tables, digest, room, edit, Back::Spare)?;
     forget(edited);
     Ok(())
 }
@@ -411,7 +442,8 @@ fn keep(
 {
     kept.changes.reserve(1)?;
     kept.undos.reserve(1)?;
-    let Edited { change, undo } = fitted(alloc, tables, digest, room, edit)?;
+    let back = changes::back_after(kept.undos.as_slice());
+    let Edited { change, undo } = fitted(alloc, tables, digest, room, edit, back)?;
     kept.changes.push_reserved(change);
     changes::keep_undo(&mut kept.undos, undo);
     Ok(())

@@ -6,7 +6,7 @@ use Rattle.fib_resolve.specs.declared.types.Route.{Route}
 use Rattle.fib_config.specs.Undone.{place_of}
 use Rattle.fib_config.specs.inner.Digest.{AreKeys, Follows, route_key}
 use Rattle.fib_config.proofs.Keying.{route_keys_without}
-use Rattle.fib_config.proofs.edits.drop_route.Goals as goal
+use Rattle.fib_config.proofs.edits.drop_whole.Goals as goal
 
 pub returns-clause-keys : goal.returns-clause-keys
 returns-clause-keys c =
