@@ -9,6 +9,7 @@ pub mod laws;
 mod lists;
 mod order;
 mod rows;
+mod sources;
 
 pub use adjacencies::put_adjacencies;
 pub use entries::put_entries;
