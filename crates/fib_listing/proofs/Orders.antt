@@ -5,7 +5,7 @@ use Rattle.std.specs.List.{IsDistinct}
 use Rattle.std.specs.List.Sorted.{IsPermutation, IsSorted}
 use Rattle.fib_addr.proofs.PrefixLaws.{same_prefix_equiv}
 use Rattle.fib_listing.proofs.Sorting.{sorted_is}
-use Rattle.std.specs.Cmp.{IsTotalOrder, IsEquivalence, both_tied}
+use Rattle.std.specs.Cmp.{IsTotalOrder, IsEquivalence, both_tied, tied_itself}
 use Rattle.std.specs.Cmp.Lexicographic.{pointwise}
 use Rattle.std.specs.declared.cmp.Ordering.{Ordering}
 use Rattle.std.specs.declared.cmp.Ordering.TheVariants.{Less, Equal, Greater}
@@ -72,14 +72,14 @@ key_tied a b =
     both_tied _ _ _ _ (nat_tied a.kind b.kind)
     (both_tied _ _ _ _ (nat_tied a.next_hop b.next_hop) (both_tied _ _ _ _ (nat_tied a.interface b.interface) (nat_tied a.need b.need)))
 
-path_tied : (p q : Path) → same_path p q ≡ is_eq (path_cmp p q)
+pub path_tied : (p q : Path) → same_path p q ≡ is_eq (path_cmp p q)
 path_tied p q = both_tied _ _ _ _ (key_tied (key_of p) (key_of q)) (both_tied _ _ _ _ (nat_tied p.weight q.weight) (nat_tied p.preference q.preference))
 
 -- the heads decide, or are tied
-first_before : (p q : Path) (ps qs : List Path) → path_cmp p q ≡ Less → list_before (p ∷ ps) (q ∷ qs) ≡ true
+pub first_before : (p q : Path) (ps qs : List Path) → path_cmp p q ≡ Less → list_before (p ∷ ps) (q ∷ qs) ≡ true
 first_before p q ps qs h = rw h refl
 
-tied_before : (p q : Path) (ps qs : List Path) → path_cmp p q ≡ Equal → list_before (p ∷ ps) (q ∷ qs) ≡ list_before ps qs
+pub tied_before : (p q : Path) (ps qs : List Path) → path_cmp p q ≡ Equal → list_before (p ∷ ps) (q ∷ qs) ≡ list_before ps qs
 tied_before p q ps qs h = rw h refl
 
 turned : (p q : Path) → path_cmp p q ≡ Greater → path_cmp q p ≡ Less
@@ -125,6 +125,10 @@ list_apart (x ∷ xs) (y ∷ ys) h k = by (path_cmp x y) refl (list_apart xs ys)
         let back = tied_turned x y e in
         let head : same_path y x ≡ true = path_tied y x ∙ ap is_eq back in
         tied_before y x ys xs back ∙ more (rest (same_path y x) (pointwise same_path ys xs) head h) (sym (tied_before x y xs ys e) ∙ k)
+
+pub list_off : (ps : List Path) → list_before ps ps ≡ false
+list_off [] = refl
+list_off (p ∷ ps) = tied_before p p ps ps (tied_itself path_order p) ∙ list_off ps
 
 same_key_equiv : IsEquivalence same_key
 same_key_equiv =

@@ -21,11 +21,11 @@ at_place p xs =
     ]
 
 -- the first, or one behind it
-cases : {X : Type 0} (x z : X) (xs : List X) → Contains (x ∷ xs) z → (x ≡ z) ⊎ Contains xs z
+pub cases : {X : Type 0} (x z : X) (xs : List X) → Contains (x ∷ xs) z → (x ≡ z) ⊎ Contains xs z
 cases x z xs (zero, lt, is) = inl is
 cases x z xs (suc k, lt, is) = inr (k, omega (arith, lt), is)
 
-behind : {X : Type 0} (x z : X) (xs : List X) → Contains xs z → Contains (x ∷ xs) z
+pub behind : {X : Type 0} (x z : X) (xs : List X) → Contains xs z → Contains (x ∷ xs) z
 behind x z xs c = (suc c.0, omega (arith, c.1), c.2)
 
 module _ {X : Type 0} (before : X → X → Bool) where
@@ -120,7 +120,7 @@ module _ {X : Type 0} (before : X → X → Bool) where
 
 -- a list that is in order is told by its members
 module _ {X : Type 0} (before : X → X → Bool) (off : (x : X) → before x x ≡ false) (trans : (x y z : X) → before x y ≡ true → before y z ≡ true → before x z ≡ true) where
-  stands : (x z : X) (xs : List X) → AllByRecursion (λ y. before x y ≡ true) xs → Contains xs z → before x z ≡ true
+  pub stands : (x z : X) (xs : List X) → AllByRecursion (λ y. before x y ≡ true) xs → Contains xs z → before x z ≡ true
   stands x z [] h c = absurd (Contains-nil z c)
   stands x z (y ∷ ys) h c = elim (cases y z ys c) [ inl e ↦ subst (λ w. before x w ≡ true) e h.0 | inr d ↦ stands x z ys h.1 d ]
 
