@@ -1,2 +1,4 @@
 pub mod Sorting
 pub mod Orders
+pub mod Paths
+pub mod Counting

@@ -1,10 +1,15 @@
 -- The orders of the listings tell different elements apart.
-use Rattle.std.proofs.Common.{arith, ◌≡◌, ℕ, Bool, true, false, ◌==◌, ◌&&◌, List, [], ◌∷◌, refl, sym, ◌∙◌, ap}
-use Rattle.std.specs.Cmp.{IsTotalOrder, IsEquivalence, both_tied}
+use Rattle.std.proofs.Common.{arith, ◌≡◌, ℕ, Bool, true, false, ◌==◌, ◌&&◌, List, [], ◌∷◌, refl, sym, ◌∙◌, ap, subst, ◌+◌}
+use Rattle.std.specs.Prelude.{slice_index_or}
+use Rattle.std.specs.List.{IsDistinct}
+use Rattle.std.specs.List.Sorted.{IsPermutation, IsSorted}
+use Rattle.fib_addr.proofs.PrefixLaws.{same_prefix_equiv}
+use Rattle.fib_listing.proofs.Sorting.{sorted_is}
+use Rattle.std.specs.Cmp.{IsTotalOrder, IsEquivalence, both_tied, tied_itself}
 use Rattle.std.specs.Cmp.Lexicographic.{pointwise}
 use Rattle.std.specs.declared.cmp.Ordering.{Ordering}
 use Rattle.std.specs.declared.cmp.Ordering.TheVariants.{Less, Equal, Greater}
-use Rattle.std.specs.Ordering.{is_eq, nat_cmp, ordering_reverse}
+use Rattle.std.specs.Ordering.{is_eq, is_lt, nat_cmp, ordering_reverse, ordering_then}
 use Rattle.std.proofs.lemmas.Bool.{false≢true}
 use Rattle.std.proofs.lemmas.Bool.Decides.{nat_tests}
 use Rattle.std.proofs.lemmas.Cmp.{nat_cmp_total, on_total, then_total, nat_eq_equiv, on_equiv, and_equiv, lists_equiv}
@@ -15,7 +20,7 @@ use Rattle.fib_resolve.specs.declared.pairs.Adjacency.{Adjacency}
 use Rattle.fib_resolve.specs.declared.keys.Key.{Key}
 use Rattle.fib_resolve.specs.declared.types.Path.{Path}
 use Rattle.fib_resolve.proofs.KeyOrder.{key_order}
-use Rattle.fib_listing.specs.Order.{prefix_before, adjacency_before, list_before}
+use Rattle.fib_listing.specs.Order.{prefix_before, adjacency_before, list_before, in_order}
 use Rattle.fib_listing.specs.PathLists.{same_list}
 
 pub prefix_trans : (p q r : Prefix) → prefix_before p q ≡ true → prefix_before q r ≡ true → prefix_before p r ≡ true
@@ -24,11 +29,37 @@ prefix_trans p q r h k = grind (arith, nat_tests)
 pub prefix_apart : (p q : Prefix) → same_prefix q p ≡ false → prefix_before p q ≡ false → prefix_before q p ≡ true
 prefix_apart p q h k = grind (arith, nat_tests)
 
+prefix_off : (p : Prefix) → prefix_before p p ≡ false
+prefix_off p = grind (arith, nat_tests)
+
+prefix_test : (p q : Prefix) → is_lt (ordering_then (nat_cmp p.bits q.bits) (nat_cmp p.len q.len)) ≡ prefix_before p q
+prefix_test p q = grind (arith, nat_tests)
+
+adjacency_off : (x : Adjacency) → adjacency_before x x ≡ false
+adjacency_off x = grind (arith, nat_tests)
+
+adjacency_flips : (x y : Adjacency) → same_adjacency x y ≡ same_adjacency y x
+adjacency_flips x y = grind (arith, nat_tests)
+
+adjacency_test : (x y : Adjacency) → is_lt (ordering_then (nat_cmp x.interface y.interface) (nat_cmp x.next_hop y.next_hop)) ≡ adjacency_before x y
+adjacency_test x y = grind (arith, nat_tests)
+
 pub adjacency_trans : (x y z : Adjacency) → adjacency_before x y ≡ true → adjacency_before y z ≡ true → adjacency_before x z ≡ true
 adjacency_trans x y z h k = grind (arith, nat_tests)
 
 pub adjacency_apart : (x y : Adjacency) → same_adjacency y x ≡ false → adjacency_before x y ≡ false → adjacency_before y x ≡ true
 adjacency_apart x y h k = grind (arith, nat_tests)
+
+-- what a sort gives
+pub prefixes_sorted : (ps qs rs : List Prefix) → IsDistinct same_prefix ps → qs ≡ ps → IsPermutation qs rs → IsSorted (λ p q. ordering_then (nat_cmp p.bits q.bits) (nat_cmp p.len q.len)) rs → rs ≡ in_order prefix_before ps
+prefixes_sorted ps qs rs apart copy moved s =
+    sorted_is prefix_before prefix_off prefix_trans same_prefix same_prefix_equiv.symm prefix_apart ps rs apart (subst (λ (l : List Prefix). IsPermutation l rs) copy moved)
+    (λ k d low high. sym (prefix_test (slice_index_or rs (k + 1) d) (slice_index_or rs k d)) ∙ s k d low high)
+
+pub adjacencies_sorted : (xs ys : List Adjacency) → IsDistinct same_adjacency xs → IsPermutation xs ys → IsSorted (λ x y. ordering_then (nat_cmp x.interface y.interface) (nat_cmp x.next_hop y.next_hop)) ys → ys ≡ in_order adjacency_before xs
+adjacencies_sorted xs ys apart moved s =
+    sorted_is adjacency_before adjacency_off adjacency_trans same_adjacency adjacency_flips adjacency_apart xs ys apart moved
+    (λ k d low high. sym (adjacency_test (slice_index_or ys (k + 1) d) (slice_index_or ys k d)) ∙ s k d low high)
 
 path_order : IsTotalOrder path_cmp
 path_order = then_total (on_total key_of key_order) (then_total (on_total (λ (p : Path). p.weight) nat_cmp_total) (on_total (λ (p : Path). p.preference) nat_cmp_total))
@@ -41,14 +72,14 @@ key_tied a b =
     both_tied _ _ _ _ (nat_tied a.kind b.kind)
     (both_tied _ _ _ _ (nat_tied a.next_hop b.next_hop) (both_tied _ _ _ _ (nat_tied a.interface b.interface) (nat_tied a.need b.need)))
 
-path_tied : (p q : Path) → same_path p q ≡ is_eq (path_cmp p q)
+pub path_tied : (p q : Path) → same_path p q ≡ is_eq (path_cmp p q)
 path_tied p q = both_tied _ _ _ _ (key_tied (key_of p) (key_of q)) (both_tied _ _ _ _ (nat_tied p.weight q.weight) (nat_tied p.preference q.preference))
 
 -- the heads decide, or are tied
-first_before : (p q : Path) (ps qs : List Path) → path_cmp p q ≡ Less → list_before (p ∷ ps) (q ∷ qs) ≡ true
+pub first_before : (p q : Path) (ps qs : List Path) → path_cmp p q ≡ Less → list_before (p ∷ ps) (q ∷ qs) ≡ true
 first_before p q ps qs h = rw h refl
 
-tied_before : (p q : Path) (ps qs : List Path) → path_cmp p q ≡ Equal → list_before (p ∷ ps) (q ∷ qs) ≡ list_before ps qs
+pub tied_before : (p q : Path) (ps qs : List Path) → path_cmp p q ≡ Equal → list_before (p ∷ ps) (q ∷ qs) ≡ list_before ps qs
 tied_before p q ps qs h = rw h refl
 
 turned : (p q : Path) → path_cmp p q ≡ Greater → path_cmp q p ≡ Less
@@ -94,6 +125,10 @@ list_apart (x ∷ xs) (y ∷ ys) h k = by (path_cmp x y) refl (list_apart xs ys)
         let back = tied_turned x y e in
         let head : same_path y x ≡ true = path_tied y x ∙ ap is_eq back in
         tied_before y x ys xs back ∙ more (rest (same_path y x) (pointwise same_path ys xs) head h) (sym (tied_before x y xs ys e) ∙ k)
+
+pub list_off : (ps : List Path) → list_before ps ps ≡ false
+list_off [] = refl
+list_off (p ∷ ps) = tied_before p p ps ps (tied_itself path_order p) ∙ list_off ps
 
 same_key_equiv : IsEquivalence same_key
 same_key_equiv =

@@ -1,7 +1,11 @@
 -- Elements put in one by one, each in front of the first that it stands before, are in order.
 use Rattle.std.proofs.Common.{arith, ◌≡◌, ℕ, ◌+◌, zero, suc, Bool, true, false, not, cond, List, [], ◌∷◌, ◌++◌, length, take, drop, ◌⊎◌, inl, inr, refl, sym, ◌∙◌, ap, subst, ◌↔◌}
-use Rattle.std.specs.Prelude.{Contains, fold, position, unwrap_or}
+use Rattle.std.specs.Prelude.{Contains, fold, position, slice_index_or, unwrap_or}
 use Rattle.std.specs.List.{AllByRecursion, IsDistinct, position_or_len, prefix_len}
+use Rattle.std.specs.List.Sorted.{IsPermutation, IsSortedBy}
+use Rattle.std.proofs.lemmas.Bool.{false≢true}
+use Rattle.std.proofs.lemmas.List.Sorted.{Contains-permutation, IsPermutation-sym}
+use Rattle.std.proofs.lemmas.Map.Keys.{IsDistinct-IsPermutation}
 use Rattle.std.proofs.lemmas.Bool.{lt-ltb, le-ltb, cases_lt}
 use Rattle.std.proofs.lemmas.List.Sums.{prefix_len-le-length}
 use Rattle.fib_list.proofs.Lists.{either, Contains-nil, each-weaker}
@@ -17,11 +21,11 @@ at_place p xs =
     ]
 
 -- the first, or one behind it
-cases : {X : Type 0} (x z : X) (xs : List X) → Contains (x ∷ xs) z → (x ≡ z) ⊎ Contains xs z
+pub cases : {X : Type 0} (x z : X) (xs : List X) → Contains (x ∷ xs) z → (x ≡ z) ⊎ Contains xs z
 cases x z xs (zero, lt, is) = inl is
 cases x z xs (suc k, lt, is) = inr (k, omega (arith, lt), is)
 
-behind : {X : Type 0} (x z : X) (xs : List X) → Contains xs z → Contains (x ∷ xs) z
+pub behind : {X : Type 0} (x z : X) (xs : List X) → Contains xs z → Contains (x ∷ xs) z
 behind x z xs c = (suc c.0, omega (arith, c.1), c.2)
 
 module _ {X : Type 0} (before : X → X → Bool) where
@@ -113,3 +117,54 @@ module _ {X : Type 0} (before : X → X → Bool) where
         none : (zs : List X) → AllByRecursion (λ z. AllByRecursion (λ y. same y z ≡ false) []) zs
         none [] = tt
         none (z ∷ zs) = (tt, none zs)
+
+-- a list that is in order is told by its members
+module _ {X : Type 0} (before : X → X → Bool) (off : (x : X) → before x x ≡ false) (trans : (x y z : X) → before x y ≡ true → before y z ≡ true → before x z ≡ true) where
+  pub stands : (x z : X) (xs : List X) → AllByRecursion (λ y. before x y ≡ true) xs → Contains xs z → before x z ≡ true
+  stands x z [] h c = absurd (Contains-nil z c)
+  stands x z (y ∷ ys) h c = elim (cases y z ys c) [ inl e ↦ subst (λ w. before x w ≡ true) e h.0 | inr d ↦ stands x z ys h.1 d ]
+
+  never : {A : Type 0} (x y : X) → x ≡ y → before x y ≡ true → A
+  never x y e h = absurd (false≢true (sym (off y) ∙ subst (λ w. before w y ≡ true) e h))
+
+  pub only : (xs ys : List X) → IsOrderedBy before xs → IsOrderedBy before ys → ((z : X) → Contains xs z ↔ Contains ys z) → xs ≡ ys
+  only [] [] o p m = refl
+  only [] (y ∷ ys) o p m = absurd (Contains-nil y ((m y).1 (0, omega arith, refl)))
+  only (x ∷ xs) [] o p m = absurd (Contains-nil x ((m x).0 (0, omega arith, refl)))
+  only (x ∷ xs) (y ∷ ys) o p m = ap (λ w. w ∷ xs) heads ∙ ap (λ (ws : List X). y ∷ ws) (only xs ys o.1 p.1 (λ z. (there z, back z)))
+    where
+      heads : x ≡ y
+      heads =
+          elim (cases y x ys ((m x).0 (0, omega arith, refl))) [
+            | inl e ↦ sym e
+            | inr c ↦ elim (cases x y xs ((m y).1 (0, omega arith, refl))) [
+              | inl e ↦ e
+              | inr d ↦ never x x refl (trans x y x (stands x y xs o.0 d) (stands y x ys p.0 c))
+            ]
+          ]
+
+      there : (z : X) → Contains xs z → Contains ys z
+      there z c = elim (cases y z ys ((m z).0 (behind x z xs c))) [ inl e ↦ never x z (heads ∙ e) (stands x z xs o.0 c) | inr d ↦ d ]
+
+      back : (z : X) → Contains ys z → Contains xs z
+      back z c = elim (cases x z xs ((m z).1 (behind y z ys c))) [ inl e ↦ never y z (sym heads ∙ e) (stands y z ys p.0 c) | inr d ↦ d ]
+
+  module _ (same : X → X → Bool) (flips : (x y : X) → same x y ≡ same y x) (apart : (x y : X) → same y x ≡ false → before x y ≡ false → before y x ≡ true) where
+    next : (k : ℕ) → suc k + 1 ≡ suc (k + 1)
+    next k = omega arith
+
+    rising : (ys : List X) → IsDistinct same ys → IsSortedBy before ys → IsOrderedBy before ys
+    unfolding IsDistinct
+    rising [] d s = tt
+    rising (y ∷ []) d s = (tt, tt)
+    rising (y ∷ z ∷ zs) d s =
+        let rest = rising (z ∷ zs) d.1 (λ k e low high. subst (λ (n : ℕ). before (slice_index_or (y ∷ z ∷ zs) n e) (slice_index_or (z ∷ zs) k e) ≡ false) (next k) (s (suc k) e (omega arith) (omega (arith, high)))) in
+        let is : before y z ≡ true = apart z y d.0.0 (s 0 y (omega arith) (omega arith)) in
+        ((is, each-weaker (λ w. before z w ≡ true) (λ w. before y w ≡ true) (λ w b. trans y z w is b) zs rest.0), rest)
+
+    -- what a sort gives
+    pub sorted_is : (xs ys : List X) → IsDistinct same xs → IsPermutation xs ys → IsSortedBy before ys → ys ≡ in_order before xs
+    sorted_is xs ys d p s =
+        let l = listed before same trans apart xs d in
+        only ys (in_order before xs) (rising ys (IsDistinct-IsPermutation same flips xs ys p d) s) l.ordered
+        (λ z. (λ c. (l.members z).1 (Contains-permutation ys xs z (IsPermutation-sym xs ys p) c), λ c. Contains-permutation xs ys z p ((l.members z).0 c)))

@@ -2,3 +2,4 @@ pub mod Adjacencies
 pub mod Entries
 pub mod Order
 pub mod PathLists
+pub mod inner

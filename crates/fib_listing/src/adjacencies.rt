@@ -3,7 +3,7 @@ ghost use Rattle.std.specs.Prelude.{◌≡◌, ◌++◌, OnOk, OnErr, IfOk, flat
 ghost use Rattle.fib_resolve.specs.Resolution.{hop_end};
 ghost use Rattle.fib_listing.specs.Adjacencies.{adjacency_text, adjacencies_text};
 
-use crate::order::adjacencies_in_order;
+use crate::order::sort_adjacencies;
 use fib_plain::Snapshot;
 use fib_print::put_end;
 use fib_resolve::{Adjacency, End, Tables};
@@ -41,7 +41,7 @@ fn put_all(
 
 /// Appends the text of `show adj`: the text of each distinct Hop end of the chosen paths, usable or not, in order of the interface,
 /// then of the next hop. Where memory is wanted `out` is as it was.
-#[tactic(auto, unfolding(crate::specs::Adjacencies::adjacencies_text))]
+#[tactic(auto, unfolding(crate::specs::Adjacencies::adjacencies_text), using(fib_resolve::proofs::Covering::adjacencies_apart))]
 pub fn put_adjacencies(
     out: &mut Vec<u8>,
     alloc: Global,
@@ -50,8 +50,8 @@ pub fn put_adjacencies(
     ensures ok { OnOk result (out.new.items ≡ out.old.items ++ adjacencies_text snapshot.now) }
     ensures err { OnErr result (out.new.items ≡ out.old.items) }
 {
-    let all = snapshot.adjacencies(alloc)?;
-    let sorted = adjacencies_in_order(alloc, &all)?;
+    let mut sorted = snapshot.adjacencies(alloc)?;
+    sort_adjacencies(&mut sorted);
     let mut text = Vec::new(alloc);
     put_all(&mut text, snapshot, &sorted)?;
     out.extend_from_slice(text.as_slice())

@@ -1,19 +1,19 @@
 // The listing of entries.
-ghost use Rattle.std.specs.Prelude.{◌≡◌, ◌++◌, ◌||◌, OnOk, OnErr, IfOk, flat_map, filter, map, codes, length, nat_lt};
-ghost use Rattle.std.specs.List.{list_any};
-ghost use Rattle.fib_addr.specs.Prefixes.{same_prefix};
-ghost use Rattle.fib_resolve.specs.Keys.{same_source};
+ghost use Rattle.std.specs.Prelude.{◌≡◌, ◌++◌, OnOk, OnErr, IfOk, flat_map, map, codes};
+ghost use Rattle.fib_resolve.specs.Pairs.{pairs};
 ghost use Rattle.fib_listing.specs.Order.{row_from, gap};
-ghost use Rattle.fib_listing.specs.Entries.{all_sources, source_text, has_source, sources_at, is_drop, cover_at, mark_text, marked_text, marked_from, sources_text, paths_text, entry_text, fib_text};
+ghost use Rattle.fib_listing.specs.inner.Sources.{AreSources};
+ghost use Rattle.fib_listing.specs.Entries.{all_sources, source_text, is_drop, cover_at, mark_text, marked_text, marked_from, sources_text, paths_text, entry_text, fib_text};
 
 use crate::order::prefixes_in_order;
 use crate::rows::put_gap;
+use crate::sources::{sources_at, sources_of};
 use fib_addr::{Prefix, put_prefix};
 use fib_plain::Snapshot;
 use fib_print::put_path;
-use fib_resolve::keys::is_same_source;
-use fib_resolve::{FibSource, Pair, Path, PathKind};
+use fib_resolve::{FibSource, Path, PathKind};
 use std::alloc::{AllocError, Global};
+use std::collections::HashSet;
 
 /// The sources, the best first.
 const ALL_SOURCES: [FibSource; 7] = [
@@ -40,31 +40,6 @@ fn source_name(source: FibSource) -> &'static str
     }
 }
 
-fn has_source(pairs: &[Pair], e: Prefix, source: FibSource) -> bool
-    ensures { result ≡ has_source pairs.now e source }
-{
-    pairs
-        .iter()
-        .any(|x| x.prefix == e && is_same_source(x.source, source))
-}
-
-fn sources_at(
-    alloc: Global,
-    pairs: &[Pair],
-    e: Prefix,
-    among: &[FibSource],
-) -> Result<Vec<FibSource>, AllocError>
-    ensures { IfOk result (λ v. v.items ≡ filter (has_source pairs.now e) among.now) }
-{
-    let mut found = Vec::new(alloc);
-    for source in among {
-        if has_source(pairs, e, *source) {
-            found.push(*source)?;
-        }
-    }
-    Ok(found)
-}
-
 fn put_names(out: &mut Vec<u8>, sources: &[FibSource]) -> Result<(), AllocError>
     ensures { OnOk result (out.new.items ≡ out.old.items ++ row_from (codes "+") 0 (map source_text sources.now)) }
 {
@@ -75,17 +50,20 @@ fn put_names(out: &mut Vec<u8>, sources: &[FibSource]) -> Result<(), AllocError>
     Ok(())
 }
 
+/// The snapshot stands here for the proof alone.
 #[tactic(auto, unfolding(crate::specs::Entries::sources_text))]
 fn put_sources(
     out: &mut Vec<u8>,
     alloc: Global,
     snapshot: &Snapshot<'_>,
+    sources: &HashSet<(Prefix, u8)>,
     e: Prefix,
 ) -> Result<(), AllocError>
+    requires { AreSources (pairs snapshot.now) sources.now.keys }
     ensures { OnOk result (out.new.items ≡ out.old.items ++ sources_text snapshot.now e) }
 {
-    let sources = sources_at(alloc, snapshot.pairs(), e, &ALL_SOURCES)?;
-    put_names(out, &sources)
+    let found = sources_at(alloc, sources, e, &ALL_SOURCES)?;
+    put_names(out, &found)
 }
 
 fn is_drop(kind: PathKind) -> bool
@@ -166,13 +144,15 @@ fn put_entry(
     out: &mut Vec<u8>,
     alloc: Global,
     snapshot: &Snapshot<'_>,
+    sources: &HashSet<(Prefix, u8)>,
     e: Prefix,
 ) -> Result<(), AllocError>
+    requires { AreSources (pairs snapshot.now) sources.now.keys }
     ensures { OnOk result (out.new.items ≡ out.old.items ++ entry_text snapshot.now e) }
 {
     put_prefix(out, e)?;
     out.extend_from_slice(b" ")?;
-    put_sources(out, alloc, snapshot, e)?;
+    put_sources(out, alloc, snapshot, sources, e)?;
     out.extend_from_slice(b": ")?;
     put_paths(out, snapshot, e)?;
     out.extend_from_slice(b"\n")
@@ -182,19 +162,21 @@ fn put_all(
     out: &mut Vec<u8>,
     alloc: Global,
     snapshot: &Snapshot<'_>,
+    sources: &HashSet<(Prefix, u8)>,
     entries: &[Prefix],
 ) -> Result<(), AllocError>
+    requires { AreSources (pairs snapshot.now) sources.now.keys }
     ensures { OnOk result (out.new.items ≡ out.old.items ++ flat_map (entry_text snapshot.now) entries.now) }
 {
     for e in entries {
-        put_entry(out, alloc, snapshot, *e)?;
+        put_entry(out, alloc, snapshot, sources, *e)?;
     }
     Ok(())
 }
 
 /// Appends the text of `show ip fib`: a line for each effective entry, in order of bits, then of lengths, with the names of its
 /// sources from the best on and the paths of its chosen list, each with its mark. Where memory is wanted `out` is as it was.
-#[tactic(auto, unfolding(crate::specs::Entries::fib_text))]
+#[tactic(auto, unfolding(crate::specs::Entries::fib_text), using(fib_resolve::proofs::Covering::entries_apart))]
 pub fn put_entries(
     out: &mut Vec<u8>,
     alloc: Global,
@@ -203,8 +185,9 @@ pub fn put_entries(
     ensures ok { OnOk result (out.new.items ≡ out.old.items ++ fib_text snapshot.now) }
     ensures err { OnErr result (out.new.items ≡ out.old.items) }
 {
+    let sources = sources_of(alloc, snapshot.pairs())?;
     let sorted = prefixes_in_order(alloc, snapshot.entries())?;
     let mut text = Vec::new(alloc);
-    put_all(&mut text, alloc, snapshot, &sorted)?;
+    put_all(&mut text, alloc, snapshot, &sources, &sorted)?;
     out.extend_from_slice(text.as_slice())
 }

@@ -1,72 +1,28 @@
 // The listing of path-lists.
-ghost use Rattle.std.specs.Prelude.{◌≡◌, ◌++◌, OnOk, OnErr, IfOk, codes, count_by, flat_map, fold, map, decimal, length};
-ghost use Rattle.std.specs.List.{list_any};
-ghost use Rattle.std.specs.Cmp.Lexicographic.{pointwise};
-ghost use Rattle.std.specs.Set.{is_member, unique_keys};
-ghost use Rattle.fib_resolve.specs.Keys.{same_path};
-ghost use Rattle.fib_listing.specs.Order.{row_from, gap, in_order, list_before, put_in};
-ghost use Rattle.fib_listing.specs.PathLists.{same_list, list_of, path_lists, users, plain_text, list_text, lists_text};
+ghost use Rattle.std.specs.Prelude.{◌≡◌, ◌++◌, OnOk, OnErr, IfOk, codes, flat_map, map};
+ghost use Rattle.fib_listing.specs.Order.{row_from, gap};
+ghost use Rattle.fib_listing.specs.PathLists.{plain_text, lists_text};
+ghost use Rattle.fib_listing.specs.inner.Lists.{AreCounts, AreListed, entry_line, line_text};
 
-use crate::order::put_list;
 use crate::rows::put_gap;
 use fib_plain::Snapshot;
 use fib_print::{put_number, put_path};
-use fib_resolve::keys::is_same_path;
-use fib_resolve::{Duplicate, List, Pair, Path, Tables};
+use fib_resolve::{Pair, Path, Tables};
 use std::alloc::{AllocError, Global};
+use std::collections::BTreeMap;
 
-/// Whether both are one list.
-fn is_same_list(ps: &[Path], qs: &[Path]) -> bool
-    ensures { result ≡ same_list ps.now qs.now }
+/// The lists of the pairs in order, each once, with the number of pairs that have it.
+fn counts_of(alloc: Global, pairs: &[Pair]) -> Result<BTreeMap<&[Path], usize>, AllocError>
+    ensures counts { IfOk result (λ m. AreCounts pairs.now m.entries) }
+    ensures ordered { IfOk result (λ m. AreListed m.entries) }
 {
-    match ps {
-        [] => match qs {
-            [] => true,
-            [_, ..] => false,
-        },
-        [p, ps @ ..] => match qs {
-            [] => false,
-            [q, qs @ ..] => is_same_path(p, q) && is_same_list(ps, qs),
-        },
+    let mut counts = BTreeMap::new(alloc);
+    for x in pairs {
+        let paths = x.paths.as_slice();
+        let users = counts.get(&paths).copied().unwrap_or(0);
+        counts.insert(paths, users + 1)?;
     }
-}
-
-fn any_has(pairs: &[Pair], ps: &[Path]) -> bool
-    ensures { result ≡ list_any (λ x. same_list ps.now x.paths) pairs.now }
-{
-    pairs.iter().any(|x| is_same_list(ps, x.paths.as_slice()))
-}
-
-fn has_list(pairs: &[Pair], ps: &[Path]) -> bool
-    ensures { result ≡ is_member same_list (map list_of pairs.now) ps.now }
-{
-    let found = any_has(pairs, ps);
-    found
-}
-
-/// The lists of the pairs, each once, in order.
-fn lists_in_order(alloc: Global, pairs: &[Pair]) -> Result<Vec<List<Path>>, AllocError>
-    ensures { IfOk result (λ v. v.items ≡ in_order list_before (unique_keys same_list (map list_of pairs.now))) }
-{
-    let mut sorted = Vec::new(alloc);
-    for (i, x) in pairs.iter().enumerate() {
-        if !has_list(&pairs[i + 1..], x.paths.as_slice()) {
-            put_list(&mut sorted, x.paths.duplicate(alloc)?)?;
-        }
-    }
-    Ok(sorted)
-}
-
-/// How many pairs have the list.
-#[tactic(auto, unfolding(crate::specs::PathLists::users))]
-fn users(snapshot: &Snapshot<'_>, ps: &[Path]) -> usize
-    ensures { result ≡ users snapshot.now ps.now }
-{
-    snapshot
-        .pairs()
-        .iter()
-        .filter(|x| is_same_list(x.paths.as_slice(), ps))
-        .count()
+    Ok(counts)
 }
 
 fn put_paths(out: &mut Vec<u8>, tables: &Tables, paths: &[Path]) -> Result<(), AllocError>
@@ -79,30 +35,30 @@ fn put_paths(out: &mut Vec<u8>, tables: &Tables, paths: &[Path]) -> Result<(), A
     Ok(())
 }
 
-#[tactic(auto, unfolding(crate::specs::PathLists::list_text))]
 fn put_list_line(
     out: &mut Vec<u8>,
-    snapshot: &Snapshot<'_>,
+    tables: &Tables,
     paths: &[Path],
+    users: usize,
 ) -> Result<(), AllocError>
-    ensures { OnOk result (out.new.items ≡ out.old.items ++ list_text snapshot.now paths.now) }
+    ensures { OnOk result (out.new.items ≡ out.old.items ++ line_text tables.now users paths.now) }
 {
     out.extend_from_slice(b"users ")?;
-    put_number(out, users(snapshot, paths) as u64)?;
+    put_number(out, users as u64)?;
     out.extend_from_slice(b": ")?;
-    put_paths(out, snapshot.tables(), paths)?;
+    put_paths(out, tables, paths)?;
     out.extend_from_slice(b"\n")
 }
 
 fn put_all(
     out: &mut Vec<u8>,
-    snapshot: &Snapshot<'_>,
-    lists: &[List<Path>],
+    tables: &Tables,
+    counts: &BTreeMap<&[Path], usize>,
 ) -> Result<(), AllocError>
-    ensures { OnOk result (out.new.items ≡ out.old.items ++ flat_map (list_text snapshot.now) lists.now) }
+    ensures { OnOk result (out.new.items ≡ out.old.items ++ flat_map (entry_line tables.now) counts.now.entries) }
 {
-    for paths in lists {
-        put_list_line(out, snapshot, paths.as_slice())?;
+    for (paths, users) in counts.iter() {
+        put_list_line(out, tables, paths, *users)?;
     }
     Ok(())
 }
@@ -110,7 +66,7 @@ fn put_all(
 /// Appends the text of `show fib path-lists`: a line for each list that an effective pair has, with the number of these pairs. Lists
 /// are ordered by the first paths that differ, and a list that another begins with stands first. Where memory is wanted `out` is as
 /// it was.
-#[tactic(auto, unfolding(crate::specs::PathLists::lists_text, crate::specs::PathLists::path_lists))]
+#[tactic(auto, using(crate::proofs::Counting::lists_told))]
 pub fn put_path_lists(
     out: &mut Vec<u8>,
     alloc: Global,
@@ -119,8 +75,8 @@ pub fn put_path_lists(
     ensures ok { OnOk result (out.new.items ≡ out.old.items ++ lists_text snapshot.now) }
     ensures err { OnErr result (out.new.items ≡ out.old.items) }
 {
-    let sorted = lists_in_order(alloc, snapshot.pairs())?;
+    let counts = counts_of(alloc, snapshot.pairs())?;
     let mut text = Vec::new(alloc);
-    put_all(&mut text, snapshot, &sorted)?;
+    put_all(&mut text, snapshot.tables(), &counts)?;
     out.extend_from_slice(text.as_slice())
 }

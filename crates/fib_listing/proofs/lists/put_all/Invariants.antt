@@ -1,7 +1,8 @@
-use Rattle.std.proofs.Common.{◌≡◌, ◌++◌, take}
+use Rattle.std.proofs.Common.{◌≡◌, ◌++◌}
 use Rattle.std.specs.Prelude.{flat_map}
-use Rattle.fib_listing.specs.PathLists.{list_text}
+use Rattle.fib_listing.specs.inner.Lists.{entry_line}
 use Rattle.fib_listing.proofs.lists.put_all.Given as goal
 
 abbrev pub invariant-loop-paths : goal.invariant-loop-paths
-invariant-loop-paths l = l.out.items ≡ l.initial.out.items ++ flat_map (list_text l.snapshot) (take l.paths-index l.lists)
+invariant-loop-paths l =
+    l.out.items ++ flat_map (entry_line l.tables) l.paths-iterator ≡ l.initial.out.items ++ flat_map (entry_line l.tables) l.counts.entries
