@@ -29,13 +29,13 @@ prefix_trans p q r h k = grind (arith, nat_tests)
 pub prefix_apart : (p q : Prefix) → same_prefix q p ≡ false → prefix_before p q ≡ false → prefix_before q p ≡ true
 prefix_apart p q h k = grind (arith, nat_tests)
 
-prefix_off : (p : Prefix) → prefix_before p p ≡ false
+pub prefix_off : (p : Prefix) → prefix_before p p ≡ false
 prefix_off p = grind (arith, nat_tests)
 
 prefix_test : (p q : Prefix) → is_lt (ordering_then (nat_cmp p.bits q.bits) (nat_cmp p.len q.len)) ≡ prefix_before p q
 prefix_test p q = grind (arith, nat_tests)
 
-adjacency_off : (x : Adjacency) → adjacency_before x x ≡ false
+pub adjacency_off : (x : Adjacency) → adjacency_before x x ≡ false
 adjacency_off x = grind (arith, nat_tests)
 
 adjacency_flips : (x y : Adjacency) → same_adjacency x y ≡ same_adjacency y x

@@ -149,6 +149,9 @@ module _ {X : Type 0} (before : X → X → Bool) (off : (x : X) → before x x 
       back : (z : X) → Contains ys z → Contains xs z
       back z c = elim (cases x z xs ((m z).1 (behind y z ys c))) [ inl e ↦ never y z (sym heads ∙ e) (stands y z ys p.0 c) | inr d ↦ d ]
 
+  pub only_listed : (all xs ys : List X) → IsListed before all xs → IsListed before all ys → xs ≡ ys
+  only_listed all xs ys h l = only xs ys h.ordered l.ordered (λ z. (λ c. (l.members z).1 ((h.members z).0 c), λ c. (h.members z).1 ((l.members z).0 c)))
+
   module _ (same : X → X → Bool) (flips : (x y : X) → same x y ≡ same y x) (apart : (x y : X) → same y x ≡ false → before x y ≡ false → before y x ≡ true) where
     next : (k : ℕ) → suc k + 1 ≡ suc (k + 1)
     next k = omega arith

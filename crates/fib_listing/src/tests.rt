@@ -39,5 +39,6 @@ fn listings_of_empty_tables(rt: HostRuntime) -> Result<(), Fail> {
         b"users 5: drop weight 1 preference 0\n".as_slice()
     );
     laws::listings_are_in_order();
+    laws::listings_are_the_only_ones();
     Ok(())
 }
