@@ -47,7 +47,7 @@ fn leave_route(
     }
 }
 
-// Takes out the route of that prefix and source.
+// Takes out the route of that prefix and source, to be taken back so.
 fn drop_route(
     alloc: Global,
     gone: &Route,
@@ -68,7 +68,8 @@ fn drop_route(
     }
 }
 
-// So that the route goes back into the list, which costs no copy.
+// Takes the route out of the list, and reserves the room for its way back. Where there is none, the list stays, by a copy: such an edit was
+// refused before.
 fn drop_spared(
     alloc: Global,
     prefix: Prefix,
@@ -93,7 +94,7 @@ fn drop_spared(
     drop_whole(alloc, prefix, source, routes, keys)
 }
 
-// So that the whole list comes back, of which what is left is a copy.
+// Puts a copy of the other routes in place of the list, which is kept.
 #[tactic(auto, using(crate::proofs::Keying::route_keys_without))]
 fn drop_whole(
     alloc: Global,
