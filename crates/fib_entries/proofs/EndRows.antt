@@ -35,32 +35,26 @@ old_exits (news.Mac i a mac) m h = at_exits i a m.aim (and_both (aim_at i a m.ai
 
 olds_exit : (n : News) (ms : List Marked) → list_any (is_old n) ms ≡ true → list_any is_exit ms ≡ true
 olds_exit n [] h = absurd (false≢true h)
-olds_exit n (m ∷ ms) h = by (is_old n m) refl h
+olds_exit n (m ∷ ms) h = by (is_old n m) refl h (olds_exit n ms)
   where
-    by : (b : Bool) → is_old n m ≡ b → (b || list_any (is_old n) ms) ≡ true → (is_exit m || list_any is_exit ms) ≡ true
-    by true here h = ap (λ c. c || list_any is_exit ms) (old_exits n m here)
-    by false off h = ap (λ c. is_exit m || c) (olds_exit n ms h) ∙ either_way (is_exit m)
-      where
-        either_way : (b : Bool) → (b || true) ≡ true
-        either_way true = refl
-        either_way false = refl
+    either_way : (b : Bool) → (b || true) ≡ true
+    either_way true = refl
+    either_way false = refl
+
+    by : (b : Bool) → is_old n m ≡ b → (b || list_any (is_old n) ms) ≡ true → (list_any (is_old n) ms ≡ true → list_any is_exit ms ≡ true) → (is_exit m || list_any is_exit ms) ≡ true
+    by true here h later = ap (λ c. c || list_any is_exit ms) (old_exits n m here)
+    by false off h later = ap (λ c. is_exit m || c) (later h) ∙ either_way (is_exit m)
 
 old_among : (n : News) (test : Prefix → Bool) (rows : List Row) → ((r : Row) → Contains rows r → test r.prefix ≡ is_old_row n r) → filter test (exits_of rows) ≡ map prefix_of (filter (is_old_row n) rows)
 old_among n test [] each = refl
-old_among n test (r ∷ rows) each = by (has_exit r) (is_old_row n r) refl refl
+old_among n test (r ∷ rows) each = by (has_exit r) (is_old_row n r) refl refl (each r (in_front r r rows refl)) (old_among n test rows (λ q c. each q (in_rest r q rows c)))
   where
-    rest : filter test (exits_of rows) ≡ map prefix_of (filter (is_old_row n) rows)
-    rest = old_among n test rows (λ q c. each q (in_rest r q rows c))
-
-    here : test r.prefix ≡ is_old_row n r
-    here = each r (in_front r r rows refl)
-
-    by : (b c : Bool) → has_exit r ≡ b → is_old_row n r ≡ c
+    by : (b c : Bool) → has_exit r ≡ b → is_old_row n r ≡ c → test r.prefix ≡ is_old_row n r → filter test (exits_of rows) ≡ map prefix_of (filter (is_old_row n) rows)
         → filter test (map prefix_of (if b then r ∷ filter has_exit rows else filter has_exit rows)) ≡ map prefix_of (if c then r ∷ filter (is_old_row n) rows else filter (is_old_row n) rows)
-    by true true is old = ap (λ x. if x then r.prefix ∷ filter test (exits_of rows) else filter test (exits_of rows)) (here ∙ old) ∙ ap (λ l. r.prefix ∷ l) rest
-    by true false is old = ap (λ x. if x then r.prefix ∷ filter test (exits_of rows) else filter test (exits_of rows)) (here ∙ old) ∙ rest
-    by false true is old = absurd (false≢true (sym is ∙ olds_exit n r.marked old))
-    by false false is old = rest
+    by true true is old here rest = ap (λ x. if x then r.prefix ∷ filter test (exits_of rows) else filter test (exits_of rows)) (here ∙ old) ∙ ap (λ l. r.prefix ∷ l) rest
+    by true false is old here rest = ap (λ x. if x then r.prefix ∷ filter test (exits_of rows) else filter test (exits_of rows)) (here ∙ old) ∙ rest
+    by false true is old here rest = absurd (false≢true (sym is ∙ olds_exit n r.marked old))
+    by false false is old here rest = rest
 
 pub old_found : (n : News) (rows : List Row) → IsAscending (map prefix_of rows) → filter (λ p. is_old_in n (row_of rows p)) (exits_of rows) ≡ map prefix_of (filter (is_old_row n) rows)
 old_found n rows asc = old_among n (λ p. is_old_in n (row_of rows p)) rows (λ r c. ap (is_old_in n) (row_by rows asc r.prefix r c refl))
@@ -115,20 +109,21 @@ module _ (n : News) where
           let g = index_of qs m.0 (filter_from (is_old_row n) qs m.0 m.1).0 in
           let e = one_place prefix_of (q ∷ qs) asc 0 (suc g.0) r m.0 at g.1 (sym m.2) in
           absurd (omega (arith, e))
-  one_less (q ∷ qs) (suc k) r left asc at h = by (is_old_row n q) h
+  one_less (q ∷ qs) (suc k) r left asc at h = by (is_old_row n q) h (one_less qs k r left asc.1 at)
     where
       by : (b : Bool) → map prefix_of (if b then q ∷ filter (is_old_row n) qs else filter (is_old_row n) qs) ≡ r.prefix ∷ left
+          → (map prefix_of (filter (is_old_row n) qs) ≡ r.prefix ∷ left → map prefix_of (filter (is_old_row n) (slice_set qs k (renewed_row n r))) ≡ left)
           → map prefix_of (if b then q ∷ filter (is_old_row n) (slice_set qs k (renewed_row n r)) else filter (is_old_row n) (slice_set qs k (renewed_row n r))) ≡ left
-      by true h = (let e = one_place prefix_of (q ∷ qs) asc 0 (suc k) q r refl at (some_is q.prefix r.prefix (ap (λ l. slice_get l 0) h)) in absurd (omega (arith, e)))
-      by false h = one_less qs k r left asc.1 at h
+      by true h later = (let e = one_place prefix_of (q ∷ qs) asc 0 (suc k) q r refl at (some_is q.prefix r.prefix (ap (λ l. slice_get l 0) h)) in absurd (omega (arith, e)))
+      by false h later = later h
 
   all_new : (rows : List Row) → map prefix_of (filter (is_old_row n) rows) ≡ [] → map (renewed_row n) rows ≡ rows
   all_new [] h = refl
-  all_new (q ∷ qs) h = by (is_old_row n q) refl h
+  all_new (q ∷ qs) h = by (is_old_row n q) refl h (all_new qs)
     where
-      by : (b : Bool) → is_old_row n q ≡ b → map prefix_of (if b then q ∷ filter (is_old_row n) qs else filter (is_old_row n) qs) ≡ [] → renewed_row n q ∷ map (renewed_row n) qs ≡ q ∷ qs
-      by true is h = (let e = ap length h in absurd (omega (arith, e)))
-      by false isnt h = ap₂ (λ x l. x ∷ l) (row_kept n q isnt) (all_new qs h)
+      by : (b : Bool) → is_old_row n q ≡ b → map prefix_of (if b then q ∷ filter (is_old_row n) qs else filter (is_old_row n) qs) ≡ [] → (map prefix_of (filter (is_old_row n) qs) ≡ [] → map (renewed_row n) qs ≡ qs) → renewed_row n q ∷ map (renewed_row n) qs ≡ q ∷ qs
+      by true is h later = (let e = ap length h in absurd (omega (arith, e)))
+      by false isnt h later = ap₂ (λ x l. x ∷ l) (row_kept n q isnt) (later h)
 
   pub renewing_start : (rows : List Row) (left : List Prefix) → IsAscending (map prefix_of rows) → left ≡ map prefix_of (filter (is_old_row n) rows) → AreRenewing n rows rows left
   renewing_start rows left asc is = record { ordered = asc; same = refl; still = sym is }

@@ -221,7 +221,7 @@ pub fn has_exit(row: &Row) -> bool
 }
 
 fn exit_prefixes(alloc: Global, rows: &[Row]) -> Result<Vec<Prefix>, AllocError>
-    ensures { IfOk result (λ v. v.items ≡ exits_of rows.now) }
+    ensures { IfOk result (λ v. v.items ≡ map prefix_of (filter has_exit rows.now)) }
 {
     rows.iter()
         .filter(|row| has_exit(row))
@@ -248,21 +248,20 @@ fn is_old_at(rows: &[Row], prefix: Prefix, news: &News) -> bool
     }
 }
 
-/// The prefixes of the rows of which it makes a mark another. They are among the exits.
-fn old_prefixes(
+/// Those of which it does.
+fn old_among(
     alloc: Global,
     rows: &[Row],
-    exits: &[Prefix],
+    prefixes: &[Prefix],
     news: &News,
 ) -> Result<Vec<Prefix>, AllocError>
-    requires ascending { IsAscending (map prefix_of rows.now) }
-    requires exits { exits.now ≡ exits_of rows.now }
-    ensures { IfOk result (λ v. v.items ≡ map prefix_of (filter (is_old_row news.now) rows.now)) }
+    requires { IsAscending (map prefix_of rows.now) }
+    ensures { IfOk result (λ v. v.items ≡ filter (λ p. is_old_in news.now (row_of rows.now p)) prefixes.now) }
 {
-    exits
+    prefixes
         .iter()
-        .filter(|prefix| is_old_at(rows, **prefix, news))
-        .map(|prefix| *prefix)
+        .copied()
+        .filter(|prefix| is_old_at(rows, *prefix, news))
         .collect(alloc)
 }
 
@@ -345,7 +344,7 @@ pub fn follow(
     ensures moved { IfOk result (λ f. f.moved ≡ []) }
     ensures err { OnErr result (rows.new.items ≡ rows.old.items) }
 {
-    let touched = old_prefixes(alloc, rows.as_slice(), exits, news)?;
+    let touched = old_among(alloc, rows.as_slice(), exits, news)?;
     renew_rows(alloc, rows, touched.as_slice(), news);
     Ok(Followed {
         touched: Touched::of(List::from_vec(touched)),
