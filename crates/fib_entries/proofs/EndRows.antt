@@ -46,6 +46,7 @@ olds_exit n (m ∷ ms) h = by (is_old n m) refl h (olds_exit n ms)
     by false off h later = ap (λ c. is_exit m || c) (later h) ∙ either_way (is_exit m)
 
 old_among : (n : News) (test : Prefix → Bool) (rows : List Row) → ((r : Row) → Contains rows r → test r.prefix ≡ is_old_row n r) → filter test (exits_of rows) ≡ map prefix_of (filter (is_old_row n) rows)
+unfolding has_exit
 old_among n test [] each = refl
 old_among n test (r ∷ rows) each = by (has_exit r) (is_old_row n r) refl refl (each r (in_front r r rows refl)) (old_among n test rows (λ q c. each q (in_rest r q rows c)))
   where

@@ -1,5 +1,5 @@
 -- The prefixes of the rows with a path that leaves by an interface, as rows change.
-use Rattle.std.proofs.Common.{arith, ◌≡◌, ℕ, zero, suc, ◌≤◌, Bool, true, false, ◌||◌, List, [], ◌∷◌, map, filter, length, Some, refl, sym, ◌∙◌, ap, ap₂, slice_get, if◌then◌else◌}
+use Rattle.std.proofs.Common.{arith, ◌≡◌, ℕ, zero, suc, ◌+◌, ◌≤◌, Bool, true, false, ◌||◌, List, [], ◌∷◌, ◌++◌, map, filter, take, length, Some, refl, sym, ◌∙◌, ap, ap₂, slice_get, if◌then◌else◌}
 use Rattle.std.specs.Prelude.{slice_set}
 use Rattle.std.specs.List.{AllZip, list_any, insert, remove}
 use Rattle.std.proofs.lemmas.Bool.{false≢true}
@@ -37,6 +37,28 @@ exits_next r s xs ys same name rest = by (has_exit r) (has_exit s) same
     by false true e = absurd (false≢true e)
     by false false e = rest
 
+-- the rows one by one
+pub exits_pushed : (rows : List Row) (out new : List Prefix) (i : ℕ) (r : Row) → slice_get rows i ≡ Some r → out ≡ exits_of (take i rows) → new ≡ (if has_exit r then out ++ r.prefix ∷ [] else out) → new ≡ exits_of (take (i + 1) rows)
+exits_pushed rows out new i r at is made =
+    let e : i + 1 ≡ suc i = omega arith in
+    made ∙ (ap (λ l. if has_exit r then l ++ r.prefix ∷ [] else l) is ∙ (sym (more rows i r at) ∙ ap (λ k. exits_of (take k rows)) (sym e)))
+  where
+    more : (rows : List Row) (i : ℕ) (r : Row) → slice_get rows i ≡ Some r → exits_of (take (suc i) rows) ≡ (if has_exit r then exits_of (take i rows) ++ r.prefix ∷ [] else exits_of (take i rows))
+    more [] i r at = absurd (none_some r at)
+    more (q ∷ qs) zero r at = ap (λ z. exits_of (z ∷ [])) (some_is q r at) ∙ by (has_exit r)
+      where
+        by : (b : Bool) → map prefix_of (if b then r ∷ [] else []) ≡ (if b then r.prefix ∷ [] else [])
+        by true = refl
+        by false = refl
+    more (q ∷ qs) (suc i) r at = under (has_exit q) (has_exit r) (filter has_exit (take (suc i) qs)) (filter has_exit (take i qs)) (more qs i r at)
+      where
+        under : (b c : Bool) (l m : List Row) → map prefix_of l ≡ (if c then map prefix_of m ++ r.prefix ∷ [] else map prefix_of m)
+            → map prefix_of (if b then q ∷ l else l) ≡ (if c then map prefix_of (if b then q ∷ m else m) ++ r.prefix ∷ [] else map prefix_of (if b then q ∷ m else m))
+        under true true l m e = ap (λ z. q.prefix ∷ z) e
+        under true false l m e = ap (λ z. q.prefix ∷ z) e
+        under false true l m e = e
+        under false false l m e = e
+
 exits_set : (rows : List Row) (k : ℕ) (r s : Row) → slice_get rows k ≡ Some r → has_exit r ≡ false → has_exit s ≡ false → exits_of (slice_set rows k s) ≡ exits_of rows
 exits_set [] k r s at was is = absurd (none_some r at)
 exits_set (q ∷ qs) zero r s at was is = exits_skip s qs is ∙ sym (exits_skip q qs (ap has_exit (some_is q r at) ∙ was))
@@ -54,6 +76,7 @@ exits_insert (q ∷ qs) zero s le is = exits_skip s (q ∷ qs) is
 exits_insert (q ∷ qs) (suc k) s le is = exits_next q q (insert qs k s) qs refl refl (exits_insert qs k s (omega (arith, le)) is)
 
 exits_zip : (P : Row → Row → Type 0) → ((r s : Row) → P r s → (s.prefix ≡ r.prefix) × (s.marked ≡ r.marked)) → (xs ys : List Row) → AllZip P xs ys → exits_of ys ≡ exits_of xs
+unfolding has_exit
 exits_zip P f [] [] a = refl
 exits_zip P f [] (y ∷ ys) a = absurd a
 exits_zip P f (x ∷ xs) [] a = absurd a
@@ -75,6 +98,7 @@ plain_inside (q ∷ qs) = ap₂ (λ b c. b || c) (aim_inside q.kind) (plain_insi
 -- the rows after a row's list was replaced, a row went or a row came
 pub exits_replaced : (old new : List Row) (lists later : List PathKept) (place : ℕ) (p : Prefix) (id : ℕ) (before after : List Path) (own : Own) → AreReplaced old new lists later place p id before after own
     → (row : Row) → slice_get old place ≡ Some row → has_exit row ≡ false → list_any is_exit own.marked ≡ false → exits_of new ≡ exits_of old
+unfolding has_exit
 exits_replaced old new lists later place p id before after own r row at was is =
     let a = zip_at _ old r.mid place row r.attached at in
     let b = zip_at _ r.mid r.low place a.0 r.detached a.1 in
@@ -83,12 +107,14 @@ exits_replaced old new lists later place p id before after own r row at was is =
 
 pub exits_gone : (old new : List Row) (lists later : List PathKept) (place : ℕ) (p : Prefix) (id : ℕ) (before after : List Path) → IsWithdrawn old new lists later place p id before after
     → (row : Row) → slice_get old place ≡ Some row → has_exit row ≡ false → exits_of new ≡ exits_of old
+unfolding has_exit
 exits_gone old new lists later place p id before after r row at was =
     let a = zip_at _ old r.low place row r.detached at in
     ap exits_of r.set ∙ (exits_remove r.low place a.0 a.1 (ap (list_any is_exit) a.2.0.marked ∙ was) ∙ exits_zip _ (λ x y z. (z.0.prefix, z.0.marked)) old r.low r.detached)
 
 pub exits_came : (old new : List Row) (lists later : List PathKept) (place : ℕ) (p : Prefix) (after : List Path) (own : Own) → IsPlaced old new lists later place p after own → place ≤ length old → list_any is_exit own.marked ≡ false
     → exits_of new ≡ exits_of old
+unfolding has_exit
 exits_came old new lists later place p after own r le is =
     let a = zip_at _ (insert old place (blank_row p own)) r.mid place (blank_row p own) r.attached (inserted_at old place (blank_row p own) le) in
     let inside = ap (list_any is_exit) a.2.0.marked ∙ is in
@@ -127,5 +153,6 @@ marks_exits n [] = refl
 marks_exits n (m ∷ ms) = ap₂ (λ b c. b || c) (mark_exits n m) (marks_exits n ms)
 
 pub exits_renewed : (n : News) (rows : List Row) → exits_of (map (renewed_row n) rows) ≡ exits_of rows
+unfolding has_exit
 exits_renewed n [] = refl
 exits_renewed n (r ∷ rows) = exits_next (renewed_row n r) r (map (renewed_row n) rows) rows (marks_exits n r.marked) refl (exits_renewed n rows)

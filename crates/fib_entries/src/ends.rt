@@ -1,5 +1,5 @@
 // A change of an interface's flag or of a neighbor's MAC, followed in the marks of the rows.
-ghost use Rattle.std.specs.Prelude.{◌≡◌, ◌∷◌, ℕ, [], IsTrue, IsSome, IfOk, OnOk, OnErr, Contains, map, filter, option_copied, find, List as Items};
+ghost use Rattle.std.specs.Prelude.{◌≡◌, ◌∷◌, ◌++◌, ℕ, [], IsTrue, IsSome, IfOk, OnOk, OnErr, Contains, map, filter, option_copied, find, if◌then◌else◌, List as Items};
 ghost use Rattle.fib_addr.specs.Prefixes.{host, Prefix as PrefixValue};
 ghost use Rattle.fib_cover.specs.Covers.{IsAscending};
 ghost use Rattle.fib_interned.specs.Interned.{kept_of};
@@ -214,27 +214,32 @@ fn is_exit(mark: &Marked) -> bool
 }
 
 /// Whether those of a path of the row do.
+#[tactic(auto, unfolding(crate::specs::inner::Ends::has_exit))]
 pub fn has_exit(row: &Row) -> bool
     ensures { result ≡ has_exit row.now }
 {
     row.marked.as_slice().iter().any(|mark| is_exit(mark))
 }
 
-fn exit_prefixes(alloc: Global, rows: &[Row]) -> Result<Vec<Prefix>, AllocError>
-    ensures { IfOk result (λ v. v.items ≡ map prefix_of (filter has_exit rows.now)) }
+/// Appends the row's prefix where that is so.
+fn add_exit(out: &mut List<Prefix>, row: &Row) -> Result<(), AllocError>
+    ensures { OnOk result (out.new ≡ (if has_exit row.now then out.old ++ row.now.prefix ∷ [] else out.old)) }
 {
-    rows.iter()
-        .filter(|row| has_exit(row))
-        .map(|row| row.prefix)
-        .collect(alloc)
+    if has_exit(row) {
+        out.push(row.prefix)?;
+    }
+    Ok(())
 }
 
 /// The prefixes of the rows with a path that leaves by an interface, in order: news of an end is news of these alone.
 pub fn exits_of(alloc: Global, rows: &[Row]) -> Result<List<Prefix>, AllocError>
     ensures { IfOk result (λ l. l ≡ exits_of rows.now) }
 {
-    let exits = exit_prefixes(alloc, rows)?;
-    Ok(List::from_vec(exits))
+    let mut out = List::new(alloc);
+    'rows: for place in 0..rows.len() {
+        add_exit(&mut out, &rows[place])?;
+    }
+    Ok(out)
 }
 
 /// Whether the news makes a mark of the prefix's row another.

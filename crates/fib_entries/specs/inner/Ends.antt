@@ -115,7 +115,7 @@ abbrev pub is_exit : Marked → Bool
 is_exit m = aim_exit m.aim
 
 -- those of a path of the row do
-abbrev pub has_exit : Row → Bool
+unfoldable pub has_exit : Row → Bool
 has_exit r = list_any is_exit r.marked
 
 -- the prefixes of these rows: news of an end makes no mark of another row new

@@ -11,7 +11,7 @@ returns c = λ far r at.
     let again = slice_get_read c.args.rows.now _ c.args.place c.index-rows-place-2.result refl c.requires c.index-rows-place-2.is in
     record {
       none = ap (λ (z : Row). z.dependants) (some_is r c.index-rows-place.result (sym at ∙ read) ∙ c.index-rows-place.is) ∙ c.is_empty.ensures.0 c.if-not-is_empty.false;
-      inside = ap has_exit (some_is r c.index-rows-place-2.result (sym at ∙ again) ∙ c.index-rows-place-2.is) ∙ (sym c.has_exit.ensures ∙ c.if-has_exit.false);
+      inside = ap has_exit (some_is r c.index-rows-place-2.result (sym at ∙ again)) ∙ (sym c.has_exit.ensures ∙ c.if-has_exit.false);
       next = c.is_last_in.ensures c.if-not-is_last_in.false;
       far = c.are_far.ensures far;
     }
