@@ -1,5 +1,5 @@
 -- The rows that news of an end makes others are found among the exits, and renewed one by one.
-use Rattle.std.proofs.Common.{arith, ◌≡◌, ℕ, zero, suc, ◌+◌, Bool, true, false, not, ◌&&◌, ◌||◌, ◌==◌, List, [], ◌∷◌, map, filter, drop, length, Option, Some, None, refl, sym, ◌∙◌, ap, ap₂, subst, slice_get, if◌then◌else◌}
+use Rattle.std.proofs.Common.{arith, ◌≡◌, ℕ, zero, suc, Bool, true, false, not, ◌&&◌, ◌||◌, ◌==◌, List, [], ◌∷◌, map, filter, drop, length, Some, refl, sym, ◌∙◌, ap, ap₂, subst, slice_get, if◌then◌else◌}
 use Rattle.std.specs.Prelude.{Contains, slice_set}
 use Rattle.std.specs.List.{list_any}
 use Rattle.std.specs.List.Sorted.{IsStrictlySortedBy}
@@ -14,7 +14,7 @@ use Rattle.fib_resolve.specs.declared.types.End.TheVariants as answers
 use Rattle.fib_resolve.proofs.Covering.{filter_from}
 use Rattle.fib_changes.proofs.Edits.{in_front, in_rest}
 use Rattle.fib_changes.proofs.SamePairs.{map_from}
-use Rattle.fib_interned.proofs.Finding.{some_is, none_some, contains_at}
+use Rattle.fib_interned.proofs.Finding.{some_is, none_some}
 use Rattle.fib_entries.specs.Known.{prefix_of, row_of}
 use Rattle.fib_entries.specs.declared.ends.News.{News}
 use Rattle.fib_entries.specs.declared.ends.News.TheVariants as news

@@ -1,5 +1,4 @@
-use Rattle.std.proofs.Common.{◌≡◌, List, filter, map, sym, ◌∙◌, ap, subst}
-use Rattle.fib_addr.specs.Prefixes.{Prefix}
+use Rattle.std.proofs.Common.{List, filter, ◌∙◌, ap}
 use Rattle.fib_entries.specs.Known.{row_of}
 use Rattle.fib_entries.specs.declared.rows.Row.{Row}
 use Rattle.fib_entries.specs.inner.Ends.{is_old_in}

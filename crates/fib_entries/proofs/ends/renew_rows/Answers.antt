@@ -1,6 +1,5 @@
-use Rattle.std.proofs.Common.{arith, ◌≡◌, ◌+◌, List, [], ◌∷◌, drop, sym, ◌∙◌, ap, subst}
+use Rattle.std.proofs.Common.{◌≡◌, ◌+◌, [], ◌∷◌, drop, sym, ◌∙◌, ap, subst}
 use Rattle.std.proofs.lemmas.List.{drop_more, drop_all}
-use Rattle.fib_addr.specs.Prefixes.{Prefix}
 use Rattle.fib_entries.specs.inner.Ends.{AreRenewing}
 use Rattle.fib_entries.proofs.EndRows.{renewing_start, renewing_done}
 use Rattle.fib_entries.proofs.ends.renew_rows.Goals as goal
