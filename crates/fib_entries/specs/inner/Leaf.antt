@@ -11,7 +11,7 @@ use Rattle.fib_resolve.specs.declared.types.FibSource.{FibSource}
 use Rattle.fib_resolve.specs.declared.types.Neighbor.{Neighbor}
 use Rattle.fib_resolve.specs.declared.types.Route.{Route}
 use Rattle.fib_resolve.specs.declared.types.Tables.{Tables}
-use Rattle.std.specs.Prelude.{Bool, ◌&&◌, ◌==◌, ◌++◌, ◌-◌, not, flat_map, filter, take, length, slice_get, slice_set, Option, Some, None}
+use Rattle.std.specs.Prelude.{Bool, ◌&&◌, ◌==◌, ◌++◌, ◌-◌, not, flat_map, take, length, slice_get, slice_set, Option, Some, None}
 use Rattle.std.specs.Set.{is_member}
 use Rattle.std.specs.List.{AllZip, list_any, list_all}
 use Rattle.fib_resolve.specs.Keys.{need_rank}
