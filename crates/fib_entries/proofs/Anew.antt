@@ -28,7 +28,7 @@ use Rattle.fib_changes.proofs.SamePairs.{flat_map_from}
 use Rattle.fib_changes.proofs.Targets.{target_entry}
 use Rattle.fib_interned.specs.Interned.{kept_of}
 use Rattle.fib_interned.proofs.Finding.{find_place, none_some, get_push}
-use Rattle.fib_entries.specs.declared.rows.Row.{Row}
+use Rattle.fib_entries.specs.Rows.{Row}
 use Rattle.fib_entries.specs.Known.{PathKept, prefix_of, row_of, rank_of, rank_in, IsRow, StandsFor}
 use Rattle.fib_entries.specs.inner.Building.{has_edge, AreKeptEdges, AreRows, AreTaken, AreHeld, AreAnew}
 

@@ -18,7 +18,7 @@ use Rattle.fib_entries.specs.inner.Fields.{AreCounted, AreFields, AreNamed, coun
 use Rattle.fib_entries.specs.inner.Leaf.{IsButFor, AreAttached, goals_of}
 use Rattle.fib_entries.specs.inner.Plies.{IsGap}
 use Rattle.fib_entries.specs.declared.replace.Own.{Own}
-use Rattle.fib_entries.specs.declared.rows.Row.{Row}
+use Rattle.fib_entries.specs.Rows.{Row}
 use Rattle.fib_entries.proofs.Exits.{exits_came}
 use Rattle.fib_entries.proofs.Linking.{zip_at, zip_from, attached_names, set_names}
 use Rattle.fib_entries.proofs.Listing.{pair_of}

@@ -41,7 +41,7 @@ use Rattle.fib_changes.proofs.Edits.{any_in, in_cases, in_front, in_rest}
 use Rattle.fib_interned.proofs.Finding.{some_is}
 use Rattle.fib_entries.specs.Known.{PathKept, Known, content_of, ArePairs, IsRow, StandsFor, row_of, kind_met}
 use Rattle.fib_entries.specs.inner.Compare.{is_content, is_that, has_that, all_there, AreAlike}
-use Rattle.fib_entries.specs.declared.rows.Row.{Row}
+use Rattle.fib_entries.specs.Rows.{Row}
 use Rattle.fib_entries.proofs.Telling.{from_pair}
 use Rattle.fib_entries.proofs.Taking.{list_is, list_self}
 use Rattle.fib_entries.proofs.Standing.{row_there, row_entry, no_entry}

@@ -18,7 +18,7 @@ use Rattle.fib_interned.proofs.Finding.{some_is, none_some}
 use Rattle.fib_entries.specs.Known.{prefix_of, row_of}
 use Rattle.fib_entries.specs.declared.ends.News.{News}
 use Rattle.fib_entries.specs.declared.ends.News.TheVariants as news
-use Rattle.fib_entries.specs.declared.rows.Row.{Row}
+use Rattle.fib_entries.specs.Rows.{Row}
 use Rattle.fib_entries.specs.inner.Ends.{aim_over, aim_at, has_flag, has_mac, with_counts, with_aim, is_exit, has_exit, exits_of, renewed, is_old, is_old_row, is_old_in, renewed_row, AreRenewing}
 use Rattle.fib_entries.proofs.Exits.{over_exits, at_exits}
 use Rattle.fib_entries.proofs.LeafRows.{row_by}

@@ -16,7 +16,7 @@ use Rattle.fib_entries.specs.Known.{PathKept, prefix_of}
 use Rattle.fib_entries.specs.declared.ends.News.{News}
 use Rattle.fib_entries.specs.declared.ends.News.TheVariants as news
 use Rattle.fib_entries.specs.declared.replace.Own.{Own}
-use Rattle.fib_entries.specs.declared.rows.Row.{Row}
+use Rattle.fib_entries.specs.Rows.{Row}
 use Rattle.fib_entries.specs.inner.Coming.{IsPlaced, blank_row, with_pairs}
 use Rattle.fib_entries.specs.inner.Ends.{aim_over, aim_at, aim_exit, is_exit, has_exit, exits_of, renewed, renewed_row, with_counts, with_aim}
 use Rattle.fib_entries.specs.inner.Going.{IsWithdrawn}

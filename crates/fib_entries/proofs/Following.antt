@@ -21,7 +21,7 @@ use Rattle.fib_interned.proofs.Finding.{some_is, contains_at}
 use Rattle.fib_entries.specs.Known.{PathKept, Known, content_of, rank_of, rank_in, StandsFor}
 use Rattle.fib_entries.specs.Changes.{AreTouched, AreMoved}
 use Rattle.fib_entries.specs.inner.Leaf.{IsReady, IsReplaced, AreReplaced, IsChanged, IsFollowed, goals_of, own_row, plain_own, moved_at}
-use Rattle.fib_entries.specs.declared.rows.Row.{Row}
+use Rattle.fib_entries.specs.Rows.{Row}
 use Rattle.fib_entries.specs.declared.changes.Followed.{Followed}
 use Rattle.fib_entries.proofs.Exits.{exits_replaced, plain_inside}
 use Rattle.fib_entries.proofs.LeafRows.{row_by, stands_leaf, touched_leaf, moved_leaf, still_leaf}

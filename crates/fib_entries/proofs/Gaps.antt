@@ -12,7 +12,7 @@ use Rattle.fib_cover.proofs.Order.{prefix_total}
 use Rattle.fib_interned.proofs.Finding.{some_is, none_some}
 use Rattle.fib_entries.specs.Known.{prefix_of}
 use Rattle.fib_entries.specs.inner.Plies.{IsGap}
-use Rattle.fib_entries.specs.declared.rows.Row.{Row}
+use Rattle.fib_entries.specs.Rows.{Row}
 use Rattle.fib_entries.proofs.Looking.{rising, holds_there}
 use Rattle.fib_entries.proofs.Placing.{length_map, insert_back}
 

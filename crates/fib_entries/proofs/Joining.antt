@@ -35,7 +35,7 @@ use Rattle.fib_entries.specs.inner.Fields.{AreCounted, AreFields}
 use Rattle.fib_entries.specs.inner.Leaf.{IsLeafEdit, IsFollowed, IsButFor, goals_of, is_plain, plain_kind, plain_mark, plain_own, moved_at}
 use Rattle.fib_entries.specs.inner.Plies.{own_size, entry_at, entry_before, before_of, IsGap}
 use Rattle.fib_entries.specs.declared.changes.Followed.{Followed}
-use Rattle.fib_entries.specs.declared.rows.Row.{Row}
+use Rattle.fib_entries.specs.Rows.{Row}
 use Rattle.fib_entries.proofs.Arriving.{mid_own, with_it, there_came, row_from, ordered_came, fields_came, set_back}
 use Rattle.fib_entries.proofs.Gaps.{map_at}
 use Rattle.fib_entries.proofs.Growing.{IsGrown, size_more}

@@ -34,7 +34,7 @@ use Rattle.std.specs.Cmp.Lexicographic.{pointwise}
 use Rattle.fib_resolve.specs.Keys.{same_path}
 use Rattle.fib_resolve.proofs.Entries.{is_entry}
 use Rattle.fib_entries.specs.inner.Leaf.{IsLeafEdit, IsButFor, AreRelinked}
-use Rattle.fib_entries.specs.declared.rows.Row.{Row}
+use Rattle.fib_entries.specs.Rows.{Row}
 use Rattle.fib_entries.proofs.Comparing.{looped_kept, met_kept}
 use Rattle.fib_entries.proofs.Counting.{counts_some}
 use Rattle.fib_entries.proofs.Leafing.{entry_of_pair, same_entry, untouched, targets_same, is_not, leaf_after}

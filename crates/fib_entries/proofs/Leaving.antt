@@ -29,7 +29,7 @@ use Rattle.fib_entries.specs.inner.Going.{IsLeaving, IsWithdrawn, HasLeft}
 use Rattle.fib_entries.specs.inner.Leaf.{IsLeafEdit, IsFollowed, IsButFor, goals_of, is_plain, moved_at}
 use Rattle.fib_entries.specs.inner.Plies.{own_size, entry_at, entry_before, before_of, IsGap}
 use Rattle.fib_entries.specs.declared.changes.Followed.{Followed}
-use Rattle.fib_entries.specs.declared.rows.Row.{Row}
+use Rattle.fib_entries.specs.Rows.{Row}
 use Rattle.fib_entries.proofs.Growing.{IsGrown, size_more}
 use Rattle.fib_entries.proofs.LeafRows.{IsLeafMade, row_by, no_row, entry_same, entry_own, entry_was, stands_leaf, touched_leaf, moved_leaf, still_leaf}
 use Rattle.fib_entries.proofs.LeafSizes.{plain_targets}

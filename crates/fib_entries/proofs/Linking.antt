@@ -21,7 +21,7 @@ use Rattle.fib_interned.proofs.Finding.{some_is, none_some, get_set_there}
 use Rattle.std.specs.Prelude.{IsSome}
 use Rattle.fib_interned.specs.Interned.{Takes, kept_of}
 use Rattle.fib_entries.specs.Known.{PathKept, prefix_of, row_of}
-use Rattle.fib_entries.specs.declared.rows.Row.{Row}
+use Rattle.fib_entries.specs.Rows.{Row}
 use Rattle.fib_entries.specs.inner.Dependants.{IsWithout}
 use Rattle.fib_entries.specs.inner.Leaf.{IsButFor, AreAttached, AreDetached, pushed, popped, with_dependants, goal_of, goals_of, IsLinked, IsToLink, IsToUnlink, IsUnlinked}
 use Rattle.fib_entries.proofs.Looking.{one_place}

@@ -14,7 +14,7 @@ use Rattle.fib_resolve.proofs.Covering.{filter_from}
 use Rattle.fib_changes.proofs.Edits.{in_cases}
 use Rattle.fib_changes.proofs.SamePairs.{map_in, map_from, flat_map_from}
 use Rattle.fib_interned.proofs.Finding.{some_is, none_some}
-use Rattle.fib_entries.specs.declared.rows.Row.{Row}
+use Rattle.fib_entries.specs.Rows.{Row}
 use Rattle.fib_entries.specs.declared.changes.Moved.{Moved}
 use Rattle.fib_entries.specs.Known.{prefix_of, row_of, rank_of, rank_in}
 use Rattle.fib_entries.specs.Changes.{AreMoved, prefix_moved}

@@ -19,7 +19,7 @@ use Rattle.fib_entries.specs.Known.{PathKept, Known, content_of, prefix_of, IsHe
 use Rattle.fib_entries.specs.inner.Building.{AreHeld}
 use Rattle.fib_entries.specs.inner.Fields.{AreCounted, AreNamed, count_in}
 use Rattle.fib_entries.specs.inner.Leaf.{AreReplaced, goals_of, settled}
-use Rattle.fib_entries.specs.declared.rows.Row.{Row}
+use Rattle.fib_entries.specs.Rows.{Row}
 use Rattle.fib_entries.specs.declared.replace.Own.{Own}
 use Rattle.fib_entries.proofs.Counting.{without, counted_in, kept_in, counts_some}
 use Rattle.fib_entries.proofs.Linking.{zip_at, zip_from, attached_names, detached_names, set_names}

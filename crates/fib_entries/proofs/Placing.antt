@@ -18,7 +18,7 @@ use Rattle.fib_interned.specs.Interned.{kept_of}
 use Rattle.fib_resolve.specs.declared.types.Path.{Path}
 use Rattle.fib_entries.specs.Known.{PathKept, content_of, prefix_of}
 use Rattle.fib_entries.specs.inner.Plies.{own_size, entry_at, entry_before, before_of, IsGap}
-use Rattle.fib_entries.specs.declared.rows.Row.{Row}
+use Rattle.fib_entries.specs.Rows.{Row}
 use Rattle.fib_entries.proofs.Looking.{never}
 use Rattle.fib_entries.proofs.PlyOrder.{index_of, ordered_at}
 

@@ -36,7 +36,7 @@ use Rattle.fib_changes.proofs.SamePairs.{map_from, from_origin, base}
 use Rattle.fib_interned.proofs.Finding.{some_is, none_some, contains_at}
 use Rattle.fib_entries.specs.Known.{Known, content_of, prefix_of, row_of, ArePairs, IsRow, StandsFor}
 use Rattle.fib_entries.specs.inner.Leaf.{IsLeafEdit, IsReady, has_other, shared_kind, shared_path}
-use Rattle.fib_entries.specs.declared.rows.Row.{Row}
+use Rattle.fib_entries.specs.Rows.{Row}
 use Rattle.fib_entries.proofs.Leafing.{from_route}
 use Rattle.fib_entries.proofs.Listing.{listed_route, source_of_route, own_list, own_some, OwnPairs}
 use Rattle.fib_entries.proofs.Standing.{row_there}

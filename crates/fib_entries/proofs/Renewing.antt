@@ -29,7 +29,7 @@ use Rattle.fib_changes.proofs.SamePairs.{map_from}
 use Rattle.fib_interned.proofs.Finding.{some_is, none_some}
 use Rattle.fib_entries.specs.Known.{PathKept, Known, prefix_of, rank_of, ArePairs, IsRow, StandsFor, kind_met}
 use Rattle.fib_entries.specs.Changes.{AreTouched, AreMoved}
-use Rattle.fib_entries.specs.declared.rows.Row.{Row}
+use Rattle.fib_entries.specs.Rows.{Row}
 use Rattle.fib_entries.specs.declared.changes.Followed.{Followed}
 use Rattle.fib_entries.specs.inner.Fields.{AreFields}
 use Rattle.fib_entries.specs.declared.ends.News.{News}

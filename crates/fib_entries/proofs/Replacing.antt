@@ -34,7 +34,7 @@ use Rattle.fib_interned.proofs.Finding.{none_some, contains_at}
 use Rattle.fib_entries.specs.Known.{Known, content_of, prefix_of, rank_of, rank_in, IsRow, StandsFor, holders, kind_met}
 use Rattle.fib_entries.specs.inner.Fields.{AreCounted}
 use Rattle.fib_entries.specs.inner.Leaf.{IsLeafEdit, IsReady, IsReplaced, IsButFor, goals_of, goal_of, is_plain, plain_kind, plain_mark, plain_aim, plain_counts, own_row}
-use Rattle.fib_entries.specs.declared.rows.Row.{Row}
+use Rattle.fib_entries.specs.Rows.{Row}
 use Rattle.fib_entries.proofs.Counting.{counts_have, counts_some}
 use Rattle.fib_entries.proofs.Leafing.{unlooped, leaf_after, entry_of_pair}
 use Rattle.fib_entries.proofs.LeafRows.{IsLeafMade, row_by}

@@ -23,7 +23,7 @@ use Rattle.fib_changes.proofs.Edits.{in_cases, in_front}
 use Rattle.fib_interned.proofs.Finding.{some_is, none_some}
 use Rattle.fib_entries.specs.Known.{Known, row_of, StandsFor}
 use Rattle.fib_entries.specs.inner.Leaf.{has_other, shared_kind, shared_path}
-use Rattle.fib_entries.specs.declared.rows.Row.{Row}
+use Rattle.fib_entries.specs.Rows.{Row}
 use Rattle.fib_entries.proofs.Listing.{listed_route}
 use Rattle.fib_entries.proofs.Standing.{row_there}
 

@@ -25,7 +25,7 @@ use Rattle.fib_changes.proofs.Edits.{any_in, in_cases}
 use Rattle.fib_changes.proofs.Targets.{pair_entry, target_entry}
 use Rattle.fib_changes.proofs.SamePairs.{map_in, map_from, flat_map_from}
 use Rattle.fib_interned.proofs.Finding.{find_place, contains_at, none_some}
-use Rattle.fib_entries.specs.declared.rows.Row.{Row}
+use Rattle.fib_entries.specs.Rows.{Row}
 use Rattle.fib_entries.specs.Known.{Known, content_of, prefix_of, row_of, AreBestFirst, ArePairs, StandsFor, chosen_of}
 
 some_is : {X : Type 0} (x y : X) → Some x ≡ Some y → x ≡ y

@@ -17,7 +17,7 @@ use Rattle.fib_resolve.proofs.TouchedEntries.{touched_effective}
 use Rattle.fib_changes.proofs.Edits.{in_front, in_rest}
 use Rattle.fib_changes.proofs.SamePairs.{map_in, map_from}
 use Rattle.fib_interned.proofs.Finding.{some_is, none_some}
-use Rattle.fib_entries.specs.declared.rows.Row.{Row}
+use Rattle.fib_entries.specs.Rows.{Row}
 use Rattle.fib_entries.specs.Known.{Known, StandsFor, prefix_of, row_of}
 use Rattle.fib_entries.specs.Changes.{AreTouched}
 use Rattle.fib_entries.specs.inner.Compare.{is_new}

@@ -17,7 +17,7 @@ use Rattle.fib_entries.specs.inner.Ends.{has_exit, exits_of}
 use Rattle.fib_entries.specs.inner.Fields.{AreFields, AreNamed, count_in}
 use Rattle.fib_entries.specs.inner.Going.{IsWithdrawn}
 use Rattle.fib_entries.specs.inner.Leaf.{IsButFor, goals_of}
-use Rattle.fib_entries.specs.declared.rows.Row.{Row}
+use Rattle.fib_entries.specs.Rows.{Row}
 use Rattle.fib_entries.proofs.Counting.{without, counted_in, kept_in, counts_some}
 use Rattle.fib_entries.proofs.Exits.{exits_gone}
 use Rattle.fib_entries.proofs.Linking.{zip_at, zip_from, detached_names}

@@ -14,7 +14,7 @@ use Rattle.fib_resolve.proofs.Entries.{chosen-no_entry}
 use Rattle.fib_changes.specs.Ranks.{is_aimed_at, wakes}
 use Rattle.fib_entries.specs.Known.{Known, StandsFor, row_of}
 use Rattle.fib_entries.specs.inner.Waking.{aims_at}
-use Rattle.fib_entries.specs.declared.rows.Row.{Row}
+use Rattle.fib_entries.specs.Rows.{Row}
 use Rattle.fib_entries.proofs.Standing.{row_there, no_entry, marked_at}
 
 or_none : (b : Bool) → (b || false) ≡ b

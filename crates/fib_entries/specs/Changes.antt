@@ -5,7 +5,7 @@ use Rattle.fib_addr.specs.Prefixes.{Prefix}
 use Rattle.fib_resolve.specs.Touched.{is_touched}
 use Rattle.fib_resolve.specs.declared.types.Tables.{Tables}
 use Rattle.fib_entries.specs.Known.{rank_of}
-use Rattle.fib_entries.specs.declared.rows.Row.{Row}
+use Rattle.fib_entries.specs.Rows.{Row}
 use Rattle.fib_entries.specs.declared.changes.Moved.{Moved}
 use Rattle.fib_entries.specs.declared.changes.FollowError.{FollowError}
 use Rattle.fib_entries.specs.declared.changes.FollowError.TheVariants as errors

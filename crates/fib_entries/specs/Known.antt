@@ -21,7 +21,7 @@ use Rattle.fib_resolve.specs.declared.types.FibSource.{FibSource}
 use Rattle.fib_resolve.specs.declared.types.Tables.{Tables}
 use Rattle.fib_changes.specs.Ranks.{Falls, has_entry}
 use Rattle.fib_interned.specs.Interned.{Kept, kept_of}
-use Rattle.fib_entries.specs.declared.rows.Row.{Row}
+use Rattle.fib_entries.specs.Rows.{Row}
 
 abbrev pub PathKept : Type 0
 PathKept = Kept (List Path)

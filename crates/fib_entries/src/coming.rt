@@ -6,7 +6,7 @@ ghost use Rattle.fib_cover.specs.Covers.{IsAscending};
 ghost use Rattle.fib_paths.specs.PathLists.{IsUsedLess};
 ghost use Rattle.fib_resolve.specs.Edits.{paths_at};
 ghost use Rattle.fib_entries.specs.Known.{prefix_of};
-ghost use Rattle.fib_entries.specs.declared.rows.Row.{Row as RowValue};
+ghost use Rattle.fib_entries.specs.Rows.{Row as RowValue};
 ghost use Rattle.fib_entries.specs.inner.Coming.{IsArriving, IsPlaced, HasCome, blank_row, with_pairs};
 ghost use Rattle.fib_entries.specs.inner.Plies.{IsGap};
 

@@ -7,7 +7,7 @@ ghost use Rattle.fib_resolve.specs.Forwarding.{is_up};
 ghost use Rattle.fib_resolve.specs.declared.types.FibSource.{FibSource as FibSourceValue};
 ghost use Rattle.fib_resolve.specs.Resolution.{is_neighbor, mac_of};
 ghost use Rattle.fib_entries.specs.Known.{prefix_of, row_of};
-ghost use Rattle.fib_entries.specs.declared.rows.Row.{Row as RowValue};
+ghost use Rattle.fib_entries.specs.Rows.{Row as RowValue};
 ghost use Rattle.fib_entries.specs.inner.Building.{AreHeld};
 ghost use Rattle.fib_entries.specs.inner.Compare.{AreKept};
 ghost use Rattle.fib_entries.specs.inner.Ends.{aim_over, aim_at, is_mac, has_flag, has_mac, renewed, is_exit, has_exit, exits_of, is_old, is_old_row, is_old_in, renewed_row, AreRenewing, IsLink, IsNear};

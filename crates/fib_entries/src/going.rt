@@ -6,7 +6,7 @@ ghost use Rattle.fib_interned.specs.Interned.{kept_of};
 ghost use Rattle.fib_resolve.specs.Edits.{paths_at};
 ghost use Rattle.fib_resolve.specs.declared.types.Path.{Path as PathValue};
 ghost use Rattle.fib_entries.specs.Known.{content_of, prefix_of};
-ghost use Rattle.fib_entries.specs.declared.rows.Row.{Row as RowValue};
+ghost use Rattle.fib_entries.specs.Rows.{Row as RowValue};
 ghost use Rattle.fib_entries.specs.inner.Building.{AreHeld};
 ghost use Rattle.fib_entries.specs.inner.Going.{IsLeaving, IsWithdrawn, HasLeft};
 ghost use Rattle.fib_entries.specs.inner.Plies.{own_size, entry_at, entry_before};

@@ -7,7 +7,7 @@ ghost use Rattle.fib_addr.specs.Prefixes.{Prefix as PrefixValue, IsPrefix, conta
 ghost use Rattle.fib_cover.specs.Covers.{IsAscending};
 ghost use Rattle.fib_resolve.specs.Edits.{paths_at};
 ghost use Rattle.fib_resolve.specs.Keys.{source_rank};
-ghost use Rattle.fib_entries.specs.declared.rows.Row.{Row as RowValue};
+ghost use Rattle.fib_entries.specs.Rows.{Row as RowValue};
 ghost use Rattle.fib_resolve.specs.declared.types.Neighbor.{Neighbor as NeighborValue};
 ghost use Rattle.fib_entries.specs.Known.{prefix_of, row_of, rank_of};
 ghost use Rattle.fib_entries.specs.inner.Leaf.{is_plain, plain_aim, plain_mark, goal_of, goals_of, has_other, shared_kind, shared_path, IsLeaf, IsLeafAt, IsReady};

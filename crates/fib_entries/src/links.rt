@@ -7,7 +7,7 @@ ghost use Rattle.fib_cover.specs.Covers.{IsAscending};
 ghost use Rattle.fib_interned.specs.Interned.{AreInterned, Takes};
 ghost use Rattle.fib_paths.specs.PathLists.{IsUsedLess};
 ghost use Rattle.fib_entries.specs.Known.{prefix_of, row_of};
-ghost use Rattle.fib_entries.specs.declared.rows.Row.{Row as RowValue};
+ghost use Rattle.fib_entries.specs.Rows.{Row as RowValue};
 ghost use Rattle.fib_entries.specs.inner.Leaf.{goal_of, goals_of, pushed, popped, AreAttached, AreDetached, IsLinked, IsToLink, IsToUnlink, IsUnlinked};
 
 use crate::look::{is_same, place_of};

@@ -15,7 +15,7 @@ use Rattle.fib_resolve.specs.declared.types.Tables.{Tables}
 use Rattle.fib_changes.specs.Ranks.{wakes, Falls}
 use Rattle.fib_interned.specs.Interned.{kept_of}
 use Rattle.fib_entries.specs.Known.{PathKept, content_of, AreBestFirst, IsRow, rank_of}
-use Rattle.fib_entries.specs.declared.rows.Row.{Row}
+use Rattle.fib_entries.specs.Rows.{Row}
 use Rattle.fib_entries.specs.declared.parts.Parts.{Parts}
 
 -- each list that a row names is kept

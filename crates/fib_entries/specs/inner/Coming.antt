@@ -13,7 +13,7 @@ use Rattle.fib_entries.specs.Known.{PathKept, prefix_of}
 use Rattle.fib_entries.specs.inner.Leaf.{AreAttached, goals_of, is_plain, plain_own, shared_path, moved_at}
 use Rattle.fib_entries.specs.inner.Plies.{IsGap}
 use Rattle.fib_entries.specs.declared.replace.Own.{Own}
-use Rattle.fib_entries.specs.declared.rows.Row.{Row}
+use Rattle.fib_entries.specs.Rows.{Row}
 use Rattle.fib_entries.specs.declared.changes.Followed.{Followed}
 
 -- the prefix has no row and belongs at that place, and its route is there and suits

@@ -25,7 +25,7 @@ use Rattle.fib_changes.specs.Sources.{HasNeighbor}
 use Rattle.fib_entries.specs.Known.{Known, PathKept, content_of, prefix_of}
 use Rattle.fib_entries.specs.declared.ends.News.{News}
 use Rattle.fib_entries.specs.declared.ends.News.TheVariants as news
-use Rattle.fib_entries.specs.declared.rows.Row.{Row}
+use Rattle.fib_entries.specs.Rows.{Row}
 
 -- flags and MACs alone can differ
 pub record IsEndEdit (S T : Tables) : Type 0 where

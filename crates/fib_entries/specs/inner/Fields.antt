@@ -11,7 +11,7 @@ use Rattle.fib_resolve.specs.declared.types.FibSource.{FibSource}
 use Rattle.fib_interned.specs.Interned.{AreInterned}
 use Rattle.fib_entries.specs.inner.Building.{AreHeld}
 use Rattle.fib_entries.specs.inner.Ends.{exits_of}
-use Rattle.fib_entries.specs.declared.rows.Row.{Row}
+use Rattle.fib_entries.specs.Rows.{Row}
 
 -- the users of each kept list are as many as the count says, and each list that has some is kept
 pub record AreCounted (lists : List PathKept) (f : List Path → ℕ) : Type 0 where

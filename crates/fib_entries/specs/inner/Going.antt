@@ -12,7 +12,7 @@ use Rattle.fib_resolve.specs.declared.types.Tables.{Tables}
 use Rattle.fib_entries.specs.Known.{PathKept, content_of}
 use Rattle.fib_entries.specs.inner.Ends.{has_exit}
 use Rattle.fib_entries.specs.inner.Leaf.{AreDetached, goals_of, is_plain, shared_path, moved_at}
-use Rattle.fib_entries.specs.declared.rows.Row.{Row}
+use Rattle.fib_entries.specs.Rows.{Row}
 use Rattle.fib_entries.specs.declared.changes.Followed.{Followed}
 
 -- the row at that place is a leaf's, with the one list of that source, and the route is gone

@@ -30,7 +30,7 @@ use Rattle.fib_interned.specs.Interned.{AreInterned, Takes, Gives}
 use Rattle.fib_resolve.specs.Edits.{paths_at}
 use Rattle.fib_entries.specs.inner.Dependants.{IsWithout}
 use Rattle.fib_entries.specs.inner.Ends.{has_exit}
-use Rattle.fib_entries.specs.declared.rows.Row.{Row}
+use Rattle.fib_entries.specs.Rows.{Row}
 use Rattle.fib_entries.specs.declared.replace.Own.{Own}
 use Rattle.fib_entries.specs.declared.changes.Moved.{Moved}
 use Rattle.fib_entries.specs.declared.changes.Followed.{Followed}

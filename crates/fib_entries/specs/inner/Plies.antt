@@ -4,7 +4,7 @@ use Rattle.std.specs.declared.cmp.Ordering.TheVariants.{Less}
 use Rattle.fib_addr.specs.Prefixes.{Prefix, masked, same_prefix}
 use Rattle.fib_cover.specs.Covers.{prefix_cmp}
 use Rattle.fib_entries.specs.Known.{prefix_of}
-use Rattle.fib_entries.specs.declared.rows.Row.{Row}
+use Rattle.fib_entries.specs.Rows.{Row}
 
 -- the ply at that depth on the way to the first is on the way to the second too
 abbrev pub is_on_way : Prefix → ℕ → Option Prefix → Bool

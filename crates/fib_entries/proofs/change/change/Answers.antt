@@ -1,6 +1,6 @@
 use Rattle.std.proofs.Common.{◌≡◌, List, Some, ℕ, sym, ap, ◌∙◌, subst, slice_get}
 use Rattle.fib_resolve.specs.declared.types.Path.{Path}
-use Rattle.fib_entries.specs.declared.rows.Row.{Row}
+use Rattle.fib_entries.specs.Rows.{Row}
 use Rattle.fib_entries.specs.declared.replace.Own.{Own}
 use Rattle.fib_entries.specs.inner.Leaf.{AreReplaced, moved_at, plain_own}
 use Rattle.fib_entries.proofs.change.change.Goals as goal

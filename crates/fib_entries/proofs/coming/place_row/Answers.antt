@@ -4,7 +4,7 @@ use Rattle.std.specs.List.{insert}
 use Rattle.fib_cover.specs.Covers.{IsAscending}
 use Rattle.fib_resolve.specs.declared.types.FibSource.{FibSource}
 use Rattle.fib_entries.specs.Known.{prefix_of}
-use Rattle.fib_entries.specs.declared.rows.Row.{Row}
+use Rattle.fib_entries.specs.Rows.{Row}
 use Rattle.fib_entries.specs.inner.Coming.{blank_row, with_pairs}
 use Rattle.fib_entries.specs.inner.Leaf.{AreAttached, goals_of}
 use Rattle.fib_entries.proofs.Arriving.{ordered_with, came_inside}

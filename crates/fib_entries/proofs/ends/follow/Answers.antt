@@ -1,6 +1,6 @@
 use Rattle.std.proofs.Common.{List, filter, ◌∙◌, ap}
 use Rattle.fib_entries.specs.Known.{row_of}
-use Rattle.fib_entries.specs.declared.rows.Row.{Row}
+use Rattle.fib_entries.specs.Rows.{Row}
 use Rattle.fib_entries.specs.inner.Ends.{is_old_in}
 use Rattle.fib_entries.proofs.EndRows.{old_found}
 use Rattle.fib_entries.proofs.ends.follow.Goals as goal

@@ -3,7 +3,7 @@ use Rattle.std.specs.Prelude.{slice_set}
 use Rattle.std.proofs.lemmas.Option.{slice_get_read}
 use Rattle.fib_interned.proofs.Finding.{some_is, none_some}
 use Rattle.fib_entries.specs.Known.{row_of}
-use Rattle.fib_entries.specs.declared.rows.Row.{Row}
+use Rattle.fib_entries.specs.Rows.{Row}
 use Rattle.fib_entries.specs.inner.Ends.{renewed_row, AreRenewing}
 use Rattle.fib_entries.proofs.EndRows.{renewing_row, renewing_next}
 use Rattle.fib_entries.proofs.ends.renew_at.Goals as goal

@@ -1,4 +1,4 @@
-use Rattle.fib_entries.specs.declared.rows.Row.{Row}
+use Rattle.fib_entries.specs.Rows.{Row}
 use Rattle.std.proofs.Common.{◌≡◌, Bor, Option, Some, None, sym, ◌∙◌, subst, refl, ◌↔◌}
 use Rattle.std.specs.Prelude.{IsTrue, option_copied, is_some}
 use Rattle.fib_entries.specs.inner.Compare.{AreAlike}

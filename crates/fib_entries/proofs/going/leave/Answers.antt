@@ -1,5 +1,5 @@
 use Rattle.std.proofs.Common.{◌≡◌, List, Some, ℕ, sym, ap, ◌∙◌, subst, slice_get}
-use Rattle.fib_entries.specs.declared.rows.Row.{Row}
+use Rattle.fib_entries.specs.Rows.{Row}
 use Rattle.fib_entries.specs.inner.Leaf.{moved_at}
 use Rattle.fib_entries.proofs.Placing.{some_list}
 use Rattle.fib_entries.proofs.going.leave.Goals as goal

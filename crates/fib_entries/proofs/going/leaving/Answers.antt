@@ -4,7 +4,7 @@ use Rattle.std.proofs.lemmas.Option.{slice_get_read}
 use Rattle.fib_changes.proofs.Edits.{in_front}
 use Rattle.fib_interned.proofs.Finding.{some_is, contains_at}
 use Rattle.fib_resolve.specs.declared.types.FibSource.{FibSource}
-use Rattle.fib_entries.specs.declared.rows.Row.{Row}
+use Rattle.fib_entries.specs.Rows.{Row}
 use Rattle.fib_entries.specs.inner.Leaf.{IsLeafAt}
 use Rattle.fib_entries.proofs.going.leaving.Goals as goal
 

@@ -7,7 +7,7 @@ use Rattle.fib_changes.proofs.Edits.{in_front}
 use Rattle.fib_interned.proofs.Finding.{some_is, contains_at}
 use Rattle.fib_resolve.specs.declared.types.FibSource.{FibSource}
 use Rattle.fib_resolve.specs.declared.types.Path.{Path}
-use Rattle.fib_entries.specs.declared.rows.Row.{Row}
+use Rattle.fib_entries.specs.Rows.{Row}
 use Rattle.fib_entries.specs.inner.Leaf.{IsLeafAt, is_plain, shared_path}
 use Rattle.fib_entries.proofs.leaf.ready.Goals as goal
 

@@ -4,7 +4,7 @@ use Rattle.fib_resolve.specs.declared.types.Path.{Path}
 use Rattle.fib_resolve.specs.declared.types.Tables.{Tables}
 use Rattle.fib_changes.specs.Differ.{Differ}
 use Rattle.fib_changes.specs.declared.change.Change.TheVariants as changes
-use Rattle.fib_entries.specs.declared.rows.Row.{Row}
+use Rattle.fib_entries.specs.Rows.{Row}
 use Rattle.fib_entries.specs.Known.{Known, StandsFor, rank_of}
 use Rattle.fib_entries.specs.inner.Coming.{IsArriving, HasCome}
 use Rattle.fib_entries.specs.inner.Leaf.{IsFollowed, goals_of}

@@ -1,7 +1,7 @@
 use Rattle.std.proofs.Common.{arith, ◌≤◌, List, ◌∷◌, [], sym, subst}
 use Rattle.fib_resolve.specs.declared.types.Tables.{Tables}
 use Rattle.fib_changes.specs.Differ.{Differ}
-use Rattle.fib_entries.specs.declared.rows.Row.{Row}
+use Rattle.fib_entries.specs.Rows.{Row}
 use Rattle.fib_entries.specs.Known.{Known, StandsFor}
 use Rattle.fib_entries.specs.inner.Ends.{IsNews}
 use Rattle.fib_entries.specs.inner.Fields.{AreFields}

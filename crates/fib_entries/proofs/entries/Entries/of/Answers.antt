@@ -7,7 +7,7 @@ use Rattle.fib_resolve.specs.Sizes.{size}
 use Rattle.fib_resolve.specs.Tables.{IsSound}
 use Rattle.fib_resolve.specs.declared.pairs.Pair.{Pair}
 use Rattle.fib_resolve.specs.declared.types.Tables.{Tables}
-use Rattle.fib_entries.specs.declared.rows.Row.{Row}
+use Rattle.fib_entries.specs.Rows.{Row}
 use Rattle.fib_entries.specs.Known.{PathKept, StandsFor}
 use Rattle.fib_entries.specs.inner.Building.{AreTaken, AreAnew}
 use Rattle.fib_entries.specs.inner.Ends.{exits_of}

@@ -1,7 +1,7 @@
 use Rattle.std.proofs.Common.{◌≡◌, List, Option, Some, None, Bor, sym, ap, ◌∙◌, subst}
 use Rattle.std.specs.Prelude.{IfSome, option_copied}
 use Rattle.fib_addr.specs.Prefixes.{Prefix}
-use Rattle.fib_entries.specs.declared.rows.Row.{Row}
+use Rattle.fib_entries.specs.Rows.{Row}
 use Rattle.fib_entries.specs.Known.{PathKept, Known, row_of}
 use Rattle.fib_entries.specs.inner.Building.{AreHeld}
 use Rattle.fib_entries.specs.inner.Compare.{AreKept}
