@@ -1,7 +1,7 @@
 -- Rows after a leaf's row came, and what they name.
-use Rattle.std.proofs.Common.{arith, ◌≡◌, ◌≢◌, ℕ, ◌+◌, ◌<◌, ◌≤◌, List, [], ◌∷◌, map, length, Some, ◌⊎◌, inl, inr, refl, sym, ◌∙◌, ap, subst, slice_get, ◌↔◌}
+use Rattle.std.proofs.Common.{arith, ◌≡◌, ◌≢◌, ℕ, ◌+◌, ◌<◌, ◌≤◌, false, List, [], ◌∷◌, map, length, Some, ◌⊎◌, inl, inr, refl, sym, ◌∙◌, ap, subst, slice_get, ◌↔◌}
 use Rattle.std.specs.Prelude.{Contains, slice_set}
-use Rattle.std.specs.List.{insert}
+use Rattle.std.specs.List.{insert, list_any}
 use Rattle.std.proofs.lemmas.Option.{slice_get_within}
 use Rattle.fib_list.proofs.Lists.{Contains-nil}
 use Rattle.fib_addr.specs.Prefixes.{Prefix}
@@ -13,11 +13,13 @@ use Rattle.fib_changes.proofs.Edits.{in_cases, in_front, in_rest}
 use Rattle.fib_interned.proofs.Finding.{contains_at, get_set_there}
 use Rattle.fib_entries.specs.Known.{PathKept, content_of, prefix_of, IsHeld}
 use Rattle.fib_entries.specs.inner.Coming.{IsPlaced, blank_row, with_pairs}
+use Rattle.fib_entries.specs.inner.Ends.{is_exit, exits_of}
 use Rattle.fib_entries.specs.inner.Fields.{AreCounted, AreFields, AreNamed, count_in}
 use Rattle.fib_entries.specs.inner.Leaf.{IsButFor, AreAttached, goals_of}
 use Rattle.fib_entries.specs.inner.Plies.{IsGap}
 use Rattle.fib_entries.specs.declared.replace.Own.{Own}
 use Rattle.fib_entries.specs.Rows.{Row}
+use Rattle.fib_entries.proofs.Exits.{exits_came}
 use Rattle.fib_entries.proofs.Linking.{zip_at, zip_from, attached_names, set_names}
 use Rattle.fib_entries.proofs.Listing.{pair_of}
 use Rattle.fib_entries.proofs.Looking.{one_place}
@@ -109,8 +111,8 @@ module _ (old new : List Row) (lists later : List PathKept) (place : ℕ) (p : P
     named_came = record { pairs = pair_of p own.source after ∷ n.pairs; counted = counted; each = named_each }
 
     -- the fields still fit together
-    pub fields_came : (set : List Prefix) → IsAscending set → ((e : Prefix) → Contains set e ↔ Contains (map prefix_of old) e ⊎ (e ≡ p)) → AreFields new later set
-    fields_came set set_asc members = record {
+    pub fields_came : (set exits : List Prefix) → IsAscending set → ((e : Prefix) → Contains set e ↔ Contains (map prefix_of old) e ⊎ (e ≡ p)) → exits ≡ exits_of old → list_any is_exit own.marked ≡ false → AreFields new later set exits
+    fields_came set exits set_asc members out inside = record {
       held = named_held new later named_came;
       named = named_came;
       ordered = ordered_came;
@@ -118,6 +120,7 @@ module _ (old new : List Row) (lists later : List PathKept) (place : ℕ) (p : P
         λ c. elim ((members e).0 c) [ inl was ↦ (with_it e).1 (inl was) | inr is ↦ (with_it e).1 (inr (sym is)) ],
         λ c. elim ((with_it e).0 c) [ inl was ↦ (members e).1 (inl was) | inr is ↦ (members e).1 (inr (sym is)) ],
       ));
+      out = out ∙ sym (exits_came old new lists later place p after own r le inside);
     }
 
 -- what came and went again is as it was

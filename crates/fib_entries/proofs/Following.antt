@@ -23,6 +23,7 @@ use Rattle.fib_entries.specs.Changes.{AreTouched, AreMoved}
 use Rattle.fib_entries.specs.inner.Leaf.{IsReady, IsReplaced, AreReplaced, IsChanged, IsFollowed, goals_of, own_row, plain_own, moved_at}
 use Rattle.fib_entries.specs.Rows.{Row}
 use Rattle.fib_entries.specs.declared.changes.Followed.{Followed}
+use Rattle.fib_entries.proofs.Exits.{exits_replaced, plain_inside}
 use Rattle.fib_entries.proofs.LeafRows.{row_by, stands_leaf, touched_leaf, moved_leaf, still_leaf}
 use Rattle.fib_entries.proofs.LeafSizes.{size_same}
 use Rattle.fib_entries.proofs.Linking.{zip_at}
@@ -88,9 +89,9 @@ module _ (v w : Known) (S T : Tables) (p : Prefix) (source : FibSource) (place i
       ]
 
 -- the fields still fit together
-pub fields_after : (rows new : List Row) (lists later : List PathKept) (order : List Prefix) (T : Tables) (p : Prefix) (source : FibSource) (place id : ℕ) (old paths : List Path) (rank : ℕ) (f : Followed)
-    → AreFields rows lists order → IsReady rows lists T p source place id old → IsChanged rows new lists later place p id source paths rank f → AreFields new later order
-fields_after rows new lists later order T p source place id old paths rank f h m c =
+pub fields_after : (rows new : List Row) (lists later : List PathKept) (order exits : List Prefix) (T : Tables) (p : Prefix) (source : FibSource) (place id : ℕ) (old paths : List Path) (rank : ℕ) (f : Followed)
+    → AreFields rows lists order exits → IsReady rows lists T p source place id old → IsChanged rows new lists later place p id source paths rank f → AreFields new later order exits
+fields_after rows new lists later order exits T p source place id old paths rank f h m c =
     let names = replaced_names rows new lists later place p id c.before paths (plain_own source paths rank) c.replaced h.named h.ordered m.row m.at m.own source m.pairs c.content in
     let named = named_replaced rows new lists later place p id c.before paths (plain_own source paths rank) c.replaced h.named h.ordered m.row m.at m.own source m.pairs c.content in
     record {
@@ -98,6 +99,7 @@ fields_after rows new lists later order T p source place id old paths rank f h m
       named = named;
       ordered = subst IsAscending (sym names) h.ordered;
       same = h.same ∙ sym names;
+      out = h.out ∙ sym (exits_replaced rows new lists later place p id c.before paths (plain_own source paths rank) c.replaced m.row m.at m.inside (plain_inside paths));
     }
 
 pub ready_kept : (rows : List Row) (lists : List PathKept) (T : Tables) (p : Prefix) (source : FibSource) (place id : ℕ) (old : List Path) → IsReady rows lists T p source place id old → IsSome (kept_of lists id)

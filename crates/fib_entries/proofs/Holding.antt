@@ -1,16 +1,15 @@
 -- Prefixes that are held each once.
-use Rattle.std.proofs.Common.{arith, ◌≡◌, ◌≢◌, ℕ, zero, suc, ◌<◌, Bool, true, false, ◌||◌, List, [], ◌∷◌, ◌++◌, take, get_or, length, refl, sym, ◌∙◌, ap, if◌then◌else◌, inl, inr}
+use Rattle.std.proofs.Common.{arith, ◌≡◌, ◌≢◌, ℕ, zero, suc, ◌<◌, true, false, ◌||◌, List, [], ◌∷◌, ◌++◌, take, get_or, length, refl, sym, ◌∙◌, ap, if◌then◌else◌, inl, inr}
 use Rattle.std.specs.Prelude.{Contains}
-use Rattle.std.specs.List.{AllByRecursion, IsDistinct, list_any}
+use Rattle.std.specs.List.{AllByRecursion}
 use Rattle.std.specs.Set.{is_member}
 use Rattle.std.proofs.lemmas.Bool.{false≢true}
-use Rattle.std.proofs.lemmas.Map.Views.{Contains-from_any}
 use Rattle.indexmap.specs.IndexSet.{IndexSet, UpdatesBy, IsUnique, insert_key}
 use Rattle.fib_list.proofs.Lists.{either}
 use Rattle.fib_reach.specs.Walks.{AllDiffer}
 use Rattle.fib_addr.specs.Prefixes.{Prefix, same_prefix}
 use Rattle.fib_addr.proofs.PrefixLaws.{same_prefix-Decides}
-use Rattle.fib_changes.proofs.Edits.{any_in, in_front, in_rest}
+use Rattle.fib_changes.proofs.Edits.{any_in}
 use Rattle.fib_entries.specs.inner.Dependants.{IsWithout}
 use Rattle.fib_entries.proofs.Anew.{distinct_differ}
 use Rattle.fib_entries.proofs.Linking.{member_in}

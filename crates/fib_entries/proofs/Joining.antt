@@ -39,6 +39,7 @@ use Rattle.fib_entries.specs.Rows.{Row}
 use Rattle.fib_entries.proofs.Arriving.{mid_own, with_it, there_came, row_from, ordered_came, fields_came, set_back}
 use Rattle.fib_entries.proofs.Gaps.{map_at}
 use Rattle.fib_entries.proofs.Growing.{IsGrown, size_more}
+use Rattle.fib_entries.proofs.Exits.{plain_inside}
 use Rattle.fib_entries.proofs.LeafRows.{IsLeafMade, row_by, no_row, entry_same, entry_own, stands_leaf, touched_leaf, moved_leaf, still_leaf}
 use Rattle.fib_entries.proofs.LeafSizes.{each_plain, plain_targets}
 use Rattle.fib_entries.proofs.Leafing.{chosen_same, from_route, entry_of_pair, unlooped, leaf_after}
@@ -309,16 +310,16 @@ followed_came v w T p source place top most f m apart c count fits small above a
     followed_by v w S T p source place top most k m differ after apart c.placed count fits small above f c.touched c.moved
 
 -- and the fields still fit together
-pub come_fields : (rows new : List Row) (lists later : List PathKept) (order set : List Prefix) (T : Tables) (p : Prefix) (source : FibSource) (place : ℕ) (paths : List Path) (rank : ℕ) (f : Followed)
-    → AreFields rows lists order → IsArriving rows T p source place → HasCome rows new lists later place p source paths rank f → IsAscending set → ((e : Prefix) → Contains set e ↔ Contains order e ⊎ (e ≡ p)) → AreFields new later set
-come_fields rows new lists later order set T p source place paths rank f h m c asc members =
-    fields_came rows new lists later place p paths (plain_own source paths rank) c.placed h.ordered m.gap h.named set asc
-    (λ e. subst (λ l. Contains set e ↔ Contains l e ⊎ (e ≡ p)) h.same (members e))
+pub come_fields : (rows new : List Row) (lists later : List PathKept) (order exits set : List Prefix) (T : Tables) (p : Prefix) (source : FibSource) (place : ℕ) (paths : List Path) (rank : ℕ) (f : Followed)
+    → AreFields rows lists order exits → IsArriving rows T p source place → HasCome rows new lists later place p source paths rank f → IsAscending set → ((e : Prefix) → Contains set e ↔ Contains order e ⊎ (e ≡ p)) → AreFields new later set exits
+come_fields rows new lists later order exits set T p source place paths rank f h m c asc members =
+    fields_came rows new lists later place p paths (plain_own source paths rank) c.placed h.ordered m.gap h.named set exits asc
+    (λ e. subst (λ l. Contains set e ↔ Contains l e ⊎ (e ≡ p)) h.same (members e)) h.out (plain_inside paths)
 
 -- also where the row didn't come, and the prefix went again
-pub as_before : (rows new : List Row) (lists later : List PathKept) (order mid set : List Prefix) (T : Tables) (p : Prefix) (source : FibSource) (place : ℕ) → AreFields rows lists order → IsArriving rows T p source place → new ≡ rows → later ≡ lists → IsAscending set
-    → ((e : Prefix) → Contains mid e ↔ Contains order e ⊎ (e ≡ p)) → ((e : Prefix) → Contains set e ↔ Contains mid e × (e ≢ p)) → AreFields new later set
-as_before rows new lists later order mid set T p source place h m rows_are lists_are asc came went =
+pub as_before : (rows new : List Row) (lists later : List PathKept) (order exits mid set : List Prefix) (T : Tables) (p : Prefix) (source : FibSource) (place : ℕ) → AreFields rows lists order exits → IsArriving rows T p source place → new ≡ rows → later ≡ lists → IsAscending set
+    → ((e : Prefix) → Contains mid e ↔ Contains order e ⊎ (e ≡ p)) → ((e : Prefix) → Contains set e ↔ Contains mid e × (e ≢ p)) → AreFields new later set exits
+as_before rows new lists later order exits mid set T p source place h m rows_are lists_are asc came went =
     let none : Contains order p → ⊥ = λ c. gap_absent (map prefix_of rows) place p m.gap (subst (λ l. Contains l p) h.same c) in
     let same : set ≡ order = set_back order mid set p (subst IsAscending (sym h.same) h.ordered) asc none came went in
-    subst (λ s. AreFields new later s) (sym same) (subst (λ l. AreFields new l order) (sym lists_are) (subst (λ l. AreFields l lists order) (sym rows_are) h))
+    subst (λ s. AreFields new later s exits) (sym same) (subst (λ l. AreFields new l order exits) (sym lists_are) (subst (λ l. AreFields l lists order exits) (sym rows_are) h))

@@ -227,11 +227,11 @@ followed_gone v w T p source place id old most f m apart c count below le after 
     followed_by v w S T p source place id old most k m differ after apart r count below f le c.touched (c.moved m.row m.at)
 
 -- and the fields still fit together
-pub left_fields : (rows new : List Row) (lists later : List PathKept) (order set : List Prefix) (T : Tables) (p : Prefix) (source : FibSource) (place id : ℕ) (old paths : List Path) (f : Followed)
-    → AreFields rows lists order → IsLeaving rows lists T p source place id old → HasLeft rows new lists later place p id paths f → IsAscending set → ((e : Prefix) → Contains set e ↔ Contains order e × (e ≢ p)) → AreFields new later set
-left_fields rows new lists later order set T p source place id old paths f h m c asc members =
-    fields_gone rows new lists later place p id c.before paths c.withdrawn h.ordered m.row m.at m.own h.named source m.pairs c.content set asc
-    (λ e. subst (λ l. Contains set e ↔ Contains l e × (e ≢ p)) h.same (members e))
+pub left_fields : (rows new : List Row) (lists later : List PathKept) (order exits set : List Prefix) (T : Tables) (p : Prefix) (source : FibSource) (place id : ℕ) (old paths : List Path) (f : Followed)
+    → AreFields rows lists order exits → IsLeaving rows lists T p source place id old → HasLeft rows new lists later place p id paths f → IsAscending set → ((e : Prefix) → Contains set e ↔ Contains order e × (e ≢ p)) → AreFields new later set exits
+left_fields rows new lists later order exits set T p source place id old paths f h m c asc members =
+    fields_gone rows new lists later place p id c.before paths c.withdrawn h.ordered m.row m.at m.own h.named source m.pairs c.content set exits asc
+    (λ e. subst (λ l. Contains set e ↔ Contains l e × (e ≢ p)) h.same (members e)) h.out m.inside
 
 pub leaving_kept : (rows : List Row) (lists : List PathKept) (T : Tables) (p : Prefix) (source : FibSource) (place id : ℕ) (old : List Path) → IsLeaving rows lists T p source place id old → IsSome (kept_of lists id)
 leaving_kept rows lists T p source place id old m = some_content (kept_of lists id) old m.content

@@ -28,7 +28,9 @@ pub mod Replacing
 pub mod Naming
 pub mod Following
 pub mod Ending
+pub mod Exits
 pub mod Renewing
+pub mod EndRows
 pub mod EndNews
 pub mod PlyOrder
 pub mod PlyCounts

@@ -1,12 +1,12 @@
 -- Row by row: the prefix comes to the dependants of some, and goes from those of others.
-use Rattle.std.proofs.Common.{arith, ◌≡◌, ◌≢◌, ℕ, zero, suc, ◌+◌, ◌-◌, ◌<◌, true, false, not, List, [], ◌∷◌, ◌++◌, map, take, drop, get_or, ◌≤◌, length, Some, None, ◌⊎◌, inl, inr, refl, sym, ◌∙◌, ap, subst, slice_get}
+use Rattle.std.proofs.Common.{arith, ◌≡◌, ◌≢◌, ℕ, zero, suc, ◌+◌, ◌-◌, ◌<◌, true, false, List, [], ◌∷◌, ◌++◌, map, take, drop, get_or, ◌≤◌, length, Some, None, ◌⊎◌, inl, inr, refl, sym, ◌∙◌, ap, subst, slice_get}
 use Rattle.std.specs.Prelude.{Contains, slice_set}
 use Rattle.std.specs.List.{AllZip, list_any}
 use Rattle.std.specs.Set.{is_member}
 use Rattle.std.proofs.lemmas.Bool.{false≢true, cases_eq}
 use Rattle.std.proofs.lemmas.Map.Views.{Contains-from_any}
 use Rattle.std.proofs.lemmas.List.Elements.{Contains-append_left, Contains-append_right, Contains-append_cases}
-use Rattle.fib_list.proofs.Lists.{either, Contains-nil, Contains-flat_map}
+use Rattle.fib_list.proofs.Lists.{Contains-nil, Contains-flat_map}
 use Rattle.std.proofs.lemmas.Option.{slice_get_within}
 use Rattle.std.proofs.lemmas.List.{take_all}
 use Rattle.fib_changes.proofs.CauseLaws.{any_from}
@@ -16,7 +16,6 @@ use Rattle.fib_addr.specs.Prefixes.{Prefix, same_prefix}
 use Rattle.fib_addr.proofs.PrefixLaws.{same_prefix-Decides}
 use Rattle.fib_cover.specs.Covers.{IsAscending}
 use Rattle.fib_resolve.specs.declared.types.Path.{Path}
-use Rattle.fib_resolve.proofs.Covering.{filter_in, filter_from}
 use Rattle.fib_changes.proofs.Edits.{any_in, in_cases, in_front, in_rest}
 use Rattle.fib_interned.proofs.Finding.{some_is, none_some, get_set_there}
 use Rattle.std.specs.Prelude.{IsSome}
@@ -25,7 +24,6 @@ use Rattle.fib_entries.specs.Known.{PathKept, prefix_of, row_of}
 use Rattle.fib_entries.specs.Rows.{Row}
 use Rattle.fib_entries.specs.inner.Dependants.{IsWithout}
 use Rattle.fib_entries.specs.inner.Leaf.{IsButFor, AreAttached, AreDetached, pushed, popped, with_dependants, goal_of, goals_of, IsLinked, IsToLink, IsToUnlink, IsUnlinked}
-use Rattle.fib_entries.proofs.Anew.{filter_differ}
 use Rattle.fib_entries.proofs.Looking.{one_place}
 use Rattle.fib_entries.proofs.Standing.{find_missed}
 use Rattle.fib_entries.proofs.Touches.{append_differ}

@@ -39,6 +39,7 @@ use Rattle.fib_entries.specs.inner.Leaf.{IsFollowed}
 use Rattle.fib_entries.proofs.Anew.{filter_differ}
 use Rattle.fib_entries.proofs.Comparing.{map_same}
 use Rattle.fib_entries.proofs.Ending.{same_entry, chosen_same, targets_same, looped_kind_same, kind_met_same, falls_same, entry_same, holders_same, size_same, pairs_same}
+use Rattle.fib_entries.proofs.Exits.{exits_renewed}
 use Rattle.fib_entries.proofs.Following.{known}
 use Rattle.fib_entries.proofs.Touches.{ascending_differ}
 
@@ -167,8 +168,8 @@ abbrev pub renewed_in : News → Known → Known
 renewed_in n v = known (map (renewed_row n) v.rows) v.lists v.objects
 
 -- the fields still fit together
-pub fields_renewed : (rows : List Row) (lists : List PathKept) (order : List Prefix) (n : News) → AreFields rows lists order → AreFields (map (renewed_row n) rows) lists order
-fields_renewed rows lists order n h = record {
+pub fields_renewed : (rows : List Row) (lists : List PathKept) (order exits : List Prefix) (n : News) → AreFields rows lists order exits → AreFields (map (renewed_row n) rows) lists order exits
+fields_renewed rows lists order exits n h = record {
   held = λ r p c k. (let m = map_from (renewed_row n) rows r c in h.held m.0 p m.1 (subst (λ (z : Row). Contains z.pairs p) (sym m.2) k));
   named = record {
     pairs = h.named.pairs;
@@ -179,6 +180,7 @@ fields_renewed rows lists order n h = record {
   };
   ordered = subst IsAscending (sym (renewed_names n rows)) h.ordered;
   same = h.same ∙ sym (renewed_names n rows);
+  out = h.out ∙ sym (exits_renewed n rows);
 }
 
 module _ (v : Known) (S T : Tables) (k : StandsFor v S) (h : IsEndEdit S T) (n : News) (mark_after : (e : Prefix) (p : Path) → renewed n (marked S e p) ≡ marked T e p)

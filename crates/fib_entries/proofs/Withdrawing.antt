@@ -1,5 +1,5 @@
 -- Rows after a leaf's row went, and what they name.
-use Rattle.std.proofs.Common.{◌≡◌, ◌≢◌, ℕ, ◌+◌, List, [], ◌∷◌, map, Some, refl, sym, ◌∙◌, ap, subst, slice_get, ◌↔◌}
+use Rattle.std.proofs.Common.{◌≡◌, ◌≢◌, ℕ, ◌+◌, false, List, [], ◌∷◌, map, Some, refl, sym, ◌∙◌, ap, subst, slice_get, ◌↔◌}
 use Rattle.std.specs.Prelude.{Contains}
 use Rattle.std.specs.List.{remove}
 use Rattle.std.specs.Cmp.Lexicographic.{pointwise}
@@ -13,11 +13,13 @@ use Rattle.fib_changes.proofs.Edits.{in_front}
 use Rattle.fib_changes.proofs.SamePairs.{map_in}
 use Rattle.fib_interned.proofs.Finding.{some_is, contains_at}
 use Rattle.fib_entries.specs.Known.{PathKept, content_of, prefix_of, IsHeld}
+use Rattle.fib_entries.specs.inner.Ends.{has_exit, exits_of}
 use Rattle.fib_entries.specs.inner.Fields.{AreFields, AreNamed, count_in}
 use Rattle.fib_entries.specs.inner.Going.{IsWithdrawn}
 use Rattle.fib_entries.specs.inner.Leaf.{IsButFor, goals_of}
 use Rattle.fib_entries.specs.Rows.{Row}
 use Rattle.fib_entries.proofs.Counting.{without, counted_in, kept_in, counts_some}
+use Rattle.fib_entries.proofs.Exits.{exits_gone}
 use Rattle.fib_entries.proofs.Linking.{zip_at, zip_from, detached_names}
 use Rattle.fib_entries.proofs.Looking.{one_in_order}
 use Rattle.fib_entries.proofs.Naming.{named_held}
@@ -92,8 +94,8 @@ module _ (old new : List Row) (lists later : List PathKept) (place : ℕ) (p : P
     }
 
     -- the fields still fit together
-    pub fields_gone : (set : List Prefix) → IsAscending set → ((e : Prefix) → Contains set e ↔ Contains (map prefix_of old) e × (e ≢ p)) → AreFields new later set
-    fields_gone set set_asc members = record {
+    pub fields_gone : (set exits : List Prefix) → IsAscending set → ((e : Prefix) → Contains set e ↔ Contains (map prefix_of old) e × (e ≢ p)) → exits ≡ exits_of old → has_exit row ≡ false → AreFields new later set exits
+    fields_gone set exits set_asc members out inside = record {
       held = named_held new later named_gone;
       named = named_gone;
       ordered = ordered_gone;
@@ -101,4 +103,5 @@ module _ (old new : List Row) (lists later : List PathKept) (place : ℕ) (p : P
         λ c. (let m = (members e).0 c in (but_for e).1 (m.0, λ same. m.1 (sym same))),
         λ c. (let b = (but_for e).0 c in (members e).1 (b.0, λ same. b.1 (sym same))),
       ));
+      out = out ∙ sym (exits_gone old new lists later place p id before after r row at inside);
     }

@@ -1,19 +1,19 @@
 // A change of an interface's flag or of a neighbor's MAC, followed in the marks of the rows.
-ghost use Rattle.std.specs.Prelude.{◌≡◌, ℕ, [], IsTrue, IsSome, IfOk, OnOk, OnErr, Contains, map, filter, option_copied, find};
-ghost use Rattle.fib_addr.specs.Prefixes.{host};
+ghost use Rattle.std.specs.Prelude.{◌≡◌, ◌∷◌, ◌++◌, ℕ, [], IsTrue, IsSome, IfOk, OnOk, OnErr, Contains, map, filter, option_copied, find, if◌then◌else◌, List as Items};
+ghost use Rattle.fib_addr.specs.Prefixes.{host, Prefix as PrefixValue};
 ghost use Rattle.fib_cover.specs.Covers.{IsAscending};
 ghost use Rattle.fib_interned.specs.Interned.{kept_of};
 ghost use Rattle.fib_resolve.specs.Forwarding.{is_up};
 ghost use Rattle.fib_resolve.specs.declared.types.FibSource.{FibSource as FibSourceValue};
 ghost use Rattle.fib_resolve.specs.Resolution.{is_neighbor, mac_of};
-ghost use Rattle.fib_entries.specs.Known.{prefix_of};
+ghost use Rattle.fib_entries.specs.Known.{prefix_of, row_of};
 ghost use Rattle.fib_entries.specs.Rows.{Row as RowValue};
 ghost use Rattle.fib_entries.specs.inner.Building.{AreHeld};
 ghost use Rattle.fib_entries.specs.inner.Compare.{AreKept};
-ghost use Rattle.fib_entries.specs.inner.Ends.{aim_over, aim_at, is_mac, has_flag, has_mac, renewed, is_old, is_old_row, renewed_row, IsLink, IsNear};
+ghost use Rattle.fib_entries.specs.inner.Ends.{aim_over, aim_at, is_mac, has_flag, has_mac, renewed, is_exit, has_exit, exits_of, is_old, is_old_row, is_old_in, renewed_row, AreRenewing, IsLink, IsNear};
 
 use crate::changes::{Followed, Touched};
-use crate::look::row;
+use crate::look::{place_of, row};
 use crate::rows::Row;
 use fib_addr::{Addr, Mac, Prefix};
 use fib_list::List;
@@ -203,13 +203,70 @@ fn is_old_row(news: &News, row: &Row) -> bool
     row.marked().iter().any(|mark| is_old(news, mark))
 }
 
-/// The prefixes of the rows of which it does.
-fn old_prefixes(alloc: Global, rows: &[Row], news: &News) -> Result<Vec<Prefix>, AllocError>
-    ensures { IfOk result (λ v. v.items ≡ map prefix_of (filter (is_old_row news.now) rows.now)) }
+/// Whether the mark's packets leave by an interface.
+fn is_exit(mark: &Marked) -> bool
+    ensures { result ≡ is_exit mark.now }
 {
-    rows.iter()
-        .filter(|row| is_old_row(news, row))
-        .map(|row| row.prefix)
+    match mark.aim {
+        Aim::Ends(End::Glean(_) | End::Hop { .. }) => true,
+        _ => false,
+    }
+}
+
+/// Whether those of a path of the row do.
+#[tactic(auto, unfolding(crate::specs::inner::Ends::has_exit))]
+pub fn has_exit(row: &Row) -> bool
+    ensures { result ≡ has_exit row.now }
+{
+    row.marked().iter().any(|mark| is_exit(mark))
+}
+
+/// Appends the row's prefix where that is so.
+fn add_exit(out: &mut List<Prefix>, row: &Row) -> Result<(), AllocError>
+    ensures { OnOk result (out.new ≡ (if has_exit row.now then out.old ++ row.now.prefix ∷ [] else out.old)) }
+{
+    if has_exit(row) {
+        out.push(row.prefix)?;
+    }
+    Ok(())
+}
+
+/// The prefixes of the rows with a path that leaves by an interface, in order: news of an end is news of these alone.
+pub fn exits_of(alloc: Global, rows: &[Row]) -> Result<List<Prefix>, AllocError>
+    ensures { IfOk result (λ l. l ≡ exits_of rows.now) }
+{
+    let mut out = List::new(alloc);
+    'rows: for place in 0..rows.len() {
+        add_exit(&mut out, &rows[place])?;
+    }
+    Ok(out)
+}
+
+/// Whether the news makes a mark of the prefix's row another.
+fn is_old_at(rows: &[Row], prefix: Prefix, news: &News) -> bool
+    requires { IsAscending (map prefix_of rows.now) }
+    ensures { result ≡ is_old_in news.now (row_of rows.now prefix) }
+{
+    match row(rows, prefix) {
+        Some(found) => is_old_row(news, found),
+        None => false,
+    }
+}
+
+/// Those of which it does.
+fn old_among(
+    alloc: Global,
+    rows: &[Row],
+    prefixes: &[Prefix],
+    news: &News,
+) -> Result<Vec<Prefix>, AllocError>
+    requires { IsAscending (map prefix_of rows.now) }
+    ensures { IfOk result (λ v. v.items ≡ filter (λ p. is_old_in news.now (row_of rows.now p)) prefixes.now) }
+{
+    prefixes
+        .iter()
+        .copied()
+        .filter(|prefix| is_old_at(rows, *prefix, news))
         .collect(alloc)
 }
 
@@ -250,31 +307,50 @@ fn renew_marks(marks: &mut Vec<Marked>, news: &News)
 fn renew_row(alloc: Global, row: &mut Row, news: &News)
     ensures { row.new ≡ renewed_row news.now row.old }
 {
-    if !is_old_row(news, row) {
-        return;
-    }
     let mut marks = mem::replace(&mut row.body.marked, List::new(alloc)).into_vec();
     renew_marks(&mut marks, news);
     row.body.marked = List::from_vec(marks);
 }
 
-fn renew_rows(alloc: Global, rows: &mut Vec<Row>, news: &News)
-    ensures { rows.new.items ≡ map (renewed_row news.now) rows.old.items }
+/// Renews the prefix's row.
+fn renew_at(alloc: Global, rows: &mut Vec<Row>, prefix: Prefix, news: &News)
+    requires { IsAscending (map prefix_of rows.old.items) }
+    ensures { (old : Items RowValue) (left : Items PrefixValue) → AreRenewing news.now old rows.old.items (prefix ∷ left) → AreRenewing news.now old rows.new.items left }
 {
-    'rows: for place in 0..rows.len() {
-        renew_row(alloc, &mut rows[place], news);
+    match place_of(rows.as_slice(), prefix) {
+        Some(place) => renew_row(alloc, &mut rows[place], news),
+        None => {}
     }
 }
 
-/// Renews the marks of all rows, and tells the prefixes of the rows of which one is another. After want of memory all is as before.
-pub fn follow(alloc: Global, rows: &mut Vec<Row>, news: &News) -> Result<Followed, AllocError>
+/// Renews the rows of these prefixes, which are those of which a mark becomes another.
+fn renew_rows(alloc: Global, rows: &mut Vec<Row>, touched: &[Prefix], news: &News)
+    requires ascending { IsAscending (map prefix_of rows.old.items) }
+    requires touched { touched.now ≡ map prefix_of (filter (is_old_row news.now) rows.old.items) }
+    ensures { rows.new.items ≡ map (renewed_row news.now) rows.old.items }
+{
+    'rows: for place in 0..touched.len() {
+        renew_at(alloc, rows, touched[place], news);
+    }
+}
+
+/// Renews the marks of all rows, and tells the prefixes of the rows of which one is another. Looks at the rows of the exits alone. After want
+/// of memory all is as before.
+pub fn follow(
+    alloc: Global,
+    rows: &mut Vec<Row>,
+    exits: &[Prefix],
+    news: &News,
+) -> Result<Followed, AllocError>
+    requires ascending { IsAscending (map prefix_of rows.old.items) }
+    requires exits { exits.now ≡ exits_of rows.old.items }
     ensures rows { OnOk result (rows.new.items ≡ map (renewed_row news.now) rows.old.items) }
     ensures touched { IfOk result (λ f. f.touched ≡ map prefix_of (filter (is_old_row news.now) rows.old.items)) }
     ensures moved { IfOk result (λ f. f.moved ≡ []) }
     ensures err { OnErr result (rows.new.items ≡ rows.old.items) }
 {
-    let touched = old_prefixes(alloc, rows.as_slice(), news)?;
-    renew_rows(alloc, rows, news);
+    let touched = old_among(alloc, rows.as_slice(), exits, news)?;
+    renew_rows(alloc, rows, touched.as_slice(), news);
     Ok(Followed {
         touched: Touched::of(List::from_vec(touched)),
         moved: List::new(alloc),

@@ -33,6 +33,7 @@ use crate::{ends, whole};
 use fib_addr::{Addr, Prefix};
 use fib_changes::Change;
 use fib_cover::PrefixSet;
+use fib_list::List;
 use fib_paths::{PathListId, PathLists};
 use fib_plain::Snapshot;
 use fib_resolve::{FibSource, Marked, Path, Tables};
@@ -46,6 +47,8 @@ pub struct Entries {
     rows: Vec<Row>,
     lists: PathLists,
     order: PrefixSet,
+    /// The prefixes of the rows with a path that leaves by an interface, in order.
+    exits: List<Prefix>,
     objects: u32,
     alloc: Global,
 }
@@ -59,7 +62,7 @@ impl Model for Entries {
 
     ghost use Rattle.fib_entries.specs.inner.Fields.{AreFields};
 
-    ghost invariant = { λ s. AreFields s.rows.items s.lists s.order };
+    ghost invariant = { λ s. AreFields s.rows.items s.lists s.order s.exits };
 }
 
 impl Entries {
@@ -82,11 +85,13 @@ impl Entries {
         let ids = take_all(alloc, &mut lists, snapshot.pairs())?;
         let _count = lists.count();
         let rows = whole::rows_anew(alloc, &snapshot, &lists, ids.as_slice(), listed.as_slice())?;
+        let exits = ends::exits_of(alloc, rows.as_slice())?;
         let objects = snapshot.size(alloc)?;
         Ok(Entries {
             rows,
             lists,
             order,
+            exits,
             objects,
             alloc,
         })
@@ -192,7 +197,7 @@ impl Entries {
         let Some(news) = self.news_of(tables, change) else {
             return Ok(None);
         };
-        let followed = ends::follow(self.alloc, &mut self.rows, &news)?;
+        let followed = ends::follow(self.alloc, &mut self.rows, self.exits.as_slice(), &news)?;
         Ok(Some(followed))
     }
 

@@ -12,6 +12,7 @@ ghost use Rattle.fib_resolve.specs.declared.types.Neighbor.{Neighbor as Neighbor
 ghost use Rattle.fib_entries.specs.Known.{prefix_of, row_of, rank_of};
 ghost use Rattle.fib_entries.specs.inner.Leaf.{is_plain, plain_aim, plain_mark, goal_of, goals_of, has_other, shared_kind, shared_path, IsLeaf, IsLeafAt, IsReady};
 
+use crate::ends::has_exit;
 use crate::look::{is_same, place_of, row};
 use crate::rows::Row;
 use fib_addr::Prefix;
@@ -217,12 +218,15 @@ pub fn suits(rows: &[Row], p: Prefix, paths: &[Path]) -> bool
     are_plain(paths) && are_shared(rows, p, paths)
 }
 
-/// Whether nothing leads to the row at that place, and nothing lies in its prefix.
+/// Whether nothing leads to the row at that place, nothing lies in its prefix, and no path of it leaves by an interface.
 fn is_leaf(rows: &[Row], neighbors: &[Neighbor], place: usize, p: Prefix) -> bool
     requires { place < length rows.now }
     ensures { IsTrue result → (r : RowValue) → slice_get rows.now place ≡ Some r → IsLeaf rows.now neighbors.now place p r }
 {
     if !rows[place].dependants().is_empty() {
+        return false;
+    }
+    if has_exit(&rows[place]) {
         return false;
     }
     if !is_last_in(rows, place, p) {

@@ -1,5 +1,5 @@
 -- What is left of dependants when one goes. No contract of a public call rests on this.
-use Rattle.std.specs.Prelude.{◌≡◌, ◌≢◌, ◌↔◌, List, Contains}
+use Rattle.std.specs.Prelude.{◌≢◌, ◌↔◌, List, Contains}
 use Rattle.fib_reach.specs.Walks.{AllDiffer}
 use Rattle.fib_addr.specs.Prefixes.{Prefix}
 

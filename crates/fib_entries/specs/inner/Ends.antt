@@ -1,7 +1,8 @@
 -- The change of an interface's flag or of a neighbor's MAC, followed in the marks of the rows. No contract of a public call rests on this.
-use Rattle.std.specs.Prelude.{◌≡◌, ◌↔◌, ℕ, zero, suc, Bool, true, false, not, Option, Some, None, ◌&&◌, ◌==◌, List, [], ◌∷◌, map, Contains, if◌then◌else◌}
+use Rattle.std.specs.Prelude.{◌≡◌, ◌↔◌, ℕ, zero, suc, Bool, true, false, not, Option, Some, None, ◌&&◌, ◌==◌, List, [], ◌∷◌, map, filter, Contains, if◌then◌else◌}
 use Rattle.std.specs.List.{list_any}
 use Rattle.fib_addr.specs.Prefixes.{Prefix, IsPrefix, host}
+use Rattle.fib_cover.specs.Covers.{IsAscending}
 use Rattle.fib_changes.specs.declared.change.Change.{Change}
 use Rattle.fib_changes.specs.declared.change.Change.TheVariants as changes
 use Rattle.fib_resolve.specs.Forwarding.{is_up}
@@ -21,7 +22,7 @@ use Rattle.fib_resolve.specs.declared.types.PathKind.TheVariants as kinds
 use Rattle.fib_resolve.specs.declared.types.Route.{Route}
 use Rattle.fib_resolve.specs.declared.types.Tables.{Tables}
 use Rattle.fib_changes.specs.Sources.{HasNeighbor}
-use Rattle.fib_entries.specs.Known.{Known, PathKept, content_of}
+use Rattle.fib_entries.specs.Known.{Known, PathKept, content_of, prefix_of}
 use Rattle.fib_entries.specs.declared.ends.News.{News}
 use Rattle.fib_entries.specs.declared.ends.News.TheVariants as news
 use Rattle.fib_entries.specs.Rows.{Row}
@@ -98,6 +99,39 @@ is_old_row n r = list_any (is_old n) r.marked
 abbrev pub renewed_row : News → Row → Row
 renewed_row n r =
     record { prefix = r.prefix; pairs = r.pairs; looped = r.looped; met = r.met; marked = map (renewed n) r.marked; dependants = r.dependants; rank = r.rank }
+
+-- the packets of the path leave by an interface
+abbrev pub end_exit : End → Bool
+end_exit answers.Drop = false
+end_exit answers.Receive = false
+end_exit (answers.Glean i) = true
+end_exit (answers.Hop i a mac) = true
+
+abbrev pub aim_exit : Aim → Bool
+aim_exit (aims.On e) = false
+aim_exit (aims.Ends end) = end_exit end
+
+abbrev pub is_exit : Marked → Bool
+is_exit m = aim_exit m.aim
+
+-- those of a path of the row do
+unfoldable pub has_exit : Row → Bool
+has_exit r = list_any is_exit r.marked
+
+-- the prefixes of these rows: news of an end makes no mark of another row new
+abbrev pub exits_of : List Row → List Prefix
+exits_of rows = map prefix_of (filter has_exit rows)
+
+-- a mark of the row, where there is one, becomes another
+abbrev pub is_old_in : News → Option Row → Bool
+is_old_in n None = false
+is_old_in n (Some r) = is_old_row n r
+
+-- the rows are renewed but for those of these prefixes
+pub record AreRenewing (n : News) (old new : List Row) (left : List Prefix) : Type 0 where
+  pub ordered : IsAscending (map prefix_of new)
+  pub same : map (renewed_row n) new ≡ map (renewed_row n) old
+  pub still : map prefix_of (filter (is_old_row n) new) ≡ left
 
 -- one path to a neighbor on the interface
 abbrev pub IsLink : ℕ → List Path → Type 0

@@ -10,6 +10,7 @@ use Rattle.fib_resolve.specs.declared.types.Path.{Path}
 use Rattle.fib_resolve.specs.declared.types.FibSource.{FibSource}
 use Rattle.fib_interned.specs.Interned.{AreInterned}
 use Rattle.fib_entries.specs.inner.Building.{AreHeld}
+use Rattle.fib_entries.specs.inner.Ends.{exits_of}
 use Rattle.fib_entries.specs.Rows.{Row}
 
 -- the users of each kept list are as many as the count says, and each list that has some is kept
@@ -28,9 +29,10 @@ pub record AreNamed (rows : List Row) (lists : List PathKept) : Type 0 where
   pub counted : AreCounted lists (count_in pairs)
   pub each : (r : Row) (q : FibSource × ℕ) → Contains rows r → Contains r.pairs q → (x : Pair) × Contains pairs x × (r.prefix ≡ x.prefix) × IsHeld lists q x
 
--- each list that a row names is kept, and the set has the rows' prefixes, in order
-pub record AreFields (rows : List Row) (lists : List PathKept) (order : List Prefix) : Type 0 where
+-- each list that a row names is kept, the set has the rows' prefixes, in order, and the list those of the rows with an exit
+pub record AreFields (rows : List Row) (lists : List PathKept) (order exits : List Prefix) : Type 0 where
   pub held : AreHeld rows lists
   pub named : AreNamed rows lists
   pub ordered : IsAscending (map prefix_of rows)
   pub same : order ≡ map prefix_of rows
+  pub out : exits ≡ exits_of rows

@@ -10,6 +10,7 @@ use Rattle.fib_resolve.specs.declared.types.Neighbor.{Neighbor}
 use Rattle.fib_resolve.specs.declared.types.Path.{Path}
 use Rattle.fib_resolve.specs.declared.types.Tables.{Tables}
 use Rattle.fib_entries.specs.Known.{PathKept, content_of}
+use Rattle.fib_entries.specs.inner.Ends.{has_exit}
 use Rattle.fib_entries.specs.inner.Leaf.{AreDetached, goals_of, is_plain, shared_path, moved_at}
 use Rattle.fib_entries.specs.Rows.{Row}
 use Rattle.fib_entries.specs.declared.changes.Followed.{Followed}
@@ -21,6 +22,7 @@ pub record IsLeaving (rows : List Row) (lists : List PathKept) (T : Tables) (p :
   pub own : row.prefix ≡ p
   pub pairs : row.pairs ≡ (source, id) ∷ []
   pub none : row.dependants ≡ []
+  pub inside : has_exit row ≡ false
   pub content : content_of lists id ≡ Some old
   pub prefix : IsPrefix p
   pub short : p.len < 32

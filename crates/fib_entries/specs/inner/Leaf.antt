@@ -11,7 +11,7 @@ use Rattle.fib_resolve.specs.declared.types.FibSource.{FibSource}
 use Rattle.fib_resolve.specs.declared.types.Neighbor.{Neighbor}
 use Rattle.fib_resolve.specs.declared.types.Route.{Route}
 use Rattle.fib_resolve.specs.declared.types.Tables.{Tables}
-use Rattle.std.specs.Prelude.{Bool, ◌&&◌, ◌==◌, ◌++◌, ◌-◌, not, flat_map, filter, take, length, slice_get, slice_set, Option, Some, None}
+use Rattle.std.specs.Prelude.{Bool, ◌&&◌, ◌==◌, ◌++◌, ◌-◌, not, flat_map, take, length, slice_get, slice_set, Option, Some, None}
 use Rattle.std.specs.Set.{is_member}
 use Rattle.std.specs.List.{AllZip, list_any, list_all}
 use Rattle.fib_resolve.specs.Keys.{need_rank}
@@ -29,6 +29,7 @@ use Rattle.fib_entries.specs.Known.{Known, StandsFor, PathKept, prefix_of, row_o
 use Rattle.fib_interned.specs.Interned.{AreInterned, Takes, Gives}
 use Rattle.fib_resolve.specs.Edits.{paths_at}
 use Rattle.fib_entries.specs.inner.Dependants.{IsWithout}
+use Rattle.fib_entries.specs.inner.Ends.{has_exit}
 use Rattle.fib_entries.specs.Rows.{Row}
 use Rattle.fib_entries.specs.declared.replace.Own.{Own}
 use Rattle.fib_entries.specs.declared.changes.Moved.{Moved}
@@ -166,9 +167,10 @@ shared_kind rows p kinds.Cover = true
 abbrev pub shared_path : List Row → Prefix → Path → Bool
 shared_path rows p q = shared_kind rows p q.kind
 
--- nothing leads to the row at that place, and nothing lies in its prefix
+-- nothing leads to the row at that place, nothing lies in its prefix, and no path of it leaves by an interface
 pub record IsLeaf (rows : List Row) (neighbors : List Neighbor) (place : ℕ) (p : Prefix) (r : Row) : Type 0 where
   pub none : r.dependants ≡ []
+  pub inside : has_exit r ≡ false
   pub next : (s : Row) → slice_get rows (place + 1) ≡ Some s → contains p s.prefix.bits ≡ false
   pub far : (n : Neighbor) → Contains neighbors n → (n.addr < 2 ^ 32) × (contains p n.addr ≡ false)
 
@@ -188,6 +190,7 @@ pub record IsReady (rows : List Row) (lists : List PathKept) (T : Tables) (p : P
   pub own : row.prefix ≡ p
   pub pairs : row.pairs ≡ (source, id) ∷ []
   pub none : row.dependants ≡ []
+  pub inside : has_exit row ≡ false
   pub content : content_of lists id ≡ Some old
   pub prefix : IsPrefix p
   pub short : p.len < 32

@@ -1,14 +1,20 @@
-use Rattle.std.proofs.Common.{arith, ◌∙◌}
-use Rattle.fib_entries.specs.inner.Ends.{renewed_row}
-use Rattle.fib_entries.proofs.Renewing.{mapped_start, mapped_step, mapped_all}
+use Rattle.std.proofs.Common.{◌≡◌, ◌+◌, [], ◌∷◌, drop, sym, ◌∙◌, ap, subst}
+use Rattle.std.proofs.lemmas.List.{drop_more, drop_all}
+use Rattle.fib_entries.specs.inner.Ends.{AreRenewing}
+use Rattle.fib_entries.proofs.EndRows.{renewing_start, renewing_done}
 use Rattle.fib_entries.proofs.ends.renew_rows.Goals as goal
 
 pub rows-init : goal.rows-init
-rows-init c = mapped_start (renewed_row c.args.news.now) c.args.rows.now.items
+rows-init c = renewing_start c.args.news.now c.args.rows.now.items c.args.touched.now c.requires.ascending c.requires.touched
 
 pub rows-preserved : goal.rows-preserved
 rows-preserved c =
-    mapped_step (renewed_row c.args.news.now) c.rows.place c.args.rows.now.items c.rows.rows.items c.index_mut.result.now c.renew_row.new.row (omega (arith, c.rows-test.true, c.len-place-end.ensures)) c.rows.invariant c.index_mut.ensures.value c.renew_row.ensures
+    let p = c.index-touched-place.result in
+    c.renew_at.ensures c.args.rows.now.items (drop (c.rows.place + 1) c.args.touched.now)
+    (subst (AreRenewing c.args.news.now c.args.rows.now.items c.rows.rows.items)
+    (drop_more c.args.touched.now c.rows.place p c.rows-test.true ∙ ap (λ q. q ∷ drop (c.rows.place + 1) c.args.touched.now) (sym c.index-touched-place.is)) c.rows.invariant)
 
 pub returns : goal.returns
-returns c = c.rows.invariant ∙ mapped_all (renewed_row c.args.news.now) c.rows.place c.args.rows.now.items (omega (arith, c.rows-test.false, c.len-place-end.ensures))
+returns c =
+    let none : drop c.rows.place c.args.touched.now ≡ [] = drop_all c.rows.place c.args.touched.now c.rows-test.false in
+    renewing_done c.args.news.now c.args.rows.now.items c.rows.rows.items (subst (AreRenewing c.args.news.now c.args.rows.now.items c.rows.rows.items) none c.rows.invariant)

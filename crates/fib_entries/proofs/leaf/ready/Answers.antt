@@ -32,6 +32,7 @@ returns c =
         own = m.own;
         pairs = ap (λ (z : Row). z.pairs) (some_is m.row c.index-rows-place.result (sym m.at ∙ at)) ∙ c.in-Some-only_list.ensures;
         none = m.leaf.none;
+        inside = m.leaf.inside;
         content = c.content.ensures;
         prefix = m.prefix;
         short = m.short;

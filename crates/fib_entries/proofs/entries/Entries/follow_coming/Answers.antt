@@ -32,10 +32,10 @@ returns-in-Ok-clause-followed c =
 
 pub invariant_of-self-in-Ok : goal.invariant_of-self-in-Ok
 invariant_of-self-in-Ok c =
-    come_fields c.self.inside.rows.items c.come.new.rows.items c.self.inside.lists c.come.new.lists c.self.inside.order c.insert.new.self c.args.tables.now c.args.prefix c.args.source c.in-Some.place c.args.new.now (c.top_rank-top.result + 1) c.in-Ok.followed c.self.invariant
+    come_fields c.self.inside.rows.items c.come.new.rows.items c.self.inside.lists c.come.new.lists c.self.inside.order c.self.inside.exits c.insert.new.self c.args.tables.now c.args.prefix c.args.source c.in-Some.place c.args.new.now (c.top_rank-top.result + 1) c.in-Ok.followed c.self.invariant
     (subst (λ (l : List Row). IsArriving l c.args.tables.now c.args.prefix c.args.source c.in-Some.place) c.as_slice.ensures.value c.in-Some.ensures.arriving) c.in-Ok.ensures.done c.insert.ensures.ordered c.in_ok-insert.ensures.members
 
 pub invariant_of-self-in-Err : goal.invariant_of-self-in-Err
 invariant_of-self-in-Err c =
-    as_before c.self.inside.rows.items c.come.new.rows.items c.self.inside.lists c.come.new.lists c.self.inside.order c.insert.new.self c.remove.new.self c.args.tables.now c.args.prefix c.args.source c.in-Some.place c.self.invariant
+    as_before c.self.inside.rows.items c.come.new.rows.items c.self.inside.lists c.come.new.lists c.self.inside.order c.self.inside.exits c.insert.new.self c.remove.new.self c.args.tables.now c.args.prefix c.args.source c.in-Some.place c.self.invariant
     (subst (λ (l : List Row). IsArriving l c.args.tables.now c.args.prefix c.args.source c.in-Some.place) c.as_slice.ensures.value c.in-Some.ensures.arriving) c.in-Err.ensures.rows c.in-Err.ensures.lists c.remove.ensures.ordered c.in_ok-insert.ensures.members c.remove.ensures.members

@@ -22,7 +22,7 @@ leave-requires-clause-kept c = leaving_kept c.self.inside.rows.items c.self.insi
 
 pub invariant_of-self-2 : goal.invariant_of-self-2
 invariant_of-self-2 c =
-    left_fields c.self.inside.rows.items c.leave.new.rows.items c.self.inside.lists c.leave.new.lists c.self.inside.order c.remove.new.self c.args.tables.now c.args.prefix c.args.source c.in-Some.at.0 c.in-Some.at.1 c.in-Some.ensures.leaving.0
+    left_fields c.self.inside.rows.items c.leave.new.rows.items c.self.inside.lists c.leave.new.lists c.self.inside.order c.self.inside.exits c.remove.new.self c.args.tables.now c.args.prefix c.args.source c.in-Some.at.0 c.in-Some.at.1 c.in-Some.ensures.leaving.0
     c.args.new.now c.in_ok-followed.followed c.self.invariant
     (subst (λ (l : List Row). IsLeaving l c.self.inside.lists c.args.tables.now c.args.prefix c.args.source c.in-Some.at.0 c.in-Some.at.1 c.in-Some.ensures.leaving.0) c.as_slice.ensures.value c.in-Some.ensures.leaving.1) c.in_ok-followed.ensures.done
     c.remove.ensures.ordered c.remove.ensures.members

@@ -15,7 +15,7 @@ ready-requires-clause-held c = λ r p d e. c.self.invariant.held r p (subst (λ 
 
 pub invariant_of-self-2 : goal.invariant_of-self-2
 invariant_of-self-2 c =
-    fields_after c.self.inside.rows.items c.change.new.rows.items c.self.inside.lists c.change.new.lists c.self.inside.order c.args.tables.now c.args.prefix c.args.source c.in-Some.at.0 c.in-Some.at.1 c.in-Some.ensures.0
+    fields_after c.self.inside.rows.items c.change.new.rows.items c.self.inside.lists c.change.new.lists c.self.inside.order c.self.inside.exits c.args.tables.now c.args.prefix c.args.source c.in-Some.at.0 c.in-Some.at.1 c.in-Some.ensures.0
     c.args.new.now (c.top_rank-top.result + 1) c.in_ok-followed.followed c.self.invariant
     (subst (λ (l : List Row). IsReady l c.self.inside.lists c.args.tables.now c.args.prefix c.args.source c.in-Some.at.0 c.in-Some.at.1 c.in-Some.ensures.0) c.as_slice.ensures.value c.in-Some.ensures.1) c.in_ok-followed.ensures.done
 

@@ -13,8 +13,8 @@ use Rattle.fib_entries.proofs.entries.Entries.follow_news.Goals as goal
 
 pub invariant_of-self-2 : goal.invariant_of-self-2
 invariant_of-self-2 c =
-    subst (λ (l : List Row). AreFields l c.self.inside.lists c.self.inside.order) (sym c.in_ok-followed.ensures.rows)
-    (fields_renewed c.self.inside.rows.items c.self.inside.lists c.self.inside.order c.in-Some.news c.self.invariant)
+    subst (λ (l : List Row). AreFields l c.self.inside.lists c.self.inside.order c.self.inside.exits) (sym c.in_ok-followed.ensures.rows)
+    (fields_renewed c.self.inside.rows.items c.self.inside.lists c.self.inside.order c.self.inside.exits c.in-Some.news c.self.invariant)
 
 pub returns-clause-followed : goal.returns-clause-followed
 returns-clause-followed c =

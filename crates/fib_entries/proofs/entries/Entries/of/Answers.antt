@@ -1,4 +1,4 @@
-use Rattle.std.proofs.Common.{◌≡◌, ℕ, List, [], refl, sym, ◌∙◌, subst, ◌↔◌}
+use Rattle.std.proofs.Common.{◌≡◌, ℕ, List, [], refl, sym, ◌∙◌, ap, subst, ◌↔◌}
 use Rattle.std.specs.Prelude.{min, ◌^◌, ◌-◌, Contains}
 use Rattle.fib_addr.specs.Prefixes.{Prefix}
 use Rattle.fib_cover.specs.Covers.{IsAscending}
@@ -10,6 +10,7 @@ use Rattle.fib_resolve.specs.declared.types.Tables.{Tables}
 use Rattle.fib_entries.specs.Rows.{Row}
 use Rattle.fib_entries.specs.Known.{PathKept, StandsFor}
 use Rattle.fib_entries.specs.inner.Building.{AreTaken, AreAnew}
+use Rattle.fib_entries.specs.inner.Ends.{exits_of}
 use Rattle.fib_entries.specs.inner.Fields.{AreFields}
 use Rattle.fib_interned.specs.Interned.{AreInterned}
 use Rattle.fib_entries.proofs.Anew.{stands_anew, all_held, in_place}
@@ -36,24 +37,25 @@ all_stands lists S T rows order listed set names ids xs objects is h p l ordered
     subst (StandsFor (record { rows = rows; lists = lists; objects = objects })) is
     (stands_anew lists S order rows ids objects h (subst IsAscending (sym (p ∙ l)) ordered) (all_in S order listed set names p l n same) (subst (λ q. AreTaken lists q ids) x taken) counted sound)
 
-fields_of : (lists : List PathKept) (S : Tables) (rows : List Row) (order listed set : List Prefix) (objects : ℕ) → AreAnew lists S order rows → order ≡ listed → listed ≡ set → IsAscending set
-    → StandsFor (record { rows = rows; lists = lists; objects = objects }) S → AreInterned lists → AreFields rows lists set
-fields_of lists S rows order listed set objects h p l ordered stands apart =
+fields_of : (lists : List PathKept) (S : Tables) (rows : List Row) (order listed set exits : List Prefix) (objects : ℕ) → AreAnew lists S order rows → order ≡ listed → listed ≡ set → IsAscending set
+    → StandsFor (record { rows = rows; lists = lists; objects = objects }) S → AreInterned lists → exits ≡ exits_of rows → AreFields rows lists set exits
+fields_of lists S rows order listed set exits objects h p l ordered stands apart out =
     let same = in_place lists S order h.ranks [] rows h.made ∙ p ∙ l in
     record {
       held = all_held lists S order h.ranks _ rows h.made;
       named = named_by (record { rows = rows; lists = lists; objects = objects }) S stands apart;
       ordered = subst IsAscending (sym same) ordered;
       same = sym same;
+      out = out;
     }
 
 pub invariant_of-result : goal.invariant_of-result
 invariant_of-result c =
-    fields_of c.take_all.new.lists c.in_ok-snapshot.snapshot c.in_ok-rows.rows.items c.as_slice-2.result.now c.in_ok-listed.listed.items c.in_ok-order.order c.in_ok-objects.objects c.in_ok-rows.ensures c.as_slice-2.ensures.value
+    fields_of c.take_all.new.lists c.in_ok-snapshot.snapshot c.in_ok-rows.rows.items c.as_slice-2.result.now c.in_ok-listed.listed.items c.in_ok-order.order c.in_ok-exits.exits c.in_ok-objects.objects c.in_ok-rows.ensures c.as_slice-2.ensures.value
     c.in_ok-listed.ensures.listed c.in_ok-listed.ensures.ordered
     (all_stands c.take_all.new.lists c.in_ok-snapshot.snapshot c.in_ok-snapshot.snapshot c.in_ok-rows.rows.items c.as_slice-2.result.now c.in_ok-listed.listed.items c.in_ok-order.order c.entries.result.now c.in_ok-ids.ids.items c.pairs.result.now
     c.in_ok-objects.objects refl c.in_ok-rows.ensures c.as_slice-2.ensures.value c.in_ok-listed.ensures.listed c.in_ok-listed.ensures.ordered c.entries.ensures c.in_ok-order.ensures c.pairs.ensures c.in_ok-ids.ensures
-    c.in_ok-objects.ensures (subst IsSound (sym c.in_ok-snapshot.ensures) c.requires)) c.count-count.ensures.interned
+    c.in_ok-objects.ensures (subst IsSound (sym c.in_ok-snapshot.ensures) c.requires)) c.count-count.ensures.interned (c.in_ok-exits.ensures ∙ ap exits_of c.as_slice-3.ensures.value)
 
 pub returns : goal.returns
 returns c =

@@ -1,0 +1,146 @@
+-- The rows that news of an end makes others are found among the exits, and renewed one by one.
+use Rattle.std.proofs.Common.{arith, ◌≡◌, ℕ, zero, suc, Bool, true, false, not, ◌&&◌, ◌||◌, ◌==◌, List, [], ◌∷◌, map, filter, drop, length, Some, refl, sym, ◌∙◌, ap, ap₂, subst, slice_get, if◌then◌else◌}
+use Rattle.std.specs.Prelude.{Contains, slice_set}
+use Rattle.std.specs.List.{list_any}
+use Rattle.std.specs.List.Sorted.{IsStrictlySortedBy}
+use Rattle.std.proofs.lemmas.Bool.{false≢true}
+use Rattle.std.proofs.lemmas.Bool.Decides.{Decides-eqb}
+use Rattle.fib_list.proofs.Booleans.{and_both}
+use Rattle.fib_addr.specs.Prefixes.{Prefix}
+use Rattle.fib_cover.specs.Covers.{IsAscending}
+use Rattle.fib_resolve.specs.declared.aims.Aim.TheVariants as aims
+use Rattle.fib_resolve.specs.declared.aims.Marked.{Marked}
+use Rattle.fib_resolve.specs.declared.types.End.TheVariants as answers
+use Rattle.fib_resolve.proofs.Covering.{filter_from}
+use Rattle.fib_changes.proofs.Edits.{in_front, in_rest}
+use Rattle.fib_changes.proofs.SamePairs.{map_from}
+use Rattle.fib_interned.proofs.Finding.{some_is, none_some}
+use Rattle.fib_entries.specs.Known.{prefix_of, row_of}
+use Rattle.fib_entries.specs.declared.ends.News.{News}
+use Rattle.fib_entries.specs.declared.ends.News.TheVariants as news
+use Rattle.fib_entries.specs.Rows.{Row}
+use Rattle.fib_entries.specs.inner.Ends.{aim_over, aim_at, has_flag, has_mac, with_counts, with_aim, is_exit, has_exit, exits_of, renewed, is_old, is_old_row, is_old_in, renewed_row, AreRenewing}
+use Rattle.fib_entries.proofs.Exits.{over_exits, at_exits}
+use Rattle.fib_entries.proofs.LeafRows.{row_by}
+use Rattle.fib_entries.proofs.Linking.{set_names}
+use Rattle.fib_entries.proofs.Looking.{one_place}
+use Rattle.fib_entries.proofs.PlyOrder.{index_of}
+use Rattle.fib_entries.proofs.Renewing.{row_kept}
+
+-- a row that the news makes another is among the exits
+
+old_exits : (n : News) (m : Marked) → is_old n m ≡ true → is_exit m ≡ true
+old_exits (news.Flag i up) m h = over_exits i m.aim (and_both (aim_over i m.aim) (not (has_flag up m)) h).0
+old_exits (news.Mac i a mac) m h = at_exits i a m.aim (and_both (aim_at i a m.aim) (not (has_mac mac m.aim)) h).0
+
+olds_exit : (n : News) (ms : List Marked) → list_any (is_old n) ms ≡ true → list_any is_exit ms ≡ true
+olds_exit n [] h = absurd (false≢true h)
+olds_exit n (m ∷ ms) h = by (is_old n m) refl h (olds_exit n ms)
+  where
+    either_way : (b : Bool) → (b || true) ≡ true
+    either_way true = refl
+    either_way false = refl
+
+    by : (b : Bool) → is_old n m ≡ b → (b || list_any (is_old n) ms) ≡ true → (list_any (is_old n) ms ≡ true → list_any is_exit ms ≡ true) → (is_exit m || list_any is_exit ms) ≡ true
+    by true here h later = ap (λ c. c || list_any is_exit ms) (old_exits n m here)
+    by false off h later = ap (λ c. is_exit m || c) (later h) ∙ either_way (is_exit m)
+
+old_among : (n : News) (test : Prefix → Bool) (rows : List Row) → ((r : Row) → Contains rows r → test r.prefix ≡ is_old_row n r) → filter test (exits_of rows) ≡ map prefix_of (filter (is_old_row n) rows)
+unfolding has_exit
+old_among n test [] each = refl
+old_among n test (r ∷ rows) each = by (has_exit r) (is_old_row n r) refl refl (each r (in_front r r rows refl)) (old_among n test rows (λ q c. each q (in_rest r q rows c)))
+  where
+    by : (b c : Bool) → has_exit r ≡ b → is_old_row n r ≡ c → test r.prefix ≡ is_old_row n r → filter test (exits_of rows) ≡ map prefix_of (filter (is_old_row n) rows)
+        → filter test (map prefix_of (if b then r ∷ filter has_exit rows else filter has_exit rows)) ≡ map prefix_of (if c then r ∷ filter (is_old_row n) rows else filter (is_old_row n) rows)
+    by true true is old here rest = ap (λ x. if x then r.prefix ∷ filter test (exits_of rows) else filter test (exits_of rows)) (here ∙ old) ∙ ap (λ l. r.prefix ∷ l) rest
+    by true false is old here rest = ap (λ x. if x then r.prefix ∷ filter test (exits_of rows) else filter test (exits_of rows)) (here ∙ old) ∙ rest
+    by false true is old here rest = absurd (false≢true (sym is ∙ olds_exit n r.marked old))
+    by false false is old here rest = rest
+
+pub old_found : (n : News) (rows : List Row) → IsAscending (map prefix_of rows) → filter (λ p. is_old_in n (row_of rows p)) (exits_of rows) ≡ map prefix_of (filter (is_old_row n) rows)
+old_found n rows asc = old_among n (λ p. is_old_in n (row_of rows p)) rows (λ r c. ap (is_old_in n) (row_by rows asc r.prefix r c refl))
+
+-- what was renewed is not made another again
+
+and_off : (b : Bool) → (b && false) ≡ false
+and_off true = refl
+and_off false = refl
+
+mark_new : (n : News) (m : Marked) → is_old n (renewed n m) ≡ false
+mark_new (news.Flag i up) m = by (aim_over i m.aim) refl
+  where
+    counted : (up : Bool) → not (has_flag up (with_counts up m)) ≡ false
+    counted true = refl
+    counted false = refl
+
+    by : (b : Bool) → aim_over i m.aim ≡ b → is_old (news.Flag i up) (if b then with_counts up m else m) ≡ false
+    by true here = ap (λ c. aim_over i m.aim && c) (counted up) ∙ and_off (aim_over i m.aim)
+    by false off = ap (λ b. b && not (has_flag up m)) off
+mark_new (news.Mac i a mac) m = by (aim_at i a m.aim) refl
+  where
+    by : (b : Bool) → aim_at i a m.aim ≡ b → is_old (news.Mac i a mac) (if b then with_aim (aims.Ends (answers.Hop i a (Some mac))) m else m) ≡ false
+    by true here = ap (λ b. ((i == i) && (a == a)) && not b) ((Decides-eqb mac mac).1 refl) ∙ and_off ((i == i) && (a == a))
+    by false off = ap (λ b. b && not (has_mac mac m.aim)) off
+
+marks_new : (n : News) (ms : List Marked) → list_any (is_old n) (map (renewed n) ms) ≡ false
+marks_new n [] = refl
+marks_new n (m ∷ ms) = ap₂ (λ b c. b || c) (mark_new n m) (marks_new n ms)
+
+module _ (n : News) where
+  row_new : (r : Row) → is_old_row n (renewed_row n r) ≡ false
+  row_new r = marks_new n r.marked
+
+  map_set : (rows : List Row) (k : ℕ) (r : Row) → slice_get rows k ≡ Some r → map (renewed_row n) (slice_set rows k (renewed_row n r)) ≡ map (renewed_row n) rows
+  map_set [] k r at = absurd (none_some r at)
+  map_set (q ∷ qs) zero r at = ap (λ z. z ∷ map (renewed_row n) qs) (row_kept n (renewed_row n r) (row_new r) ∙ ap (renewed_row n) (sym (some_is q r at)))
+  map_set (q ∷ qs) (suc k) r at = ap (λ l. renewed_row n q ∷ l) (map_set qs k r at)
+
+  -- the first that is still to be renewed goes from those
+  one_less : (rows : List Row) (k : ℕ) (r : Row) (left : List Prefix) → IsAscending (map prefix_of rows) → slice_get rows k ≡ Some r → map prefix_of (filter (is_old_row n) rows) ≡ r.prefix ∷ left
+      → map prefix_of (filter (is_old_row n) (slice_set rows k (renewed_row n r))) ≡ left
+  unfolding IsStrictlySortedBy
+  one_less [] k r left asc at h = absurd (none_some r at)
+  one_less (q ∷ qs) zero r left asc at h =
+      ap (λ b. map prefix_of (if b then renewed_row n r ∷ filter (is_old_row n) qs else filter (is_old_row n) qs)) (row_new r) ∙ by (is_old_row n q) h
+    where
+      by : (b : Bool) → map prefix_of (if b then q ∷ filter (is_old_row n) qs else filter (is_old_row n) qs) ≡ r.prefix ∷ left → map prefix_of (filter (is_old_row n) qs) ≡ left
+      by true h = ap (λ l. drop 1 l) h
+      by false h =
+          let m = map_from prefix_of (filter (is_old_row n) qs) r.prefix (subst (λ l. Contains l r.prefix) (sym h) (in_front r.prefix r.prefix left refl)) in
+          let g = index_of qs m.0 (filter_from (is_old_row n) qs m.0 m.1).0 in
+          let e = one_place prefix_of (q ∷ qs) asc 0 (suc g.0) r m.0 at g.1 (sym m.2) in
+          absurd (omega (arith, e))
+  one_less (q ∷ qs) (suc k) r left asc at h = by (is_old_row n q) h (one_less qs k r left asc.1 at)
+    where
+      by : (b : Bool) → map prefix_of (if b then q ∷ filter (is_old_row n) qs else filter (is_old_row n) qs) ≡ r.prefix ∷ left
+          → (map prefix_of (filter (is_old_row n) qs) ≡ r.prefix ∷ left → map prefix_of (filter (is_old_row n) (slice_set qs k (renewed_row n r))) ≡ left)
+          → map prefix_of (if b then q ∷ filter (is_old_row n) (slice_set qs k (renewed_row n r)) else filter (is_old_row n) (slice_set qs k (renewed_row n r))) ≡ left
+      by true h later = (let e = one_place prefix_of (q ∷ qs) asc 0 (suc k) q r refl at (some_is q.prefix r.prefix (ap (λ l. slice_get l 0) h)) in absurd (omega (arith, e)))
+      by false h later = later h
+
+  all_new : (rows : List Row) → map prefix_of (filter (is_old_row n) rows) ≡ [] → map (renewed_row n) rows ≡ rows
+  all_new [] h = refl
+  all_new (q ∷ qs) h = by (is_old_row n q) refl h (all_new qs)
+    where
+      by : (b : Bool) → is_old_row n q ≡ b → map prefix_of (if b then q ∷ filter (is_old_row n) qs else filter (is_old_row n) qs) ≡ [] → (map prefix_of (filter (is_old_row n) qs) ≡ [] → map (renewed_row n) qs ≡ qs) → renewed_row n q ∷ map (renewed_row n) qs ≡ q ∷ qs
+      by true is h later = (let e = ap length h in absurd (omega (arith, e)))
+      by false isnt h later = ap₂ (λ x l. x ∷ l) (row_kept n q isnt) (later h)
+
+  pub renewing_start : (rows : List Row) (left : List Prefix) → IsAscending (map prefix_of rows) → left ≡ map prefix_of (filter (is_old_row n) rows) → AreRenewing n rows rows left
+  renewing_start rows left asc is = record { ordered = asc; same = refl; still = sym is }
+
+  -- the row of the first prefix is there
+  pub renewing_row : (old rows : List Row) (p : Prefix) (left : List Prefix) → AreRenewing n old rows (p ∷ left) → (r : Row) × (row_of rows p ≡ Some r) × (r.prefix ≡ p)
+  renewing_row old rows p left h =
+      let m = map_from prefix_of (filter (is_old_row n) rows) p (subst (λ l. Contains l p) (sym h.still) (in_front p p left refl)) in
+      (m.0, row_by rows h.ordered p m.0 (filter_from (is_old_row n) rows m.0 m.1).0 (sym m.2), m.2)
+
+  pub renewing_next : (old rows : List Row) (k : ℕ) (r : Row) (left : List Prefix) → slice_get rows k ≡ Some r → AreRenewing n old rows (r.prefix ∷ left) → AreRenewing n old (slice_set rows k (renewed_row n r)) left
+  renewing_next old rows k r left at h = record {
+    ordered = subst IsAscending (sym (set_names rows k r (renewed_row n r) at refl)) h.ordered;
+    same = map_set rows k r at ∙ h.same;
+    still = one_less rows k r left h.ordered at h.still;
+  }
+
+  pub renewing_done : (old rows : List Row) → AreRenewing n old rows [] → rows ≡ map (renewed_row n) old
+  renewing_done old rows h = sym (all_new rows h.still) ∙ h.same
