@@ -215,6 +215,24 @@ fn are_as_anew(alloc: Global, entries: &Entries, config: &Config) -> Result<bool
     Ok(agree(entries, &anew))
 }
 
+/// Whether the change, where it makes objects, is refused where none may come, and told with the size of the tables.
+fn tells_size(
+    alloc: Global,
+    entries: &mut Entries,
+    config: &Config,
+    change: Change,
+) -> Result<bool, Fail> {
+    let anew = Entries::of(alloc, config.tables())?;
+    let most = entries.size();
+    if anew.size() <= most {
+        return Ok(true);
+    }
+    match entries.follow_changes(config, &[change], most) {
+        Err(FollowError::TooMany(size)) => Ok(size == anew.size()),
+        _ => Ok(false),
+    }
+}
+
 /// Whether the edit of the second route touches it alone, and the entries that follow it are as if made anew.
 fn follows_a_leaf(
     alloc: Global,
@@ -225,7 +243,11 @@ fn follows_a_leaf(
     config.edit(&edit_of(alloc, number)?)?;
     let prefix = Prefix::masked(Addr(0x1e00_0000), 8);
     let source = FibSource::Cli;
-    let followed = entries.follow_changes(config, &[Change::Route { prefix, source }], 1000)?;
+    let change = Change::Route { prefix, source };
+    if !tells_size(alloc, entries, config, change)? {
+        return Ok(false);
+    }
+    let followed = entries.follow_changes(config, &[change], 1000)?;
     let is_alone = followed.touched.list() == [prefix].as_slice();
     Ok(is_alone && are_as_anew(alloc, entries, config)?)
 }
