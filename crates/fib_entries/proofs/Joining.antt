@@ -8,7 +8,7 @@ use Rattle.fib_list.proofs.Lists.{either, Contains-nil}
 use Rattle.fib_list.proofs.Booleans.{and_both}
 use Rattle.fib_addr.specs.Prefixes.{Prefix, IsPrefix, same_prefix, contains}
 use Rattle.fib_addr.proofs.PrefixLaws.{same_prefix-Decides}
-use Rattle.fib_cover.specs.Covers.{ArePrefixes, IsAscending}
+use Rattle.fib_cover.specs.Covers.{IsAscending}
 use Rattle.fib_resolve.specs.Aims.{marked, marked_list}
 use Rattle.fib_resolve.specs.Edits.{paths_at}
 use Rattle.fib_resolve.specs.Keys.{need_rank}
@@ -33,7 +33,7 @@ use Rattle.fib_entries.specs.Changes.{AreTouched, AreMoved}
 use Rattle.fib_entries.specs.inner.Coming.{IsArriving, IsPlaced, HasCome, blank_row, with_pairs}
 use Rattle.fib_entries.specs.inner.Fields.{AreCounted, AreFields}
 use Rattle.fib_entries.specs.inner.Leaf.{IsLeafEdit, IsFollowed, IsButFor, goals_of, is_plain, plain_kind, plain_mark, plain_own, moved_at}
-use Rattle.fib_entries.specs.inner.Plies.{own_size, entry_at, entry_before, before_of, IsGap}
+use Rattle.fib_entries.specs.inner.Plies.{own_size, entry_at, entry_before, IsGap}
 use Rattle.fib_entries.specs.declared.changes.Followed.{Followed}
 use Rattle.fib_entries.specs.Rows.{Row}
 use Rattle.fib_entries.proofs.Arriving.{mid_own, with_it, there_came, row_from, ordered_came, fields_came, set_back}

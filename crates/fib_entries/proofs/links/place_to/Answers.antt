@@ -1,7 +1,5 @@
 use Rattle.std.proofs.Common.{[], ◌∷◌, refl, sym, ap, ◌∙◌, subst}
-use Rattle.std.specs.Set.{is_member}
 use Rattle.std.proofs.lemmas.Option.{slice_get_read}
-use Rattle.fib_addr.specs.Prefixes.{same_prefix}
 use Rattle.fib_entries.specs.inner.Leaf.{AreAttached}
 use Rattle.fib_entries.proofs.Linking.{attached_none, attached_absent, attached_before, no_row_at, member_in}
 use Rattle.fib_entries.proofs.Standing.{row_there}
