@@ -1,7 +1,7 @@
 #!/bin/sh
-# Measures a control over a plain board with 1,000 and with 60,000 routes 100.x.y.0/24 by way of one next hop, which is recursive over two uplinks:
-# the routes in one batch, one route more, a neighbor's new address, an uplink that goes down and comes up. `Control::apply` has the entries'
-# time in it; bench/config.sh measures that alone.
+# Measures a control over a plain board with 1,000, 8,000 and 60,000 routes 100.x.y.0/24 by way of one next hop, which is recursive over two
+# uplinks: the routes in one batch, and then one change at a time, as CHANGES says. `Control::apply` has the entries' time in it;
+# bench/config.sh measures that alone.
 #
 #     bench/control.sh          (in the repository, with the kit's rt on the path; what it stands on is proved first, which takes long
 #                               where the repository hasn't been proved yet)
@@ -30,8 +30,8 @@ use std::io;
 use std::io::Print;
 use std::time::{Clock, Instant};
 
-/// The links, and the next hop over them.
-const LINKS: [&str; 9] = [
+/// The links, the next hop over them, and another over one of them.
+const LINKS: [&str; 12] = [
     "create interface up0",
     "set interface state up0 up",
     "set interface ip address up0 10.1.0.1/24",
@@ -41,14 +41,25 @@ const LINKS: [&str; 9] = [
     "set ip neighbor up0 10.1.0.2 02:00:00:00:00:01",
     "set ip neighbor up1 10.2.0.2 02:00:00:00:00:02",
     "ip route add 192.168.255.1/32 via 10.1.0.2 via 10.2.0.2",
+    "ip route add 192.168.255.2/32 via 10.1.0.2",
+    "ip route add 98.0.0.0/24 via 192.168.255.2",
+    "ip route add 98.0.1.0/24 via 192.168.255.2",
 ];
 
-/// The changes that are measured one by one, after the route of the next number.
-const CHANGES: [&str; 4] = [
+/// The changes that are measured one by one. With the first one the lists that are full grow. Then a route comes behind all others and one
+/// before them; a route gets a path by way of the other next hop and loses its old one; the route before all others goes; an uplink's
+/// neighbor has another address, and the uplink goes down and up; the first route that was loaded goes.
+const CHANGES: [&str; 10] = [
+    "ip route add 101.0.0.0/24 via 192.168.255.1",
+    "ip route add 101.0.1.0/24 via 192.168.255.1",
+    "ip route add 99.0.0.0/24 via 192.168.255.1",
+    "ip route add 100.0.9.0/24 via 192.168.255.2",
+    "ip route del 100.0.9.0/24 via 192.168.255.1",
+    "ip route del 99.0.0.0/24",
     "set ip neighbor up1 10.2.0.2 02:00:00:00:00:03",
     "set interface state up1 down",
     "set interface state up1 up",
-    "ip route del 100.0.7.0/24",
+    "ip route del 100.0.0.0/24",
 ];
 
 /// The edit that a line says.
@@ -185,8 +196,6 @@ fn measure_on<R: Print + Clock + Alloc<A = Global>>(rt: &R, control: &mut Contro
         line(rt, control, text)?;
     }
     load(rt, control, count)?;
-    let edit = route(rt.alloc(), count)?;
-    change(rt, control, "one route more", &edit)?;
     for text in CHANGES {
         line(rt, control, text)?;
     }
@@ -202,6 +211,7 @@ fn measure<R: Print + Clock + Alloc<A = Global>>(rt: &R, count: u32) -> io::Resu
 
 fn main(rt: HostRuntime) -> io::Result<()> {
     measure(&rt, 1_000)?;
+    measure(&rt, 8_000)?;
     measure(&rt, 60_000)
 }
 MAIN
