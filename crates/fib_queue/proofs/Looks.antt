@@ -1,6 +1,9 @@
 -- Both lists of a queue answer a look-up alike.
 use Rattle.std.proofs.Common.{arith, ◌≡◌, ℕ, ◌<◌, ◌≤◌, ⊎_elim, inl, inr, true, false, eq-eqb, ne_eqb, List, [], ◌∷◌, Option, Some, None, refl, sym, ap, subst, ◌∙◌}
-use Rattle.std.specs.Prelude.{IfSome, slice_get}
+use Rattle.std.specs.Prelude.{IfSome, slice_get, option_copied}
+use Rattle.std.specs.Borrow.{Bor}
+use Rattle.std.specs.Slice.{IsItemAt}
+use Rattle.std.proofs.lemmas.Option.{slice_get_read, slice_get_past}
 use Rattle.std.specs.List.{AllByRecursion}
 use Rattle.std.proofs.lemmas.Bool.{true≢false}
 use native.Mathlib.Decide.{ℕ_discrete}
@@ -101,3 +104,8 @@ least_if order kept h (Some q) e = first_least order kept h q (sym e)
 pub first_is : (order : List Queued) (o : Option Queued) → o ≡ slice_get order 0 → o ≡ first_of order
 first_is [] o e = e
 first_is (x ∷ xs) o e = e
+
+-- what a look at a place gives
+pub first_copied : (xs : List Queued) (o : Option (Bor Queued)) → IsItemAt xs 0 o → option_copied o ≡ slice_get xs 0
+first_copied xs None e = sym (slice_get_past xs 0 e.3)
+first_copied xs (Some x) e = sym (slice_get_read xs _ 0 x.now refl e.3.0 e.1)

@@ -6,6 +6,7 @@ ghost use Rattle.fib_queue.specs.declared.order.Queued.{Queued as QueuedValue};
 
 use fib_addr::Prefix;
 use fib_ordered::Keyed;
+use std::collections::VecDeque;
 
 /// A queued prefix, and the rank by which it is taken.
 #[derive(Clone, Copy, Debug, PartialEq, Eq)]
@@ -49,10 +50,10 @@ fn is_before(left: &Queued, right: &Queued) -> bool
 }
 
 /// How many are taken before this one, in a list in order.
-pub fn count_before(order: &[Queued], queued: &Queued) -> usize
-    ensures bound { result ≤ length order.now }
-    ensures before { (d : QueuedValue) → 0 < result → turn_key (slice_index_or order.now (result - 1) d) < turn_key queued.now }
-    ensures from { (d : QueuedValue) → result < length order.now → turn_key queued.now ≤ turn_key (slice_index_or order.now result d) }
+pub fn count_before(order: &VecDeque<Queued>, queued: &Queued) -> usize
+    ensures bound { result ≤ length order.now.items }
+    ensures before { (d : QueuedValue) → 0 < result → turn_key (slice_index_or order.now.items (result - 1) d) < turn_key queued.now }
+    ensures from { (d : QueuedValue) → result < length order.now.items → turn_key queued.now ≤ turn_key (slice_index_or order.now.items result d) }
 {
     let mut low = 0;
     let mut high = order.len();

@@ -1,5 +1,7 @@
 // Queued prefixes.
 ghost use Rattle.std.specs.Prelude.{◌≡◌, ℕ, ◌+◌, ◌<◌, ◌≤◌, ◌↔◌, None, Some, [], IfSome, IsSome, IsTrue, OnOk, if◌then◌else◌, length, option_map};
+ghost use Rattle.std.specs.List.{remove};
+ghost use Rattle.std.specs.VecDeque.{deque_capacity};
 ghost use Rattle.fib_addr.specs.Prefixes.{Prefix as PrefixValue, same_prefix};
 ghost use Rattle.fib_ordered.specs.Sets.{IsAscending, first_of};
 ghost use Rattle.fib_queue.specs.Queues.{IsLeast, rank_in, turn_key};
@@ -8,6 +10,7 @@ use crate::order::{Queued, count_before, key_of};
 use fib_addr::Prefix;
 use fib_ordered::Ordered;
 use std::alloc::{AllocError, Global};
+use std::collections::VecDeque;
 use std::marker::Model;
 
 /// Prefixes with their ranks, each once. Contracts see the list of them, the one that is taken first at its head, and for how many more
@@ -16,21 +19,34 @@ use std::marker::Model;
 pub struct Queue {
     /// By prefix.
     ranks: Ordered<Queued>,
-    /// By rank, then by prefix.
-    order: Vec<Queued>,
+    /// By rank, then by prefix. What is taken next leaves at the front without a shift of those behind it.
+    order: VecDeque<Queued>,
 }
 
 impl Model for Queue {
-    ghost use Rattle.std.specs.Prelude.{length, min, vec_capacity, ◌-◌};
+    ghost use Rattle.std.specs.Prelude.{length, min, ◌-◌};
+    ghost use Rattle.std.specs.VecDeque.{deque_capacity};
     ghost use Rattle.fib_ordered.specs.Sets.{Order};
     ghost use Rattle.fib_queue.specs.inner.Steps.{AreInStep};
     ghost use Rattle.fib_queue.specs.declared.order.Queued.{Queued as QueuedValue};
 
     ghost Value = { Order QueuedValue };
 
-    ghost view = { λ s. record { members = s.order.items; spare = min s.ranks.spare (vec_capacity s.order - length s.order.items) } };
+    ghost view = { λ s. record { members = s.order.items; spare = min s.ranks.spare (deque_capacity s.order - length s.order.items) } };
 
     ghost invariant = { λ s. AreInStep s.order.items s.ranks.members };
+}
+
+/// What stands at that place goes.
+fn take_out(order: &mut VecDeque<Queued>, place: usize)
+    requires { place < length order.old.items }
+    ensures items { order.new.items ≡ remove order.old.items place }
+    ensures fewer { length order.new.items + 1 ≡ length order.old.items }
+    ensures room { deque_capacity order.new ≡ deque_capacity order.old }
+{
+    let Some(_gone) = order.remove(place) else {
+        unreachable!()
+    };
 }
 
 impl Queue {
@@ -40,7 +56,7 @@ impl Queue {
     {
         Queue {
             ranks: Ordered::new(alloc),
-            order: Vec::new(alloc),
+            order: VecDeque::new(alloc),
         }
     }
 
@@ -95,7 +111,7 @@ impl Queue {
         ensures ordered { IsAscending turn_key self.now.members }
         ensures least { IfSome result (IsLeast self.now.members) }
     {
-        self.order.as_slice().first().copied()
+        self.order.front().copied()
     }
 
     /// Queues the prefix under this rank, also where it is queued under another. There must be room.
@@ -127,8 +143,8 @@ impl Queue {
         let Some(queued) = self.ranks.remove(key_of(prefix)) else {
             return;
         };
-        let place = count_before(self.order.as_slice(), &queued);
-        self.order.remove(place);
+        let place = count_before(&self.order, &queued);
+        take_out(&mut self.order, place);
     }
 
     /// Takes in a prefix that isn't queued.
@@ -139,7 +155,7 @@ impl Queue {
         ensures spare { self.old.spare ≤ self.new.spare + 1 }
     {
         let _key = key_of(prefix);
-        let place = count_before(self.order.as_slice(), &Queued { prefix, rank });
+        let place = count_before(&self.order, &Queued { prefix, rank });
         self.ranks.insert(Queued { prefix, rank });
         let Ok(()) = self.order.insert(place, Queued { prefix, rank }) else {
             unreachable!()

@@ -1,4 +1,4 @@
-use Rattle.std.proofs.Common.{Some, take, drop, sym, subst}
+use Rattle.std.proofs.Common.{refl, Some, take, drop, sym, subst}
 use Rattle.fib_queue.specs.Queues.{turn_key}
 use Rattle.fib_queue.specs.declared.order.Queued.{Queued}
 use Rattle.fib_queue.specs.inner.Steps.{AreInStep}
@@ -16,7 +16,7 @@ invariant_of-self c =
     let kept = c.self.inside.ranks.members in
     let j = c.count_before-place.result in
     let q : Queued = record { prefix = c.args.prefix; rank = c.args.rank } in
-    let cut : IsCut turn_key (turn_key q) xs (take j xs) (drop j xs) = cut_of (turn_key q) c.as_slice.result.now xs j c.as_slice.ensures.value c.self.invariant.ordered c.count_before-place.ensures.bound c.count_before-place.ensures.before c.count_before-place.ensures.from in
+    let cut : IsCut turn_key (turn_key q) xs (take j xs) (drop j xs) = cut_of (turn_key q) xs xs j refl c.self.invariant.ordered c.count_before-place.ensures.bound c.count_before-place.ensures.before c.count_before-place.ensures.from in
     let none = not_kept xs kept c.self.invariant c.args.prefix (short c.args.prefix c.key_of-key.ensures.prefix) (rw (← c.self.view_is) at c.requires.absent) in
     subst (λ l. AreInStep l c.insert.new.self.members) (sym c.in-Ok.ensures.items) (step_in xs kept c.self.invariant q (take j xs) (drop j xs) cut c.key_of-key.ensures.prefix none c.insert.new.self.members c.insert.ensures.found)
 
