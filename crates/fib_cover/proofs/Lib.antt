@@ -1,4 +1,5 @@
 pub mod Inside
+pub mod Lengths
 pub mod Matches
 pub mod Order
 pub mod Sets

@@ -15,6 +15,8 @@ use std::ops::Bound;
 #[derive(Drop)]
 pub struct PrefixSet {
     members: BTreeSet<Prefix>,
+    /// For each length, whether a member may have it: look-ups pass over the other lengths.
+    lengths: [bool; 33],
 }
 
 impl Model for PrefixSet {
@@ -25,9 +27,9 @@ impl Model for PrefixSet {
 
     ghost view = { λ s. s.members.keys };
 
-    ghost use Rattle.fib_cover.specs.Covers.{ArePrefixes};
+    ghost use Rattle.fib_cover.specs.inner.Lengths.{AreMembers};
 
-    ghost invariant = { λ s. ArePrefixes s.members.keys };
+    ghost invariant = { λ s. AreMembers s.lengths s.members.keys };
 }
 
 impl PrefixSet {
@@ -37,6 +39,7 @@ impl PrefixSet {
     {
         PrefixSet {
             members: BTreeSet::new(alloc),
+            lengths: [false; 33],
         }
     }
 
@@ -58,9 +61,9 @@ impl PrefixSet {
         ensures err { OnErr result (self.new ≡ self.old) }
         ensures ordered { IsAscending self.new }
     {
-        // Read so that the proof knows that it is a prefix.
-        let _length = prefix.len();
+        let length = prefix.len();
         let added = self.members.insert(prefix)?;
+        self.lengths[usize::from(length)] = true;
         Ok(added)
     }
 
@@ -96,18 +99,38 @@ impl PrefixSet {
         self.members.contains(&prefix)
     }
 
-    /// The longest member that contains the address; None exactly where no member does. At most one look-up a length.
+    /// The longest member that contains the address; None exactly where no member does. At most one look-up for each length that members
+    /// have had.
     pub fn best(&self, addr: Addr) -> Option<Prefix>
         ensures { IsLongestMatch self.now 33 addr result }
     {
-        longest(&self.members, addr, 33)
+        self.longest(addr, 33)
     }
 
     /// The longest member of a length below 32 that contains the address; None exactly where no such member does.
     pub fn cover(&self, addr: Addr) -> Option<Prefix>
         ensures { IsLongestMatch self.now 32 addr result }
     {
-        longest(&self.members, addr, 32)
+        self.longest(addr, 32)
+    }
+
+    /// The longest match below the limit: one look-up a length, from the longest on.
+    fn longest(&self, addr: Addr, limit: u8) -> Option<Prefix>
+        requires { limit ≤ 33 }
+        ensures { IsLongestMatch self.now limit addr result }
+    {
+        // Read so that the proof knows its range.
+        let _number = addr.0;
+        for len in (0..limit).rev() {
+            if !self.lengths[usize::from(len)] {
+                continue;
+            }
+            let prefix = Prefix::masked(addr, len);
+            if self.members.contains(&prefix) {
+                return Some(prefix);
+            }
+        }
+        None
     }
 
     /// The members, in order.
@@ -163,20 +186,4 @@ fn gather_all(alloc: Global, members: &BTreeSet<Prefix>) -> Result<Vec<Prefix>, 
         out.push(*member)?;
     }
     Ok(out)
-}
-
-/// The longest match below the limit: one look-up a length, from the longest on.
-fn longest(members: &BTreeSet<Prefix>, addr: Addr, limit: u8) -> Option<Prefix>
-    requires { limit ≤ 33 }
-    ensures { IsLongestMatch members.now.keys limit addr result }
-{
-    // Read so that the proof knows its range.
-    let _number = addr.0;
-    for len in (0..limit).rev() {
-        let prefix = Prefix::masked(addr, len);
-        if members.contains(&prefix) {
-            return Some(prefix);
-        }
-    }
-    None
 }

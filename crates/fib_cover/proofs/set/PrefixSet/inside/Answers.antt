@@ -12,7 +12,7 @@ pub returns : goal.returns
 returns c =
     let last : c.host-last.result ≡ last_of c.args.prefix = c.host-last.ensures ∙ ap host c.last.ensures in
     let set = c.self.view_is in
-    let all = subst ArePrefixes set c.self.invariant in
+    let all = subst ArePrefixes set c.self.invariant.prefixes in
     IfOk-weaker c.between.result _ _
     (λ v e. e ∙ (ap (λ (l : Prefix). filter (range_contains prefix_cmp (Included c.args.prefix) (Included l)) c.self.inside.members.keys) last ∙ (ap (λ (m : List Prefix). filter (range_contains prefix_cmp (Included c.args.prefix) (Included (last_of c.args.prefix))) m) set ∙ filter_inside c.args.prefix c.args.self.now c.len-length.ensures.prefix all)))
     c.between.ensures

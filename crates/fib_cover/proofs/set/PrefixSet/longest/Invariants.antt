@@ -1,7 +1,7 @@
 use Rattle.std.proofs.Common.{◌<◌}
 use Rattle.fib_addr.specs.Prefixes.{Prefix}
 use Rattle.fib_cover.specs.Covers.{IsMatch}
-use Rattle.fib_cover.proofs.set.longest.Given as goal
+use Rattle.fib_cover.proofs.set.PrefixSet.longest.Given as goal
 
 abbrev pub invariant-loop-len : goal.invariant-loop-len
-invariant-loop-len l = (q : Prefix) → IsMatch l.members.keys l.limit l.addr q → q.len < l.len
+invariant-loop-len l = (q : Prefix) → IsMatch l.self l.limit l.addr q → q.len < l.len
