@@ -12,6 +12,7 @@ use crate::changes::{Followed, Touched};
 use crate::replace::{Swap, replace};
 use crate::rows::Row;
 use fib_addr::Prefix;
+use fib_blocks::Blocks;
 use fib_paths::{PathListId, PathLists};
 use fib_resolve::{FibSource, Path};
 use std::alloc::{AllocError, Global};
@@ -32,7 +33,7 @@ fn copied(alloc: Global, paths: &[Path]) -> Result<Vec<Path>, AllocError>
 }
 
 /// The rank of the row at that place.
-fn rank_at(rows: &[Row], place: usize) -> u32
+fn rank_at(rows: &Blocks<Row>, place: usize) -> u32
     requires { (r : RowValue) × (slice_get rows.now place ≡ Some r) × (length r.pairs ≡ 1) }
     ensures { (r : RowValue) → slice_get rows.now place ≡ Some r → result ≡ r.rank }
 {
@@ -43,23 +44,23 @@ fn rank_at(rows: &[Row], place: usize) -> u32
 /// another. After want of memory all is as before.
 pub fn change(
     alloc: Global,
-    rows: &mut Vec<Row>,
+    rows: &mut Blocks<Row>,
     lists: &mut PathLists,
     at: (usize, PathListId),
     to: Target<'_>,
 ) -> Result<Followed, AllocError>
-    requires ascending { IsAscending (map prefix_of rows.old.items) }
-    requires row { (r : RowValue) × (slice_get rows.old.items at.0 ≡ Some r) × (length r.pairs ≡ 1) }
+    requires ascending { IsAscending (map prefix_of rows.old) }
+    requires row { (r : RowValue) × (slice_get rows.old at.0 ≡ Some r) × (length r.pairs ≡ 1) }
     requires kept { IsSome (kept_of lists.old at.1) }
     requires room { IsUsedLess lists.old to.new.now (2 ^ 32 - 1) }
-    ensures done { IfOk result (λ f. IsChanged rows.old.items rows.new.items lists.old lists.new at.0 to.entry.prefix at.1 to.entry.source to.entry.new.now to.entry.rank f) }
-    ensures rows { OnErr result (rows.new.items ≡ rows.old.items) }
+    ensures done { IfOk result (λ f. IsChanged rows.old rows.new lists.old lists.new at.0 to.entry.prefix at.1 to.entry.source to.entry.new.now to.entry.rank f) }
+    ensures rows { OnErr result (rows.new ≡ rows.old) }
     ensures lists { OnErr result (lists.new ≡ lists.old) }
 {
     let old = copied(alloc, lists.content(at.1))?;
     let own = own(alloc, to.source, to.new, to.rank)?;
     let touched = alone(alloc, to.prefix)?;
-    let moved = moved(alloc, to.prefix, rank_at(rows.as_slice(), at.0), to.rank)?;
+    let moved = moved(alloc, to.prefix, rank_at(rows, at.0), to.rank)?;
     let swap = Swap {
         place: at.0,
         prefix: to.prefix,

@@ -20,25 +20,26 @@ use crate::links::attach;
 use crate::replace::Own;
 use crate::rows::{Body, Row};
 use fib_addr::Prefix;
+use fib_blocks::Blocks;
 use fib_list::List;
 use fib_paths::{PathListId, PathLists};
 use fib_resolve::{FibSource, Path, Tables};
 use std::alloc::{AllocError, Global};
 
 /// Where the prefix belongs among the rows, where none is its own.
-fn gap_of(rows: &[Row], prefix: Prefix) -> Option<usize>
+fn gap_of(rows: &Blocks<Row>, prefix: Prefix) -> Option<usize>
     requires { IsAscending (map prefix_of rows.now) }
     ensures gap { IfSome result (λ k. IsGap (map prefix_of rows.now) k prefix) }
     ensures inside { IfSome result (λ k. k ≤ length rows.now) }
 {
-    match rows.binary_search_by_key(&prefix, |r| r.prefix) {
+    match rows.search(&prefix) {
         Ok(_) => None,
         Err(place) => Some(place),
     }
 }
 
 /// Whether the row at that place, if there is one, begins outside the prefix.
-fn is_outside(rows: &[Row], place: usize, p: Prefix) -> bool
+fn is_outside(rows: &Blocks<Row>, place: usize, p: Prefix) -> bool
     ensures { IsTrue result → (s : RowValue) → slice_get rows.now place ≡ Some s → contains p s.prefix.bits ≡ false }
 {
     match rows.get(place) {
@@ -49,7 +50,7 @@ fn is_outside(rows: &[Row], place: usize, p: Prefix) -> bool
 
 /// Where the prefix's row belongs, where it comes with the route of that source and list, and it alone.
 pub fn arriving(
-    rows: &[Row],
+    rows: &Blocks<Row>,
     tables: &Tables,
     p: Prefix,
     source: FibSource,
@@ -99,13 +100,12 @@ fn blank(alloc: Global, p: Prefix, own: Own) -> Result<Row, AllocError>
     Row::new(alloc, p, body)
 }
 
-fn put_in(rows: &mut Vec<Row>, place: usize, row: Row) -> Result<(), AllocError>
-    requires { place ≤ length rows.old.items }
-    ensures ok { OnOk result (rows.new.items ≡ insert rows.old.items place row) }
-    ensures err { OnErr result (rows.new.items ≡ rows.old.items) }
+fn put_in(rows: &mut Blocks<Row>, place: usize, row: Row) -> Result<(), AllocError>
+    requires { place ≤ length rows.old }
+    ensures ok { OnOk result (rows.new ≡ insert rows.old place row) }
+    ensures err { OnErr result (rows.new ≡ rows.old) }
 {
-    rows.insert(place, row)?;
-    Ok(())
+    rows.insert(place, row)
 }
 
 /// Room for one pair.
@@ -132,9 +132,9 @@ fn filled(
 }
 
 /// The row at that place gets these pairs.
-fn set_pairs(rows: &mut Vec<Row>, place: usize, pairs: List<(FibSource, PathListId)>)
-    requires { place < length rows.old.items }
-    ensures { (r : RowValue) → slice_get rows.old.items place ≡ Some r → rows.new.items ≡ slice_set rows.old.items place (with_pairs pairs r) }
+fn set_pairs(rows: &mut Blocks<Row>, place: usize, pairs: List<(FibSource, PathListId)>)
+    requires { place < length rows.old }
+    ensures { (r : RowValue) → slice_get rows.old place ≡ Some r → rows.new ≡ slice_set rows.old place (with_pairs pairs r) }
 {
     rows[place].body.pairs = pairs;
 }
@@ -143,18 +143,18 @@ fn set_pairs(rows: &mut Vec<Row>, place: usize, pairs: List<(FibSource, PathList
 /// taken. After want of memory all is as before.
 fn place_row(
     alloc: Global,
-    rows: &mut Vec<Row>,
+    rows: &mut Blocks<Row>,
     lists: &mut PathLists,
     at: (usize, Prefix),
     new: &[Path],
     own: Own,
 ) -> Result<(), AllocError>
-    requires ascending { IsAscending (map prefix_of rows.old.items) }
-    requires gap { IsGap (map prefix_of rows.old.items) at.0 at.1 }
-    requires inside { at.0 ≤ length rows.old.items }
+    requires ascending { IsAscending (map prefix_of rows.old) }
+    requires gap { IsGap (map prefix_of rows.old) at.0 at.1 }
+    requires inside { at.0 ≤ length rows.old }
     requires room { IsUsedLess lists.old new.now (2 ^ 32 - 1) }
-    ensures done { OnOk result (IsPlaced rows.old.items rows.new.items lists.old lists.new at.0 at.1 new.now own) }
-    ensures rows { OnErr result (rows.new.items ≡ rows.old.items) }
+    ensures done { OnOk result (IsPlaced rows.old rows.new lists.old lists.new at.0 at.1 new.now own) }
+    ensures rows { OnErr result (rows.new ≡ rows.old) }
     ensures lists { OnErr result (lists.new ≡ lists.old) }
 {
     let source = own.source;
@@ -176,17 +176,17 @@ fn place_row(
 /// Puts the prefix's row in at that place, and tells the prefix, and that it had no rank. After want of memory all is as before.
 pub fn come(
     alloc: Global,
-    rows: &mut Vec<Row>,
+    rows: &mut Blocks<Row>,
     lists: &mut PathLists,
     place: usize,
     to: Target<'_>,
 ) -> Result<Followed, AllocError>
-    requires ascending { IsAscending (map prefix_of rows.old.items) }
-    requires gap { IsGap (map prefix_of rows.old.items) place to.prefix }
-    requires inside { place ≤ length rows.old.items }
+    requires ascending { IsAscending (map prefix_of rows.old) }
+    requires gap { IsGap (map prefix_of rows.old) place to.prefix }
+    requires inside { place ≤ length rows.old }
     requires room { IsUsedLess lists.old to.new.now (2 ^ 32 - 1) }
-    ensures done { IfOk result (λ f. HasCome rows.old.items rows.new.items lists.old lists.new place to.entry.prefix to.entry.source to.entry.new.now to.entry.rank f) }
-    ensures rows { OnErr result (rows.new.items ≡ rows.old.items) }
+    ensures done { IfOk result (λ f. HasCome rows.old rows.new lists.old lists.new place to.entry.prefix to.entry.source to.entry.new.now to.entry.rank f) }
+    ensures rows { OnErr result (rows.new ≡ rows.old) }
     ensures lists { OnErr result (lists.new ≡ lists.old) }
 {
     let own = own(alloc, to.source, to.new, to.rank)?;

@@ -16,6 +16,7 @@ use crate::changes::{Followed, Touched};
 use crate::look::{place_of, row};
 use crate::rows::Row;
 use fib_addr::{Addr, Mac, Prefix};
+use fib_blocks::Blocks;
 use fib_list::List;
 use fib_paths::{PathListId, PathLists};
 use fib_resolve::{Aim, End, FibSource, Marked, Neighbor, Path, PathKind, Tables};
@@ -111,7 +112,7 @@ fn has_adjacency(lists: &PathLists, held: &[(FibSource, PathListId)], interface:
 }
 
 /// Whether the rows tell that the address is a neighbor on that interface.
-pub fn is_near(rows: &[Row], lists: &PathLists, interface: u32, addr: Addr) -> bool
+pub fn is_near(rows: &Blocks<Row>, lists: &PathLists, interface: u32, addr: Addr) -> bool
     requires ascending { IsAscending (map prefix_of rows.now) }
     requires held { AreHeld rows.now lists.now }
     ensures { IsTrue result → (r : RowValue) × Contains rows.now r × (r.prefix ≡ host addr) × ((q : FibSourceValue × ℕ) × Contains r.pairs q × IsNear lists.now interface q) }
@@ -232,7 +233,7 @@ fn add_exit(out: &mut List<Prefix>, row: &Row) -> Result<(), AllocError>
 }
 
 /// The prefixes of the rows with a path that leaves by an interface, in order: news of an end is news of these alone.
-pub fn exits_of(alloc: Global, rows: &[Row]) -> Result<List<Prefix>, AllocError>
+pub fn exits_of(alloc: Global, rows: &Blocks<Row>) -> Result<List<Prefix>, AllocError>
     ensures { IfOk result (λ l. l ≡ exits_of rows.now) }
 {
     let mut out = List::new(alloc);
@@ -243,7 +244,7 @@ pub fn exits_of(alloc: Global, rows: &[Row]) -> Result<List<Prefix>, AllocError>
 }
 
 /// Whether the news makes a mark of the prefix's row another.
-fn is_old_at(rows: &[Row], prefix: Prefix, news: &News) -> bool
+fn is_old_at(rows: &Blocks<Row>, prefix: Prefix, news: &News) -> bool
     requires { IsAscending (map prefix_of rows.now) }
     ensures { result ≡ is_old_in news.now (row_of rows.now prefix) }
 {
@@ -256,7 +257,7 @@ fn is_old_at(rows: &[Row], prefix: Prefix, news: &News) -> bool
 /// Those of which it does.
 fn old_among(
     alloc: Global,
-    rows: &[Row],
+    rows: &Blocks<Row>,
     prefixes: &[Prefix],
     news: &News,
 ) -> Result<Vec<Prefix>, AllocError>
@@ -313,21 +314,21 @@ fn renew_row(alloc: Global, row: &mut Row, news: &News)
 }
 
 /// Renews the prefix's row.
-fn renew_at(alloc: Global, rows: &mut Vec<Row>, prefix: Prefix, news: &News)
-    requires { IsAscending (map prefix_of rows.old.items) }
-    ensures { (old : Items RowValue) (left : Items PrefixValue) → AreRenewing news.now old rows.old.items (prefix ∷ left) → AreRenewing news.now old rows.new.items left }
+fn renew_at(alloc: Global, rows: &mut Blocks<Row>, prefix: Prefix, news: &News)
+    requires { IsAscending (map prefix_of rows.old) }
+    ensures { (old : Items RowValue) (left : Items PrefixValue) → AreRenewing news.now old rows.old (prefix ∷ left) → AreRenewing news.now old rows.new left }
 {
-    match place_of(rows.as_slice(), prefix) {
+    match place_of(rows, prefix) {
         Some(place) => renew_row(alloc, &mut rows[place], news),
         None => {}
     }
 }
 
 /// Renews the rows of these prefixes, which are those of which a mark becomes another.
-fn renew_rows(alloc: Global, rows: &mut Vec<Row>, touched: &[Prefix], news: &News)
-    requires ascending { IsAscending (map prefix_of rows.old.items) }
-    requires touched { touched.now ≡ map prefix_of (filter (is_old_row news.now) rows.old.items) }
-    ensures { rows.new.items ≡ map (renewed_row news.now) rows.old.items }
+fn renew_rows(alloc: Global, rows: &mut Blocks<Row>, touched: &[Prefix], news: &News)
+    requires ascending { IsAscending (map prefix_of rows.old) }
+    requires touched { touched.now ≡ map prefix_of (filter (is_old_row news.now) rows.old) }
+    ensures { rows.new ≡ map (renewed_row news.now) rows.old }
 {
     'rows: for place in 0..touched.len() {
         renew_at(alloc, rows, touched[place], news);
@@ -338,18 +339,18 @@ fn renew_rows(alloc: Global, rows: &mut Vec<Row>, touched: &[Prefix], news: &New
 /// of memory all is as before.
 pub fn follow(
     alloc: Global,
-    rows: &mut Vec<Row>,
+    rows: &mut Blocks<Row>,
     exits: &[Prefix],
     news: &News,
 ) -> Result<Followed, AllocError>
-    requires ascending { IsAscending (map prefix_of rows.old.items) }
-    requires exits { exits.now ≡ exits_of rows.old.items }
-    ensures rows { OnOk result (rows.new.items ≡ map (renewed_row news.now) rows.old.items) }
-    ensures touched { IfOk result (λ f. f.touched ≡ map prefix_of (filter (is_old_row news.now) rows.old.items)) }
+    requires ascending { IsAscending (map prefix_of rows.old) }
+    requires exits { exits.now ≡ exits_of rows.old }
+    ensures rows { OnOk result (rows.new ≡ map (renewed_row news.now) rows.old) }
+    ensures touched { IfOk result (λ f. f.touched ≡ map prefix_of (filter (is_old_row news.now) rows.old)) }
     ensures moved { IfOk result (λ f. f.moved ≡ []) }
-    ensures err { OnErr result (rows.new.items ≡ rows.old.items) }
+    ensures err { OnErr result (rows.new ≡ rows.old) }
 {
-    let touched = old_among(alloc, rows.as_slice(), exits, news)?;
+    let touched = old_among(alloc, rows, exits, news)?;
     renew_rows(alloc, rows, touched.as_slice(), news);
     Ok(Followed {
         touched: Touched::of(List::from_vec(touched)),

@@ -31,6 +31,7 @@ use crate::plies::{beyond, lowered, own_size, raised};
 use crate::rows::Row;
 use crate::{ends, whole};
 use fib_addr::{Addr, Prefix};
+use fib_blocks::Blocks;
 use fib_changes::Change;
 use fib_cover::PrefixSet;
 use fib_list::List;
@@ -44,7 +45,7 @@ use std::marker::Model;
 /// they are.
 #[derive(Drop)]
 pub struct Entries {
-    rows: Vec<Row>,
+    rows: Blocks<Row>,
     lists: PathLists,
     order: PrefixSet,
     /// The prefixes of the rows with a path that leaves by an interface, in order.
@@ -58,11 +59,11 @@ impl Model for Entries {
 
     ghost Value = { Known };
 
-    ghost view = { λ s. record { rows = s.rows.items; lists = s.lists; objects = s.objects } };
+    ghost view = { λ s. record { rows = s.rows; lists = s.lists; objects = s.objects } };
 
     ghost use Rattle.fib_entries.specs.inner.Fields.{AreFields};
 
-    ghost invariant = { λ s. AreFields s.rows.items s.lists s.order s.exits };
+    ghost invariant = { λ s. AreFields s.rows s.lists s.order s.exits };
 }
 
 impl Entries {
@@ -84,8 +85,9 @@ impl Entries {
         let mut lists = PathLists::new(alloc);
         let ids = take_all(alloc, &mut lists, snapshot.pairs())?;
         let _count = lists.count();
-        let rows = whole::rows_anew(alloc, &snapshot, &lists, ids.as_slice(), listed.as_slice())?;
-        let exits = ends::exits_of(alloc, rows.as_slice())?;
+        let made = whole::rows_anew(alloc, &snapshot, &lists, ids.as_slice(), listed.as_slice())?;
+        let rows = Blocks::of(alloc, made)?;
+        let exits = ends::exits_of(alloc, &rows)?;
         let objects = snapshot.size(alloc)?;
         Ok(Entries {
             rows,
@@ -119,20 +121,13 @@ impl Entries {
         ensures none { IfOk result (λ o. IfNone o (self.new ≡ self.old)) }
         ensures err { OnErr result (self.new ≡ self.old) }
     {
-        let Some(at) = ready(
-            self.rows.as_slice(),
-            &self.lists,
-            tables,
-            prefix,
-            source,
-            new,
-        ) else {
+        let Some(at) = ready(&self.rows, &self.lists, tables, prefix, source, new) else {
             return Ok(None);
         };
         if !is_other(&self.lists, at.1, new) {
             return Ok(None);
         }
-        let top = top_rank(self.rows.as_slice(), new);
+        let top = top_rank(&self.rows, new);
         if self.objects > most || top == u32::MAX {
             return Ok(None);
         }
@@ -163,7 +158,7 @@ impl Entries {
     fn mac_news(&self, tables: &Tables, interface: u32, addr: Addr) -> Option<News>
         ensures { IfSome result (λ n. IsNews self.now tables.now (changes.Neighbor interface addr) n) }
     {
-        if !ends::is_near(self.rows.as_slice(), &self.lists, interface, addr) {
+        if !ends::is_near(&self.rows, &self.lists, interface, addr) {
             return None;
         }
         match ends::mac_of(tables, interface, addr) {
@@ -206,7 +201,7 @@ impl Entries {
         ensures value { option_copied result ≡ row_of self.now.rows prefix }
         ensures held { IfSome result (λ r. AreKept self.now.lists r.now.pairs) }
     {
-        row(self.rows.as_slice(), prefix)
+        row(&self.rows, prefix)
     }
 
     /// The number of effective entries.
@@ -243,7 +238,7 @@ impl Entries {
         ensures pairs { (S : TablesValue) → StandsFor self.now S → ArePairs self.now.lists S prefix result.now }
         ensures kept { (p : Source × ℕ) → Contains result.now p → IsSome (kept_of self.now.lists p.1) }
     {
-        match row(self.rows.as_slice(), prefix) {
+        match row(&self.rows, prefix) {
             Some(r) => r.pairs(),
             None => &[],
         }
@@ -253,7 +248,7 @@ impl Entries {
     pub fn chosen(&self, prefix: Prefix) -> Option<&[Path]>
         ensures { (S : TablesValue) → StandsFor self.now S → option_copied result ≡ chosen_of S prefix }
     {
-        match row(self.rows.as_slice(), prefix) {
+        match row(&self.rows, prefix) {
             Some(r) => match r.pairs().first() {
                 Some((_, id)) => Some(self.lists.content(*id)),
                 None => None,
@@ -266,7 +261,7 @@ impl Entries {
     pub fn looped(&self, prefix: Prefix, place: usize) -> bool
         ensures { (S : TablesValue) → StandsFor self.now S → result ≡ looped_at S prefix place }
     {
-        match row(self.rows.as_slice(), prefix) {
+        match row(&self.rows, prefix) {
             Some(r) => match r.looped().get(place) {
                 Some(mark) => *mark,
                 None => false,
@@ -279,7 +274,7 @@ impl Entries {
     pub fn marked(&self, prefix: Prefix) -> &[Marked]
         ensures { (S : TablesValue) → StandsFor self.now S → result.now ≡ marked_list S prefix }
     {
-        match row(self.rows.as_slice(), prefix) {
+        match row(&self.rows, prefix) {
             Some(r) => r.marked(),
             None => &[],
         }
@@ -291,7 +286,7 @@ impl Entries {
         ensures all { (S : TablesValue) → StandsFor self.now S → (d : PrefixValue) →
             Contains result.now d ↔ Contains (targets S d) prefix }
     {
-        match row(self.rows.as_slice(), prefix) {
+        match row(&self.rows, prefix) {
             Some(r) => r.dependants().as_slice(),
             None => &[],
         }
@@ -313,7 +308,7 @@ impl Entries {
     pub fn rank(&self, prefix: Prefix) -> u32
         ensures { result ≡ rank_of self.now.rows prefix }
     {
-        match row(self.rows.as_slice(), prefix) {
+        match row(&self.rows, prefix) {
             Some(r) => r.rank(),
             None => 0,
         }
@@ -339,17 +334,10 @@ impl Entries {
         ensures none { IfOk result (λ o. IfNone o (self.new ≡ self.old)) }
         ensures err { OnErr result (self.new ≡ self.old) }
     {
-        let Some(at) = leaving(
-            self.rows.as_slice(),
-            &self.lists,
-            tables,
-            prefix,
-            source,
-            new,
-        ) else {
+        let Some(at) = leaving(&self.rows, &self.lists, tables, prefix, source, new) else {
             return Ok(None);
         };
-        let size = size_at(self.rows.as_slice(), at.0, prefix);
+        let size = size_at(&self.rows, at.0, prefix);
         let Some(objects) = lowered(self.objects, size, most) else {
             return Ok(None);
         };
@@ -377,17 +365,17 @@ impl Entries {
         ensures none { IfOk result (λ o. IfNone o (self.new ≡ self.old)) }
         ensures err { OnErr result (self.new ≡ self.old) }
     {
-        let Some(place) = arriving(self.rows.as_slice(), tables, prefix, source, new) else {
+        let Some(place) = arriving(&self.rows, tables, prefix, source, new) else {
             return Ok(None);
         };
         if !self.lists.has_room(new) {
             return Ok(None);
         }
-        let top = top_rank(self.rows.as_slice(), new);
+        let top = top_rank(&self.rows, new);
         if top == u32::MAX {
             return Ok(None);
         }
-        let size = own_size(self.rows.as_slice(), place, place, prefix);
+        let size = own_size(&self.rows, place, place, prefix);
         let Some(objects) = raised(self.objects, size, most) else {
             return Ok(None);
         };
@@ -471,10 +459,10 @@ impl Entries {
         ensures { IfSome result (λ n. (S : TablesValue) → StandsFor self.now S →
             Differ (changes.Route prefix source ∷ []) S tables.now → (most < size tables.now) × (n ≡ min (size tables.now) (2 ^ 32 - 1))) }
     {
-        let Some(place) = arriving(self.rows.as_slice(), tables, prefix, source, new) else {
+        let Some(place) = arriving(&self.rows, tables, prefix, source, new) else {
             return None;
         };
-        let size = own_size(self.rows.as_slice(), place, place, prefix);
+        let size = own_size(&self.rows, place, place, prefix);
         let Some(objects) = beyond(self.objects, size, most) else {
             return None;
         };

@@ -18,6 +18,7 @@ use crate::links::detach;
 use crate::plies::own_size;
 use crate::rows::Row;
 use fib_addr::Prefix;
+use fib_blocks::Blocks;
 use fib_paths::{PathListId, PathLists};
 use fib_resolve::{FibSource, Path, Tables};
 use std::alloc::{AllocError, Global};
@@ -25,7 +26,7 @@ use std::alloc::{AllocError, Global};
 /// The place of the prefix's row and the number of its list, where the row goes with the route of that source, whose list is then that,
 /// and it alone.
 pub fn leaving(
-    rows: &[Row],
+    rows: &Blocks<Row>,
     lists: &PathLists,
     tables: &Tables,
     p: Prefix,
@@ -54,33 +55,35 @@ pub fn leaving(
 }
 
 /// How many objects go with the row at that place.
-pub fn size_at(rows: &[Row], place: usize, p: Prefix) -> u32
+pub fn size_at(rows: &Blocks<Row>, place: usize, p: Prefix) -> u32
     requires { place < length rows.now }
     ensures { result ≡ own_size p (entry_before rows.now place) (entry_at rows.now (place + 1)) }
 {
+    // Read so that the proof knows its range.
+    let _count = rows.len();
     own_size(rows, place, place + 1, p)
 }
 
 /// The row at that place goes. Takes no memory.
-pub fn take_out(rows: &mut Vec<Row>, place: usize)
-    requires { place < length rows.old.items }
-    ensures { rows.new.items ≡ remove rows.old.items place }
+pub fn take_out(rows: &mut Blocks<Row>, place: usize)
+    requires { place < length rows.old }
+    ensures { rows.new ≡ remove rows.old place }
 {
     rows.remove(place);
 }
 
 /// The prefix leaves the dependants of its next hops, its row at that place goes, and its list is given. Takes no memory.
 fn withdraw(
-    rows: &mut Vec<Row>,
+    rows: &mut Blocks<Row>,
     lists: &mut PathLists,
     at: (usize, PathListId),
     p: Prefix,
     new: &[Path],
 )
-    requires ascending { IsAscending (map prefix_of rows.old.items) }
-    requires inside { at.0 < length rows.old.items }
+    requires ascending { IsAscending (map prefix_of rows.old) }
+    requires inside { at.0 < length rows.old }
     requires kept { IsSome (kept_of lists.old at.1) }
-    ensures { (before : Items PathValue) → content_of lists.old at.1 ≡ Some before → IsWithdrawn rows.old.items rows.new.items lists.old lists.new at.0 p at.1 before new.now }
+    ensures { (before : Items PathValue) → content_of lists.old at.1 ≡ Some before → IsWithdrawn rows.old rows.new lists.old lists.new at.0 p at.1 before new.now }
 {
     detach(rows, p, lists.content(at.1), new);
     take_out(rows, at.0);
@@ -88,7 +91,7 @@ fn withdraw(
 }
 
 /// The rank of the row at that place.
-fn rank_at(rows: &[Row], place: usize) -> u32
+fn rank_at(rows: &Blocks<Row>, place: usize) -> u32
     requires { place < length rows.now }
     ensures { (r : RowValue) → slice_get rows.now place ≡ Some r → result ≡ r.rank }
 {
@@ -99,21 +102,21 @@ fn rank_at(rows: &[Row], place: usize) -> u32
 /// that it had. After want of memory all is as before.
 pub fn leave(
     alloc: Global,
-    rows: &mut Vec<Row>,
+    rows: &mut Blocks<Row>,
     lists: &mut PathLists,
     at: (usize, PathListId),
     p: Prefix,
     new: &[Path],
 ) -> Result<Followed, AllocError>
-    requires ascending { IsAscending (map prefix_of rows.old.items) }
-    requires inside { at.0 < length rows.old.items }
+    requires ascending { IsAscending (map prefix_of rows.old) }
+    requires inside { at.0 < length rows.old }
     requires kept { IsSome (kept_of lists.old at.1) }
-    ensures done { IfOk result (λ f. HasLeft rows.old.items rows.new.items lists.old lists.new at.0 p at.1 new.now f) }
-    ensures rows { OnErr result (rows.new.items ≡ rows.old.items) }
+    ensures done { IfOk result (λ f. HasLeft rows.old rows.new lists.old lists.new at.0 p at.1 new.now f) }
+    ensures rows { OnErr result (rows.new ≡ rows.old) }
     ensures lists { OnErr result (lists.new ≡ lists.old) }
 {
     let touched = alone(alloc, p)?;
-    let moved = moved(alloc, p, rank_at(rows.as_slice(), at.0), 0)?;
+    let moved = moved(alloc, p, rank_at(rows, at.0), 0)?;
     withdraw(rows, lists, at, p, new);
     Ok(Followed {
         touched: Touched::of(touched),

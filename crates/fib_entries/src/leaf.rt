@@ -16,6 +16,7 @@ use crate::ends::has_exit;
 use crate::look::{is_same, place_of, row};
 use crate::rows::Row;
 use fib_addr::Prefix;
+use fib_blocks::Blocks;
 use fib_list::List;
 use fib_paths::{PathListId, PathLists};
 use fib_resolve::{Aim, End, FibSource, Marked, Neighbor, Path, PathKind, Tables, keys};
@@ -69,7 +70,7 @@ fn has_other(r: &Row, p: Prefix) -> bool
 }
 
 /// Whether another has an edge to the entry of the path's next hop, where it has one.
-fn is_shared(rows: &[Row], p: Prefix, path: &Path) -> bool
+fn is_shared(rows: &Blocks<Row>, p: Prefix, path: &Path) -> bool
     requires { IsAscending (map prefix_of rows.now) }
     ensures { result ≡ shared_kind rows.now p path.now.kind }
 {
@@ -83,7 +84,7 @@ fn is_shared(rows: &[Row], p: Prefix, path: &Path) -> bool
 }
 
 /// Whether that is so of all.
-pub fn are_shared(rows: &[Row], p: Prefix, paths: &[Path]) -> bool
+pub fn are_shared(rows: &Blocks<Row>, p: Prefix, paths: &[Path]) -> bool
     requires { IsAscending (map prefix_of rows.now) }
     ensures { result ≡ list_all (shared_path rows.now p) paths.now }
 {
@@ -91,7 +92,7 @@ pub fn are_shared(rows: &[Row], p: Prefix, paths: &[Path]) -> bool
 }
 
 /// The rank of the entry of the path's next hop; 0 where there is none.
-fn rank_to(rows: &[Row], path: &Path) -> u32
+fn rank_to(rows: &Blocks<Row>, path: &Path) -> u32
     requires { IsAscending (map prefix_of rows.now) }
     ensures { (t : PrefixValue) → Contains (goal_of path.now.kind) t → rank_of rows.now t ≤ result }
 {
@@ -105,7 +106,7 @@ fn rank_to(rows: &[Row], path: &Path) -> u32
 }
 
 /// No rank of an entry of the paths' next hops is greater.
-pub fn top_rank(rows: &[Row], paths: &[Path]) -> u32
+pub fn top_rank(rows: &Blocks<Row>, paths: &[Path]) -> u32
     requires { IsAscending (map prefix_of rows.now) }
     ensures { (t : PrefixValue) → Contains (goals_of paths.now) t → rank_of rows.now t ≤ result }
 {
@@ -187,10 +188,12 @@ pub fn is_short(p: Prefix) -> bool
 }
 
 /// Whether the row after that place, if there is one, begins outside the prefix.
-fn is_last_in(rows: &[Row], place: usize, p: Prefix) -> bool
+fn is_last_in(rows: &Blocks<Row>, place: usize, p: Prefix) -> bool
     requires { place < length rows.now }
     ensures { IsTrue result → (s : RowValue) → slice_get rows.now (place + 1) ≡ Some s → contains p s.prefix.bits ≡ false }
 {
+    // Read so that the proof knows its range.
+    let _count = rows.len();
     match rows.get(place + 1) {
         Some(s) => !p.contains(s.prefix.bits()),
         None => true,
@@ -211,7 +214,7 @@ pub fn only_list(r: &Row, source: FibSource) -> Option<PathListId>
 }
 
 /// Whether the paths are plain, and others lead to the entries of their next hops too.
-pub fn suits(rows: &[Row], p: Prefix, paths: &[Path]) -> bool
+pub fn suits(rows: &Blocks<Row>, p: Prefix, paths: &[Path]) -> bool
     requires { IsAscending (map prefix_of rows.now) }
     ensures { IsTrue result → (list_all is_plain paths.now ≡ true) × (list_all (shared_path rows.now p) paths.now ≡ true) }
 {
@@ -219,7 +222,7 @@ pub fn suits(rows: &[Row], p: Prefix, paths: &[Path]) -> bool
 }
 
 /// Whether nothing leads to the row at that place, nothing lies in its prefix, and no path of it leaves by an interface.
-fn is_leaf(rows: &[Row], neighbors: &[Neighbor], place: usize, p: Prefix) -> bool
+fn is_leaf(rows: &Blocks<Row>, neighbors: &[Neighbor], place: usize, p: Prefix) -> bool
     requires { place < length rows.now }
     ensures { IsTrue result → (r : RowValue) → slice_get rows.now place ≡ Some r → IsLeaf rows.now neighbors.now place p r }
 {
@@ -237,7 +240,7 @@ fn is_leaf(rows: &[Row], neighbors: &[Neighbor], place: usize, p: Prefix) -> boo
 
 /// The place of the prefix's row, where nothing leads to it and nothing lies in its prefix.
 pub fn leaf_place(
-    rows: &[Row],
+    rows: &Blocks<Row>,
     neighbors: &[Neighbor],
     p: Prefix,
     source: FibSource,
@@ -271,7 +274,7 @@ pub fn is_none(paths: &[Path]) -> bool
 /// The place of the prefix's row and the number of its list, where the change of its route of that source to that list touches the row
 /// alone.
 pub fn ready(
-    rows: &[Row],
+    rows: &Blocks<Row>,
     lists: &PathLists,
     tables: &Tables,
     p: Prefix,

@@ -13,6 +13,7 @@ ghost use Rattle.fib_entries.specs.inner.Leaf.{goal_of, goals_of, pushed, popped
 use crate::look::{is_same, place_of};
 use crate::rows::Row;
 use fib_addr::Prefix;
+use fib_blocks::Blocks;
 use fib_paths::{PathListId, PathLists};
 use fib_resolve::{Path, PathKind};
 use std::alloc::AllocError;
@@ -44,26 +45,26 @@ fn is_goal(path: &Path, p: Prefix) -> bool
 }
 
 /// The prefix becomes the last dependant of the row at that place.
-fn push_at(rows: &mut Vec<Row>, place: usize, p: Prefix) -> Result<(), AllocError>
-    requires { (r : RowValue) × (slice_get rows.old.items place ≡ Some r) × (is_member same_prefix r.dependants p ≡ false) }
-    ensures ok { OnOk result ((r : RowValue) → slice_get rows.old.items place ≡ Some r → rows.new.items ≡ slice_set rows.old.items place (pushed p r)) }
-    ensures err { OnErr result (rows.new.items ≡ rows.old.items) }
+fn push_at(rows: &mut Blocks<Row>, place: usize, p: Prefix) -> Result<(), AllocError>
+    requires { (r : RowValue) × (slice_get rows.old place ≡ Some r) × (is_member same_prefix r.dependants p ≡ false) }
+    ensures ok { OnOk result ((r : RowValue) → slice_get rows.old place ≡ Some r → rows.new ≡ slice_set rows.old place (pushed p r)) }
+    ensures err { OnErr result (rows.new ≡ rows.old) }
 {
     rows[place].body.dependants.put(p)
 }
 
 /// The last dependant of the row at that place goes.
-fn pop_at(rows: &mut Vec<Row>, place: usize)
-    requires { place < length rows.old.items }
-    ensures { (r : RowValue) → slice_get rows.old.items place ≡ Some r → rows.new.items ≡ slice_set rows.old.items place (popped r) }
+fn pop_at(rows: &mut Blocks<Row>, place: usize)
+    requires { place < length rows.old }
+    ensures { (r : RowValue) → slice_get rows.old place ≡ Some r → rows.new ≡ slice_set rows.old place (popped r) }
 {
     rows[place].body.dependants.pop();
 }
 
 /// The prefix goes from the dependants of the row at that place.
-fn remove_at(rows: &mut Vec<Row>, place: usize, p: Prefix)
-    requires { place < length rows.old.items }
-    ensures { (r : RowValue) → slice_get rows.old.items place ≡ Some r → IsUnlinked place p r rows.old.items rows.new.items }
+fn remove_at(rows: &mut Blocks<Row>, place: usize, p: Prefix)
+    requires { place < length rows.old }
+    ensures { (r : RowValue) → slice_get rows.old place ≡ Some r → IsUnlinked place p r rows.old rows.new }
 {
     rows[place].body.dependants.remove(p);
 }
@@ -76,7 +77,7 @@ fn has(row: &Row, p: Prefix) -> bool
 }
 
 /// The place of the row of the path's next hop, where that lacks the prefix among its dependants.
-fn place_to(rows: &[Row], p: Prefix, path: &Path) -> Option<usize>
+fn place_to(rows: &Blocks<Row>, p: Prefix, path: &Path) -> Option<usize>
     requires { IsAscending (map prefix_of rows.now) }
     ensures there { IfSome result (λ k. IsToLink k p path.now.kind rows.now) }
     ensures none { IfNone result (AreAttached p (goal_of path.now.kind) rows.now rows.now) }
@@ -94,22 +95,22 @@ fn place_to(rows: &[Row], p: Prefix, path: &Path) -> Option<usize>
 }
 
 /// The prefix becomes a dependant of the row of the path's next hop, at that place.
-fn link(rows: &mut Vec<Row>, place: usize, p: Prefix, path: &Path) -> Result<(), AllocError>
-    requires ascending { IsAscending (map prefix_of rows.old.items) }
-    requires there { IsToLink place p path.now.kind rows.old.items }
-    ensures ascending { OnOk result (IsAscending (map prefix_of rows.new.items)) }
-    ensures attached { OnOk result (AreAttached p (goal_of path.now.kind) rows.old.items rows.new.items) }
-    ensures back { OnOk result (IsLinked place p rows.old.items rows.new.items) }
-    ensures err { OnErr result (rows.new.items ≡ rows.old.items) }
+fn link(rows: &mut Blocks<Row>, place: usize, p: Prefix, path: &Path) -> Result<(), AllocError>
+    requires ascending { IsAscending (map prefix_of rows.old) }
+    requires there { IsToLink place p path.now.kind rows.old }
+    ensures ascending { OnOk result (IsAscending (map prefix_of rows.new)) }
+    ensures attached { OnOk result (AreAttached p (goal_of path.now.kind) rows.old rows.new) }
+    ensures back { OnOk result (IsLinked place p rows.old rows.new) }
+    ensures err { OnErr result (rows.new ≡ rows.old) }
 {
     let _path = path;
     push_at(rows, place, p)
 }
 
 /// The prefix that was pushed at that place goes.
-fn unlink(rows: &mut Vec<Row>, place: usize)
-    requires { (p : PrefixValue) × (before : Items RowValue) × IsLinked place p before rows.old.items }
-    ensures { (p : PrefixValue) (before : Items RowValue) → IsLinked place p before rows.old.items → rows.new.items ≡ before }
+fn unlink(rows: &mut Blocks<Row>, place: usize)
+    requires { (p : PrefixValue) × (before : Items RowValue) × IsLinked place p before rows.old }
+    ensures { (p : PrefixValue) (before : Items RowValue) → IsLinked place p before rows.old → rows.new ≡ before }
 {
     pop_at(rows, place);
 }
@@ -117,22 +118,22 @@ fn unlink(rows: &mut Vec<Row>, place: usize)
 /// Makes the prefix a dependant of the rows of the paths' next hops, and gives the content a user more. After want of memory all is as
 /// before.
 pub fn attach(
-    rows: &mut Vec<Row>,
+    rows: &mut Blocks<Row>,
     lists: &mut PathLists,
     p: Prefix,
     left: &[Path],
     content: &[Path],
 ) -> Result<PathListId, AllocError>
-    requires ascending { IsAscending (map prefix_of rows.old.items) }
+    requires ascending { IsAscending (map prefix_of rows.old) }
     requires room { IsUsedLess lists.old content.now (2 ^ 32 - 1) }
-    ensures attached { OnOk result (AreAttached p (goals_of left.now) rows.old.items rows.new.items) }
+    ensures attached { OnOk result (AreAttached p (goals_of left.now) rows.old rows.new) }
     ensures taken { IfOk result (λ id. Takes lists.old lists.new content.now id) }
     ensures interned { OnOk result (AreInterned lists.new) }
-    ensures rows { OnErr result (rows.new.items ≡ rows.old.items) }
+    ensures rows { OnErr result (rows.new ≡ rows.old) }
     ensures lists { OnErr result (lists.new ≡ lists.old) }
 {
     match left {
-        [path, left @ ..] => match place_to(rows.as_slice(), p, path) {
+        [path, left @ ..] => match place_to(rows, p, path) {
             Some(place) => {
                 link(rows, place, p, path)?;
                 match attach(rows, lists, p, left, content) {
@@ -150,7 +151,7 @@ pub fn attach(
 }
 
 /// The place of the row of the path's next hop, where that is none of the kept paths'.
-fn place_from(rows: &[Row], path: &Path, kept: &[Path]) -> Option<usize>
+fn place_from(rows: &Blocks<Row>, path: &Path, kept: &[Path]) -> Option<usize>
     requires { IsAscending (map prefix_of rows.now) }
     ensures there { IfSome result (λ k. IsToUnlink k (goals_of kept.now) path.now.kind rows.now) }
     ensures none { IfNone result ((p : PrefixValue) → AreDetached p (goal_of path.now.kind) (goals_of kept.now) rows.now rows.now) }
@@ -168,21 +169,21 @@ fn place_from(rows: &[Row], path: &Path, kept: &[Path]) -> Option<usize>
 }
 
 /// Takes the prefix from the dependants of the row of the path's next hop, unless that is one of the kept paths'.
-fn detach_one(rows: &mut Vec<Row>, p: Prefix, path: &Path, kept: &[Path])
-    requires { IsAscending (map prefix_of rows.old.items) }
-    ensures ascending { IsAscending (map prefix_of rows.new.items) }
-    ensures detached { AreDetached p (goal_of path.now.kind) (goals_of kept.now) rows.old.items rows.new.items }
+fn detach_one(rows: &mut Blocks<Row>, p: Prefix, path: &Path, kept: &[Path])
+    requires { IsAscending (map prefix_of rows.old) }
+    ensures ascending { IsAscending (map prefix_of rows.new) }
+    ensures detached { AreDetached p (goal_of path.now.kind) (goals_of kept.now) rows.old rows.new }
 {
-    match place_from(rows.as_slice(), path, kept) {
+    match place_from(rows, path, kept) {
         Some(place) => remove_at(rows, place, p),
         None => {}
     }
 }
 
 /// Takes the prefix from the dependants of the rows of the paths' next hops, but for those of the kept paths. Takes no memory.
-pub fn detach(rows: &mut Vec<Row>, p: Prefix, left: &[Path], kept: &[Path])
-    requires { IsAscending (map prefix_of rows.old.items) }
-    ensures { AreDetached p (goals_of left.now) (goals_of kept.now) rows.old.items rows.new.items }
+pub fn detach(rows: &mut Blocks<Row>, p: Prefix, left: &[Path], kept: &[Path])
+    requires { IsAscending (map prefix_of rows.old) }
+    ensures { AreDetached p (goals_of left.now) (goals_of kept.now) rows.old rows.new }
 {
     match left {
         [path, left @ ..] => {

@@ -5,6 +5,7 @@ ghost use Rattle.fib_entries.specs.inner.Plies.{is_on_way, is_own, own_below, ow
 use crate::look::is_same;
 use crate::rows::Row;
 use fib_addr::Prefix;
+use fib_blocks::Blocks;
 
 /// Whether the ply at that depth on the way to the first prefix is on the way to the second too.
 fn is_on_way(p: Prefix, depth: u8, e: Prefix) -> bool
@@ -19,7 +20,7 @@ fn is_on_way(p: Prefix, depth: u8, e: Prefix) -> bool
 }
 
 /// The same of the row at that place, if there is one.
-fn is_on_way_to(rows: &[Row], place: usize, p: Prefix, depth: u8) -> bool
+fn is_on_way_to(rows: &Blocks<Row>, place: usize, p: Prefix, depth: u8) -> bool
     requires { depth < 8 }
     ensures { result ≡ is_on_way p depth (entry_at rows.now place) }
 {
@@ -30,7 +31,7 @@ fn is_on_way_to(rows: &[Row], place: usize, p: Prefix, depth: u8) -> bool
 }
 
 /// The same of the row before that place.
-fn is_on_way_before(rows: &[Row], place: usize, p: Prefix, depth: u8) -> bool
+fn is_on_way_before(rows: &Blocks<Row>, place: usize, p: Prefix, depth: u8) -> bool
     requires { depth < 8 }
     ensures { result ≡ is_on_way p depth (entry_before rows.now place) }
 {
@@ -42,7 +43,7 @@ fn is_on_way_before(rows: &[Row], place: usize, p: Prefix, depth: u8) -> bool
 }
 
 /// Whether it is on the way to neither of the two, and isn't that of all addresses.
-fn is_own(rows: &[Row], before: usize, after: usize, p: Prefix, depth: u8) -> bool
+fn is_own(rows: &Blocks<Row>, before: usize, after: usize, p: Prefix, depth: u8) -> bool
     requires { depth < 8 }
     ensures { result ≡ is_own p (entry_before rows.now before) (entry_at rows.now after) depth }
 {
@@ -57,7 +58,7 @@ fn unit(is: bool) -> u32
 }
 
 /// How many plies on the way to the prefix are on the way to neither of the two rows.
-fn own_plies(rows: &[Row], before: usize, after: usize, p: Prefix) -> u32
+fn own_plies(rows: &Blocks<Row>, before: usize, after: usize, p: Prefix) -> u32
     ensures plies { result ≡ own_below p (entry_before rows.now before) (entry_at rows.now after) ((p.len + 3) / 4) }
     ensures few { result ≤ 8 }
 {
@@ -70,7 +71,7 @@ fn own_plies(rows: &[Row], before: usize, after: usize, p: Prefix) -> u32
 
 /// How many objects the prefix's entry makes: itself, and the plies on the way to it that are on the way neither to the row before the
 /// one place nor to that at the other.
-pub fn own_size(rows: &[Row], before: usize, after: usize, p: Prefix) -> u32
+pub fn own_size(rows: &Blocks<Row>, before: usize, after: usize, p: Prefix) -> u32
     ensures size { result ≡ own_size p (entry_before rows.now before) (entry_at rows.now after) }
     ensures few { result ≤ 9 }
 {

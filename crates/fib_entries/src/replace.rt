@@ -10,6 +10,7 @@ ghost use Rattle.fib_entries.specs.inner.Leaf.{AreReplaced, settled};
 use crate::links::{attach, detach};
 use crate::rows::Row;
 use fib_addr::Prefix;
+use fib_blocks::Blocks;
 use fib_list::List;
 use fib_paths::{PathListId, PathLists};
 use fib_resolve::{FibSource, Marked, Path};
@@ -59,9 +60,9 @@ fn settle_row(alloc: Global, row: &mut Row, id: PathListId, own: Own)
 }
 
 /// The row at that place gets it.
-fn settle(alloc: Global, rows: &mut Vec<Row>, place: usize, id: PathListId, own: Own)
-    requires { (r : RowValue) × (slice_get rows.old.items place ≡ Some r) × (length r.pairs ≡ 1) }
-    ensures { (r : RowValue) → slice_get rows.old.items place ≡ Some r → rows.new.items ≡ slice_set rows.old.items place (settled id own r) }
+fn settle(alloc: Global, rows: &mut Blocks<Row>, place: usize, id: PathListId, own: Own)
+    requires { (r : RowValue) × (slice_get rows.old place ≡ Some r) × (length r.pairs ≡ 1) }
+    ensures { (r : RowValue) → slice_get rows.old place ≡ Some r → rows.new ≡ slice_set rows.old place (settled id own r) }
 {
     settle_row(alloc, &mut rows[place], id, own);
 }
@@ -70,17 +71,17 @@ fn settle(alloc: Global, rows: &mut Vec<Row>, place: usize, id: PathListId, own:
 /// new list is taken and the old one given. After want of memory all is as before.
 pub fn replace(
     alloc: Global,
-    rows: &mut Vec<Row>,
+    rows: &mut Blocks<Row>,
     lists: &mut PathLists,
     swap: Swap<'_>,
     own: Own,
 ) -> Result<(), AllocError>
-    requires ascending { IsAscending (map prefix_of rows.old.items) }
-    requires row { (r : RowValue) × (slice_get rows.old.items swap.place ≡ Some r) × (length r.pairs ≡ 1) }
+    requires ascending { IsAscending (map prefix_of rows.old) }
+    requires row { (r : RowValue) × (slice_get rows.old swap.place ≡ Some r) × (length r.pairs ≡ 1) }
     requires kept { IsSome (kept_of lists.old swap.id) }
     requires room { IsUsedLess lists.old swap.new.now (2 ^ 32 - 1) }
-    ensures done { OnOk result (AreReplaced rows.old.items rows.new.items lists.old lists.new swap.entry.place swap.entry.prefix swap.entry.id swap.entry.old.now swap.entry.new.now own) }
-    ensures rows { OnErr result (rows.new.items ≡ rows.old.items) }
+    ensures done { OnOk result (AreReplaced rows.old rows.new lists.old lists.new swap.entry.place swap.entry.prefix swap.entry.id swap.entry.old.now swap.entry.new.now own) }
+    ensures rows { OnErr result (rows.new ≡ rows.old) }
     ensures lists { OnErr result (lists.new ≡ lists.old) }
 {
     let id = attach(rows, lists, swap.prefix, swap.new, swap.new)?;

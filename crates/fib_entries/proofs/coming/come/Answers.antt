@@ -5,7 +5,7 @@ use Rattle.fib_entries.proofs.coming.come.Goals as goal
 
 pub returns-clause-done : goal.returns-clause-done
 returns-clause-done c = record {
-  placed = subst (λ (o : Own). IsPlaced c.args.rows.now.items c.place_row.new.rows.items c.args.lists.now c.place_row.new.lists c.args.place c.args.to.prefix c.args.to.new.now o) c.in_ok-own.ensures c.in_ok-place_row.ensures.done;
+  placed = subst (λ (o : Own). IsPlaced c.args.rows.now c.place_row.new.rows c.args.lists.now c.place_row.new.lists c.args.place c.args.to.prefix c.args.to.new.now o) c.in_ok-own.ensures c.in_ok-place_row.ensures.done;
   touched = c.of.ensures ∙ c.in_ok-touched.ensures;
   moved = c.in_ok-moved.ensures;
 }

@@ -1,20 +1,17 @@
-use Rattle.std.proofs.Common.{List, filter, ◌∙◌, ap}
+use Rattle.std.proofs.Common.{filter, ◌∙◌, ap}
 use Rattle.fib_entries.specs.Known.{row_of}
-use Rattle.fib_entries.specs.Rows.{Row}
 use Rattle.fib_entries.specs.inner.Ends.{is_old_in}
 use Rattle.fib_entries.proofs.EndRows.{old_found}
 use Rattle.fib_entries.proofs.ends.follow.Goals as goal
 
 pub renew_rows-requires-clause-touched : goal.renew_rows-requires-clause-touched
 renew_rows-requires-clause-touched c =
-    let rows = c.args.rows.now.items in
-    c.as_slice-2.ensures.value ∙ (c.in_ok-touched.ensures
-    ∙ (ap (λ (l : List Row). filter (λ p. is_old_in c.args.news.now (row_of l p)) c.args.exits.now) c.as_slice.ensures.value
-    ∙ (ap (filter (λ p. is_old_in c.args.news.now (row_of rows p))) c.requires.exits ∙ old_found c.args.news.now rows c.requires.ascending)))
+    let rows = c.args.rows.now in
+    c.as_slice.ensures.value ∙ (c.in_ok-touched.ensures
+    ∙ (ap (filter (λ p. is_old_in c.args.news.now (row_of rows p))) c.requires.exits ∙ old_found c.args.news.now rows c.requires.ascending))
 
 pub returns-clause-touched : goal.returns-clause-touched
 returns-clause-touched c =
-    let rows = c.args.rows.now.items in
+    let rows = c.args.rows.now in
     c.of.ensures ∙ (c.from_vec.ensures ∙ (c.in_ok-touched.ensures
-    ∙ (ap (λ (l : List Row). filter (λ p. is_old_in c.args.news.now (row_of l p)) c.args.exits.now) c.as_slice.ensures.value
-    ∙ (ap (filter (λ p. is_old_in c.args.news.now (row_of rows p))) c.requires.exits ∙ old_found c.args.news.now rows c.requires.ascending))))
+    ∙ (ap (filter (λ p. is_old_in c.args.news.now (row_of rows p))) c.requires.exits ∙ old_found c.args.news.now rows c.requires.ascending)))

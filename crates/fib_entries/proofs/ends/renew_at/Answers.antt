@@ -1,8 +1,7 @@
-use Rattle.std.proofs.Common.{◌≡◌, ◌<◌, List, ◌∷◌, length, refl, sym, ◌∙◌, ap, subst, slice_get}
+use Rattle.std.proofs.Common.{◌∷◌, length, refl, sym, ◌∙◌, ap, subst}
 use Rattle.std.specs.Prelude.{slice_set}
 use Rattle.std.proofs.lemmas.Option.{slice_get_read}
 use Rattle.fib_interned.proofs.Finding.{some_is, none_some}
-use Rattle.fib_entries.specs.Known.{row_of}
 use Rattle.fib_entries.specs.Rows.{Row}
 use Rattle.fib_entries.specs.inner.Ends.{renewed_row, AreRenewing}
 use Rattle.fib_entries.proofs.EndRows.{renewing_row, renewing_next}
@@ -10,10 +9,10 @@ use Rattle.fib_entries.proofs.ends.renew_at.Goals as goal
 
 pub returns-in-Some : goal.returns-in-Some
 returns-in-Some c = λ old left h.
-    let rows = c.args.rows.now.items in
+    let rows = c.args.rows.now in
     let r = renewing_row c.args.news.now old rows c.args.prefix left h in
-    let at = subst (λ (l : List Row). slice_get l c.in-Some.place ≡ row_of l c.args.prefix) c.as_slice.ensures.value c.in-Some.ensures.value ∙ r.1 in
-    let inside = subst (λ (l : List Row). c.in-Some.place < length l) c.as_slice.ensures.value c.in-Some.ensures.inside in
+    let at = c.in-Some.ensures.value ∙ r.1 in
+    let inside = c.in-Some.ensures.inside in
     let read = slice_get_read rows (length rows) c.in-Some.place c.index_mut.result.now refl inside c.index_mut.ensures.value in
     let same = some_is c.index_mut.result.now r.0 (sym read ∙ at) in
     subst (λ (z : Row). AreRenewing c.args.news.now old (slice_set rows c.in-Some.place z) left) (sym (c.renew_row.ensures ∙ ap (renewed_row c.args.news.now) same))
@@ -21,5 +20,5 @@ returns-in-Some c = λ old left h.
 
 pub returns-in-None : goal.returns-in-None
 returns-in-None c = λ old left h.
-    let r = renewing_row c.args.news.now old c.args.rows.now.items c.args.prefix left h in
-    absurd (none_some r.0 (c.in-None.ensures.value ∙ (ap (λ (l : List Row). row_of l c.args.prefix) c.as_slice.ensures.value ∙ r.1)))
+    let r = renewing_row c.args.news.now old c.args.rows.now c.args.prefix left h in
+    absurd (none_some r.0 (c.in-None.ensures.value ∙ r.1))

@@ -3,4 +3,4 @@ use Rattle.fib_entries.specs.inner.Ends.{AreRenewing}
 use Rattle.fib_entries.proofs.ends.renew_rows.Given as goal
 
 abbrev pub invariant-rows : goal.invariant-rows
-invariant-rows l = AreRenewing l.news l.fn.rows.items l.rows.items (drop l.place l.touched)
+invariant-rows l = AreRenewing l.news l.fn.rows l.rows (drop l.place l.touched)

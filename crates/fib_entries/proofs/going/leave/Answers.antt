@@ -1,5 +1,4 @@
-use Rattle.std.proofs.Common.{◌≡◌, List, Some, ℕ, sym, ap, ◌∙◌, subst, slice_get}
-use Rattle.fib_entries.specs.Rows.{Row}
+use Rattle.std.proofs.Common.{ℕ, ap, ◌∙◌}
 use Rattle.fib_entries.specs.inner.Leaf.{moved_at}
 use Rattle.fib_entries.proofs.Placing.{some_list}
 use Rattle.fib_entries.proofs.going.leave.Goals as goal
@@ -12,5 +11,5 @@ returns-clause-done c =
       content = l.1;
       withdrawn = c.withdraw.ensures l.0 l.1;
       touched = c.of.ensures ∙ c.in_ok-touched.ensures;
-      moved = λ r at. c.in_ok-moved.ensures ∙ ap (λ (n : ℕ). moved_at c.args.p n 0) (c.rank_at.ensures r (subst (λ (l : List Row). slice_get l c.args.at.0 ≡ Some r) (sym c.as_slice.ensures.value) at));
+      moved = λ r at. c.in_ok-moved.ensures ∙ ap (λ (n : ℕ). moved_at c.args.p n 0) (c.rank_at.ensures r (at));
     }

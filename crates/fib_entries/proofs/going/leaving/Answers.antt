@@ -10,14 +10,14 @@ use Rattle.fib_entries.proofs.going.leaving.Goals as goal
 
 pub content-requires : goal.content-requires
 content-requires c =
-    let at = slice_get_read c.args.rows.now _ c.in-Some.place c.index-rows-place.result refl c.in-Some.ensures.inside c.index-rows-place.is in
+    let at = slice_get_read c.args.rows.now _ c.in-Some.place c.index.result.now refl c.in-Some.ensures.inside c.index.ensures in
     let own = c.in-Some-only_list.ensures in
-    c.requires.held c.index-rows-place.result (c.args.source, c.in-Some-only_list.id) (contains_at c.args.rows.now c.in-Some.place c.index-rows-place.result at)
+    c.requires.held c.index.result.now (c.args.source, c.in-Some-only_list.id) (contains_at c.args.rows.now c.in-Some.place c.index.result.now at)
     (subst (λ (l : List (FibSource × ℕ)). Contains l (c.args.source, c.in-Some-only_list.id)) (sym own) (in_front (c.args.source, c.in-Some-only_list.id) (c.args.source, c.in-Some-only_list.id) [] refl))
 
 pub returns-clause-leaving : goal.returns-clause-leaving
 returns-clause-leaving c =
-    let at = slice_get_read c.args.rows.now _ c.in-Some.place c.index-rows-place.result refl c.in-Some.ensures.inside c.index-rows-place.is in
+    let at = slice_get_read c.args.rows.now _ c.in-Some.place c.index.result.now refl c.in-Some.ensures.inside c.index.ensures in
     let m = subst (λ l. IsLeafAt c.args.rows.now l c.in-Some.place c.args.p c.args.source) c.as_slice.ensures c.in-Some.ensures.leaf in
     let list = c.requires.list in
     let old = c.suits.ensures c.if-not-suits.false in (
@@ -26,7 +26,7 @@ returns-clause-leaving c =
         row = m.row;
         at = m.at;
         own = m.own;
-        pairs = ap (λ (z : Row). z.pairs) (some_is m.row c.index-rows-place.result (sym m.at ∙ at)) ∙ c.in-Some-only_list.ensures;
+        pairs = ap (λ (z : Row). z.pairs) (some_is m.row c.index.result.now (sym m.at ∙ at)) ∙ c.in-Some-only_list.ensures;
         none = m.leaf.none;
         inside = m.leaf.inside;
         content = c.content.ensures;

@@ -6,12 +6,12 @@ use Rattle.fib_entries.proofs.Placing.{zip_inside}
 use Rattle.fib_entries.proofs.going.withdraw.Goals as goal
 
 pub take_out-requires : goal.take_out-requires
-take_out-requires c = zip_inside _ c.args.rows.now.items c.detach.new.rows.items c.args.at.0 c.detach.ensures c.requires.inside
+take_out-requires c = zip_inside _ c.args.rows.now c.detach.new.rows c.args.at.0 c.detach.ensures c.requires.inside
 
 pub returns : goal.returns
 returns c = λ before at. record {
-  low = c.detach.new.rows.items;
-  detached = subst (λ (l : List Path). AreDetached c.args.p (goals_of l) (goals_of c.args.new.now) c.args.rows.now.items c.detach.new.rows.items) (some_is c.content.result.now before (sym c.content.ensures ∙ at)) c.detach.ensures;
+  low = c.detach.new.rows;
+  detached = subst (λ (l : List Path). AreDetached c.args.p (goals_of l) (goals_of c.args.new.now) c.args.rows.now c.detach.new.rows) (some_is c.content.result.now before (sym c.content.ensures ∙ at)) c.detach.ensures;
   set = c.take_out.ensures;
   given = c.give.ensures.given;
   apart = c.give.ensures.interned;

@@ -1,17 +1,16 @@
-use Rattle.std.proofs.Common.{subst}
-use Rattle.fib_entries.specs.inner.Leaf.{goals_of, goal_of, AreDetached, IsToUnlink}
+use Rattle.fib_entries.specs.inner.Leaf.{goals_of}
 use Rattle.fib_entries.proofs.Linking.{unlinked}
 use Rattle.fib_entries.proofs.links.detach_one.Goals as goal
 
 pub returns-in-Some-clause-ascending : goal.returns-in-Some-clause-ascending
 returns-in-Some-clause-ascending c =
-    (unlinked c.args.p c.args.path.now.kind c.args.rows.now.items c.remove_at.new.rows.items c.requires c.in-Some.place (goals_of c.args.kept.now)
-    (subst (IsToUnlink c.in-Some.place (goals_of c.args.kept.now) c.args.path.now.kind) c.as_slice.ensures.value c.in-Some.ensures.there) c.remove_at.ensures).0
+    (unlinked c.args.p c.args.path.now.kind c.args.rows.now c.remove_at.new.rows c.requires c.in-Some.place (goals_of c.args.kept.now)
+    (c.in-Some.ensures.there) c.remove_at.ensures).0
 
 pub returns-in-Some-clause-detached : goal.returns-in-Some-clause-detached
 returns-in-Some-clause-detached c =
-    (unlinked c.args.p c.args.path.now.kind c.args.rows.now.items c.remove_at.new.rows.items c.requires c.in-Some.place (goals_of c.args.kept.now)
-    (subst (IsToUnlink c.in-Some.place (goals_of c.args.kept.now) c.args.path.now.kind) c.as_slice.ensures.value c.in-Some.ensures.there) c.remove_at.ensures).1
+    (unlinked c.args.p c.args.path.now.kind c.args.rows.now c.remove_at.new.rows c.requires c.in-Some.place (goals_of c.args.kept.now)
+    (c.in-Some.ensures.there) c.remove_at.ensures).1
 
 pub returns-in-None-clause-detached : goal.returns-in-None-clause-detached
-returns-in-None-clause-detached c = subst (λ l. AreDetached c.args.p (goal_of c.args.path.now.kind) (goals_of c.args.kept.now) l l) c.as_slice.ensures.value (c.in-None.ensures.none c.args.p)
+returns-in-None-clause-detached c = (c.in-None.ensures.none c.args.p)

@@ -15,14 +15,14 @@ returns-in_default-place_of-clause-none c =
 
 pub returns-then-has-clause-none : goal.returns-then-has-clause-none
 returns-then-has-clause-none c =
-    let at = slice_get_read c.args.rows.now _ c.in-Some-place_of.place c.index-rows-place.result refl c.in-Some-place_of.ensures.inside c.index-rows-place.is in
-    let own = (row_there c.args.rows.now c.in-Some.goal c.index-rows-place.result (sym c.in-Some-place_of.ensures.value ∙ at)).1 in
-    let there = member_in c.index-rows-place.result.dependants c.args.p (sym c.has.ensures ∙ c.if-has.true) in
+    let at = slice_get_read c.args.rows.now _ c.in-Some-place_of.place c.index.result.now refl c.in-Some-place_of.ensures.inside c.index.ensures in
+    let own = (row_there c.args.rows.now c.in-Some.goal c.index.result.now (sym c.in-Some-place_of.ensures.value ∙ at)).1 in
+    let there = member_in c.index.result.now.dependants c.args.p (sym c.has.ensures ∙ c.if-has.true) in
     subst (λ g. AreAttached c.args.p g c.args.rows.now c.args.rows.now) (ap (λ z. z ∷ []) (sym own) ∙ c.in-Some.ensures)
-    (attached_before c.args.p c.args.rows.now c.requires c.in-Some-place_of.place c.index-rows-place.result at there)
+    (attached_before c.args.p c.args.rows.now c.requires c.in-Some-place_of.place c.index.result.now at there)
 
 pub returns-clause-there : goal.returns-clause-there
 returns-clause-there c =
-    let at = slice_get_read c.args.rows.now _ c.in-Some-place_of.place c.index-rows-place.result refl c.in-Some-place_of.ensures.inside c.index-rows-place.is in
-    let own = (row_there c.args.rows.now c.in-Some.goal c.index-rows-place.result (sym c.in-Some-place_of.ensures.value ∙ at)).1 in
-    (c.index-rows-place.result, at, sym c.in-Some.ensures ∙ ap (λ z. z ∷ []) own, sym c.has.ensures ∙ c.if-has.false)
+    let at = slice_get_read c.args.rows.now _ c.in-Some-place_of.place c.index.result.now refl c.in-Some-place_of.ensures.inside c.index.ensures in
+    let own = (row_there c.args.rows.now c.in-Some.goal c.index.result.now (sym c.in-Some-place_of.ensures.value ∙ at)).1 in
+    (c.index.result.now, at, sym c.in-Some.ensures ∙ ap (λ z. z ∷ []) own, sym c.has.ensures ∙ c.if-has.false)

@@ -4,8 +4,8 @@ use Rattle.fib_entries.proofs.Linking.{attached_names, low_row}
 use Rattle.fib_entries.proofs.replace.replace.Goals as goal
 
 pub detach-requires : goal.detach-requires
-detach-requires c = subst IsAscending (sym (attached_names c.args.swap.prefix _ c.args.rows.now.items c.attach.new.rows.items c.in_ok-id.ensures.attached)) c.requires.ascending
+detach-requires c = subst IsAscending (sym (attached_names c.args.swap.prefix _ c.args.rows.now c.attach.new.rows c.in_ok-id.ensures.attached)) c.requires.ascending
 
 pub settle-requires : goal.settle-requires
 settle-requires c =
-    low_row c.args.swap.prefix _ _ _ c.args.rows.now.items c.attach.new.rows.items c.detach.new.rows.items c.args.swap.place c.in_ok-id.ensures.attached c.detach.ensures c.requires.row
+    low_row c.args.swap.prefix _ _ _ c.args.rows.now c.attach.new.rows c.detach.new.rows c.args.swap.place c.in_ok-id.ensures.attached c.detach.ensures c.requires.row

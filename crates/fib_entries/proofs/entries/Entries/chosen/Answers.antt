@@ -15,14 +15,14 @@ no_head (x ∷ xs) h = absurd (none_some x (sym h))
 
 pub content-requires : goal.content-requires
 content-requires c =
-    let at = ap (λ l. row_of l c.args.prefix) (sym c.as_slice.ensures.value) ∙ sym c.in-Some.ensures in
-    let t = row_there c.self.inside.rows.items c.args.prefix c.in-Some.r.now at in
+    let at = sym c.in-Some.ensures in
+    let t = row_there c.self.inside.rows c.args.prefix c.in-Some.r.now at in
     c.self.invariant.held c.in-Some.r.now c.in-Some-first.field-0.now t.0
     (contains_at c.in-Some.r.now.pairs 0 c.in-Some-first.field-0.now (ap (λ l. slice_get l 0) (sym c.pairs.ensures) ∙ sym c.in-Some-first.ensures.value))
 
 pub returns-in-Some-first : goal.returns-in-Some-first
 returns-in-Some-first c = λ S h.
-    let at = ap (λ l. row_of l c.args.prefix) (sym (c.as_slice.ensures.value ∙ ap (λ z. z.rows) c.self.view_is)) ∙ sym c.in-Some.ensures in
+    let at = ap (λ l. row_of l c.args.prefix) (sym (ap (λ z. z.rows) c.self.view_is)) ∙ sym c.in-Some.ensures in
     let head = head_is c.in-Some.r.now.pairs c.in-Some-first.field-0.now (ap (λ l. slice_get l 0) (sym c.pairs.ensures) ∙ sym c.in-Some-first.ensures.value) in
     let are = subst (ArePairs c.args.self.now.lists S c.args.prefix) head.1 (pairs_at c.args.self.now S h c.args.prefix c.in-Some.r.now at) in
     let is = ap (λ z. content_of z.lists c.in-Some-first.field-0.now.1) (sym c.self.view_is) ∙ c.content.ensures in
@@ -31,10 +31,10 @@ returns-in-Some-first c = λ S h.
 
 pub returns-in-None-first : goal.returns-in-None-first
 returns-in-None-first c = λ S h.
-    let at = ap (λ l. row_of l c.args.prefix) (sym (c.as_slice.ensures.value ∙ ap (λ z. z.rows) c.self.view_is)) ∙ sym c.in-Some.ensures in
+    let at = ap (λ l. row_of l c.args.prefix) (sym (ap (λ z. z.rows) c.self.view_is)) ∙ sym c.in-Some.ensures in
     absurd (never_none c.args.self.now S h c.args.prefix c.in-Some.r.now at (no_head c.in-Some.r.now.pairs (ap (λ l. slice_get l 0) (sym c.pairs.ensures) ∙ sym c.in-None-first.ensures.value)))
 
 pub returns-in-None : goal.returns-in-None
 returns-in-None c = λ S h.
-    let at = ap (λ l. row_of l c.args.prefix) (sym (c.as_slice.ensures.value ∙ ap (λ z. z.rows) c.self.view_is)) ∙ sym c.in-None.ensures in
+    let at = ap (λ l. row_of l c.args.prefix) (sym (ap (λ z. z.rows) c.self.view_is)) ∙ sym c.in-None.ensures in
     none_chosen c.args.self.now S h c.args.prefix (no_entry c.args.self.now S h c.args.prefix at)

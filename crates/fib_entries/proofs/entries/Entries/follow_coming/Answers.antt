@@ -1,12 +1,11 @@
-use Rattle.std.proofs.Common.{◌≡◌, ◌≤◌, ◌+◌, List, ◌∷◌, [], sym, ap, ◌∙◌, subst, ℕ}
+use Rattle.std.proofs.Common.{◌≡◌, ◌+◌, List, ◌∷◌, [], sym, ap, ◌∙◌, subst, ℕ}
 use Rattle.std.specs.Prelude.{Contains}
 use Rattle.fib_resolve.specs.declared.types.Path.{Path}
 use Rattle.fib_resolve.specs.declared.types.Tables.{Tables}
 use Rattle.fib_changes.specs.Differ.{Differ}
 use Rattle.fib_changes.specs.declared.change.Change.TheVariants as changes
-use Rattle.fib_entries.specs.Rows.{Row}
-use Rattle.fib_entries.specs.Known.{Known, StandsFor, rank_of}
-use Rattle.fib_entries.specs.inner.Coming.{IsArriving, HasCome}
+use Rattle.fib_entries.specs.Known.{Known, StandsFor}
+use Rattle.fib_entries.specs.inner.Coming.{HasCome}
 use Rattle.fib_entries.specs.inner.Leaf.{IsFollowed, goals_of}
 use Rattle.fib_entries.specs.inner.Plies.{own_size, entry_at, entry_before}
 use Rattle.fib_entries.proofs.Following.{known}
@@ -14,28 +13,28 @@ use Rattle.fib_entries.proofs.Joining.{followed_came, come_fields, as_before}
 use Rattle.fib_entries.proofs.entries.Entries.follow_coming.Goals as goal
 
 pub come-requires-clause-gap : goal.come-requires-clause-gap
-come-requires-clause-gap c = (subst (λ (l : List Row). IsArriving l c.args.tables.now c.args.prefix c.args.source c.in-Some.place) c.as_slice.ensures.value c.in-Some.ensures.arriving).gap
+come-requires-clause-gap c = (c.in-Some.ensures.arriving).gap
 
 pub returns-in-Ok-clause-followed : goal.returns-in-Ok-clause-followed
 returns-in-Ok-clause-followed c =
     let list = c.requires.list in
-    let size : c.own_size-size.result ≡ own_size c.args.prefix (entry_before c.self.inside.rows.items c.in-Some.place) (entry_at c.self.inside.rows.items c.in-Some.place) =
-    c.own_size-size.ensures.size ∙ ap (λ (l : List Row). own_size c.args.prefix (entry_before l c.in-Some.place) (entry_at l c.in-Some.place)) c.as_slice-3.ensures.value in
+    let size : c.own_size-size.result ≡ own_size c.args.prefix (entry_before c.self.inside.rows c.in-Some.place) (entry_at c.self.inside.rows c.in-Some.place) =
+    c.own_size-size.ensures.size in
     let number = c.in-Some-raised.ensures in
     subst (λ (v : Known). (S : Tables) → StandsFor v S → Differ (changes.Route c.args.prefix c.args.source ∷ []) S c.args.tables.now
-    → IsFollowed v (known c.come.new.rows.items c.come.new.lists c.in-Some-raised.objects) S c.args.tables.now c.args.most c.in-Ok.followed) c.self.view_is
-    (followed_came (known c.self.inside.rows.items c.self.inside.lists c.self.inside.objects) (known c.come.new.rows.items c.come.new.lists c.in-Some-raised.objects) c.args.tables.now c.args.prefix c.args.source c.in-Some.place c.top_rank-top.result c.args.most c.in-Ok.followed
-    (subst (λ (l : List Row). IsArriving l c.args.tables.now c.args.prefix c.args.source c.in-Some.place) c.as_slice.ensures.value c.in-Some.ensures.arriving) c.self.invariant.named.counted.apart
-    (subst (λ (l : List Path). HasCome c.self.inside.rows.items c.come.new.rows.items c.self.inside.lists c.come.new.lists c.in-Some.place c.args.prefix c.args.source l (c.top_rank-top.result + 1) c.in-Ok.followed) list c.in-Ok.ensures.done)
+    → IsFollowed v (known c.come.new.rows c.come.new.lists c.in-Some-raised.objects) S c.args.tables.now c.args.most c.in-Ok.followed) c.self.view_is
+    (followed_came (known c.self.inside.rows c.self.inside.lists c.self.inside.objects) (known c.come.new.rows c.come.new.lists c.in-Some-raised.objects) c.args.tables.now c.args.prefix c.args.source c.in-Some.place c.top_rank-top.result c.args.most c.in-Ok.followed
+    (c.in-Some.ensures.arriving) c.self.invariant.named.counted.apart
+    (subst (λ (l : List Path). HasCome c.self.inside.rows c.come.new.rows c.self.inside.lists c.come.new.lists c.in-Some.place c.args.prefix c.args.source l (c.top_rank-top.result + 1) c.in-Ok.followed) list c.in-Ok.ensures.done)
     (number.0 ∙ ap (λ (n : ℕ). c.self.inside.objects + n) size) number.1 c.requires.most
-    (λ t k. subst (λ (l : List Row). rank_of l t ≤ c.top_rank-top.result) c.as_slice-2.ensures.value (c.top_rank-top.ensures t (subst (λ (l : List Path). Contains (goals_of l) t) (sym list) k))) c.requires.sound)
+    (λ t k. (c.top_rank-top.ensures t (subst (λ (l : List Path). Contains (goals_of l) t) (sym list) k))) c.requires.sound)
 
 pub invariant_of-self-in-Ok : goal.invariant_of-self-in-Ok
 invariant_of-self-in-Ok c =
-    come_fields c.self.inside.rows.items c.come.new.rows.items c.self.inside.lists c.come.new.lists c.self.inside.order c.self.inside.exits c.insert.new.self c.args.tables.now c.args.prefix c.args.source c.in-Some.place c.args.new.now (c.top_rank-top.result + 1) c.in-Ok.followed c.self.invariant
-    (subst (λ (l : List Row). IsArriving l c.args.tables.now c.args.prefix c.args.source c.in-Some.place) c.as_slice.ensures.value c.in-Some.ensures.arriving) c.in-Ok.ensures.done c.insert.ensures.ordered c.in_ok-insert.ensures.members
+    come_fields c.self.inside.rows c.come.new.rows c.self.inside.lists c.come.new.lists c.self.inside.order c.self.inside.exits c.insert.new.self c.args.tables.now c.args.prefix c.args.source c.in-Some.place c.args.new.now (c.top_rank-top.result + 1) c.in-Ok.followed c.self.invariant
+    (c.in-Some.ensures.arriving) c.in-Ok.ensures.done c.insert.ensures.ordered c.in_ok-insert.ensures.members
 
 pub invariant_of-self-in-Err : goal.invariant_of-self-in-Err
 invariant_of-self-in-Err c =
-    as_before c.self.inside.rows.items c.come.new.rows.items c.self.inside.lists c.come.new.lists c.self.inside.order c.self.inside.exits c.insert.new.self c.remove.new.self c.args.tables.now c.args.prefix c.args.source c.in-Some.place c.self.invariant
-    (subst (λ (l : List Row). IsArriving l c.args.tables.now c.args.prefix c.args.source c.in-Some.place) c.as_slice.ensures.value c.in-Some.ensures.arriving) c.in-Err.ensures.rows c.in-Err.ensures.lists c.remove.ensures.ordered c.in_ok-insert.ensures.members c.remove.ensures.members
+    as_before c.self.inside.rows c.come.new.rows c.self.inside.lists c.come.new.lists c.self.inside.order c.self.inside.exits c.insert.new.self c.remove.new.self c.args.tables.now c.args.prefix c.args.source c.in-Some.place c.self.invariant
+    (c.in-Some.ensures.arriving) c.in-Err.ensures.rows c.in-Err.ensures.lists c.remove.ensures.ordered c.in_ok-insert.ensures.members c.remove.ensures.members

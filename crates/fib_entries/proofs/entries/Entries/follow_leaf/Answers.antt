@@ -4,30 +4,29 @@ use Rattle.fib_resolve.specs.declared.types.Path.{Path}
 use Rattle.fib_resolve.specs.declared.types.Tables.{Tables}
 use Rattle.fib_changes.specs.Differ.{Differ}
 use Rattle.fib_changes.specs.declared.change.Change.TheVariants as changes
-use Rattle.fib_entries.specs.Rows.{Row}
-use Rattle.fib_entries.specs.Known.{Known, StandsFor, rank_of}
-use Rattle.fib_entries.specs.inner.Leaf.{IsReady, IsChanged, IsFollowed, goals_of}
+use Rattle.fib_entries.specs.Known.{Known, StandsFor}
+use Rattle.fib_entries.specs.inner.Leaf.{IsChanged, IsFollowed, goals_of}
 use Rattle.fib_entries.proofs.Following.{fields_after, followed_leaf, known}
 use Rattle.fib_entries.proofs.entries.Entries.follow_leaf.Goals as goal
 
 pub ready-requires-clause-held : goal.ready-requires-clause-held
-ready-requires-clause-held c = λ r p d e. c.self.invariant.held r p (subst (λ (l : List Row). Contains l r) c.as_slice.ensures.value d) e
+ready-requires-clause-held c = λ r p d e. c.self.invariant.held r p (d) e
 
 pub invariant_of-self-2 : goal.invariant_of-self-2
 invariant_of-self-2 c =
-    fields_after c.self.inside.rows.items c.change.new.rows.items c.self.inside.lists c.change.new.lists c.self.inside.order c.self.inside.exits c.args.tables.now c.args.prefix c.args.source c.in-Some.at.0 c.in-Some.at.1 c.in-Some.ensures.0
+    fields_after c.self.inside.rows c.change.new.rows c.self.inside.lists c.change.new.lists c.self.inside.order c.self.inside.exits c.args.tables.now c.args.prefix c.args.source c.in-Some.at.0 c.in-Some.at.1 c.in-Some.ensures.0
     c.args.new.now (c.top_rank-top.result + 1) c.in_ok-followed.followed c.self.invariant
-    (subst (λ (l : List Row). IsReady l c.self.inside.lists c.args.tables.now c.args.prefix c.args.source c.in-Some.at.0 c.in-Some.at.1 c.in-Some.ensures.0) c.as_slice.ensures.value c.in-Some.ensures.1) c.in_ok-followed.ensures.done
+    (c.in-Some.ensures.1) c.in_ok-followed.ensures.done
 
 pub returns-clause-followed : goal.returns-clause-followed
 returns-clause-followed c =
     let list = c.requires.list in
     let le : c.self.inside.objects ≤ c.args.most = omega (arith, c.if-self-most.false) in
     subst (λ (v : Known). (S : Tables) → StandsFor v S → Differ (changes.Route c.args.prefix c.args.source ∷ []) S c.args.tables.now
-    → IsFollowed v (known c.change.new.rows.items c.change.new.lists c.self.inside.objects) S c.args.tables.now c.args.most c.in_ok-followed.followed) c.self.view_is
-    (followed_leaf (known c.self.inside.rows.items c.self.inside.lists c.self.inside.objects) (known c.change.new.rows.items c.change.new.lists c.self.inside.objects) c.args.tables.now c.args.prefix c.args.source c.in-Some.at.0 c.in-Some.at.1
+    → IsFollowed v (known c.change.new.rows c.change.new.lists c.self.inside.objects) S c.args.tables.now c.args.most c.in_ok-followed.followed) c.self.view_is
+    (followed_leaf (known c.self.inside.rows c.self.inside.lists c.self.inside.objects) (known c.change.new.rows c.change.new.lists c.self.inside.objects) c.args.tables.now c.args.prefix c.args.source c.in-Some.at.0 c.in-Some.at.1
     c.in-Some.ensures.0 c.top_rank-top.result c.args.most c.in_ok-followed.followed
-    (subst (λ (l : List Row). IsReady l c.self.inside.lists c.args.tables.now c.args.prefix c.args.source c.in-Some.at.0 c.in-Some.at.1 c.in-Some.ensures.0) c.as_slice.ensures.value c.in-Some.ensures.1) c.self.invariant.named.counted.apart
-    (subst (λ (l : List Path). IsChanged c.self.inside.rows.items c.change.new.rows.items c.self.inside.lists c.change.new.lists c.in-Some.at.0 c.args.prefix c.in-Some.at.1 c.args.source l (c.top_rank-top.result + 1) c.in_ok-followed.followed) list c.in_ok-followed.ensures.done)
-    refl (λ t k. subst (λ (l : List Row). rank_of l t ≤ c.top_rank-top.result) c.as_slice-2.ensures.value (c.top_rank-top.ensures t (subst (λ (l : List Path). Contains (goals_of l) t) (sym list) k)))
+    (c.in-Some.ensures.1) c.self.invariant.named.counted.apart
+    (subst (λ (l : List Path). IsChanged c.self.inside.rows c.change.new.rows c.self.inside.lists c.change.new.lists c.in-Some.at.0 c.args.prefix c.in-Some.at.1 c.args.source l (c.top_rank-top.result + 1) c.in_ok-followed.followed) list c.in_ok-followed.ensures.done)
+    refl (λ t k. (c.top_rank-top.ensures t (subst (λ (l : List Path). Contains (goals_of l) t) (sym list) k)))
     c.requires.sound le c.requires.most (λ e. c.is_other.ensures.other c.if-not-is_other.false (e ∙ ap Some (sym list))))

@@ -14,14 +14,14 @@ use Rattle.fib_entries.proofs.entries.Entries.follow_news.Goals as goal
 pub invariant_of-self-2 : goal.invariant_of-self-2
 invariant_of-self-2 c =
     subst (λ (l : List Row). AreFields l c.self.inside.lists c.self.inside.order c.self.inside.exits) (sym c.in_ok-followed.ensures.rows)
-    (fields_renewed c.self.inside.rows.items c.self.inside.lists c.self.inside.order c.self.inside.exits c.in-Some.news c.self.invariant)
+    (fields_renewed c.self.inside.rows c.self.inside.lists c.self.inside.order c.self.inside.exits c.in-Some.news c.self.invariant)
 
 pub returns-clause-followed : goal.returns-clause-followed
 returns-clause-followed c =
-    let old = known c.self.inside.rows.items c.self.inside.lists c.self.inside.objects in
+    let old = known c.self.inside.rows c.self.inside.lists c.self.inside.objects in
     let le : c.self.inside.objects ≤ c.args.most = omega (arith, c.if-self-most.false) in
     let news : IsNews old c.args.tables.now c.args.change c.in-Some.news = subst (λ (v : Known). IsNews v c.args.tables.now c.args.change c.in-Some.news) (sym c.self.view_is) c.in-Some.ensures in
     subst (λ (v : Known). (S : Tables) → StandsFor v S → Differ (c.args.change ∷ []) S c.args.tables.now
-    → IsFollowed v (known c.follow.new.rows.items c.self.inside.lists c.self.inside.objects) S c.args.tables.now c.args.most c.in_ok-followed.followed) c.self.view_is
+    → IsFollowed v (known c.follow.new.rows c.self.inside.lists c.self.inside.objects) S c.args.tables.now c.args.most c.in_ok-followed.followed) c.self.view_is
     (λ S k d. subst (λ (l : List Row). IsFollowed old (known l c.self.inside.lists c.self.inside.objects) S c.args.tables.now c.args.most c.in_ok-followed.followed) (sym c.in_ok-followed.ensures.rows)
     (followed_news old c.args.tables.now c.args.change c.in-Some.news c.args.most c.in_ok-followed.followed news c.requires.sound le c.requires.most c.in_ok-followed.ensures.touched c.in_ok-followed.ensures.moved S k d))

@@ -1,4 +1,4 @@
-use Rattle.std.proofs.Common.{◌≡◌, ℕ, List, [], refl, sym, ◌∙◌, ap, subst, ◌↔◌}
+use Rattle.std.proofs.Common.{◌≡◌, ℕ, List, [], refl, sym, ◌∙◌, subst, ◌↔◌}
 use Rattle.std.specs.Prelude.{min, ◌^◌, ◌-◌, Contains}
 use Rattle.fib_addr.specs.Prefixes.{Prefix}
 use Rattle.fib_cover.specs.Covers.{IsAscending}
@@ -49,16 +49,19 @@ fields_of lists S rows order listed set exits objects h p l ordered stands apart
       out = out;
     }
 
+anew_as : (lists : List PathKept) (S : Tables) (order : List Prefix) (rows made : List Row) → rows ≡ made → AreAnew lists S order made → AreAnew lists S order rows
+anew_as lists S order rows made is h = subst (AreAnew lists S order) (sym is) h
+
 pub invariant_of-result : goal.invariant_of-result
 invariant_of-result c =
-    fields_of c.take_all.new.lists c.in_ok-snapshot.snapshot c.in_ok-rows.rows.items c.as_slice-2.result.now c.in_ok-listed.listed.items c.in_ok-order.order c.in_ok-exits.exits c.in_ok-objects.objects c.in_ok-rows.ensures c.as_slice-2.ensures.value
+    fields_of c.take_all.new.lists c.in_ok-snapshot.snapshot c.in_ok-rows.rows c.as_slice-2.result.now c.in_ok-listed.listed.items c.in_ok-order.order c.in_ok-exits.exits c.in_ok-objects.objects (anew_as c.take_all.new.lists c.in_ok-snapshot.snapshot c.as_slice-2.result.now c.in_ok-rows.rows c.in_ok-made.made.items c.in_ok-rows.ensures c.in_ok-made.ensures) c.as_slice-2.ensures.value
     c.in_ok-listed.ensures.listed c.in_ok-listed.ensures.ordered
-    (all_stands c.take_all.new.lists c.in_ok-snapshot.snapshot c.in_ok-snapshot.snapshot c.in_ok-rows.rows.items c.as_slice-2.result.now c.in_ok-listed.listed.items c.in_ok-order.order c.entries.result.now c.in_ok-ids.ids.items c.pairs.result.now
-    c.in_ok-objects.objects refl c.in_ok-rows.ensures c.as_slice-2.ensures.value c.in_ok-listed.ensures.listed c.in_ok-listed.ensures.ordered c.entries.ensures c.in_ok-order.ensures c.pairs.ensures c.in_ok-ids.ensures
-    c.in_ok-objects.ensures (subst IsSound (sym c.in_ok-snapshot.ensures) c.requires)) c.count-count.ensures.interned (c.in_ok-exits.ensures ∙ ap exits_of c.as_slice-3.ensures.value)
+    (all_stands c.take_all.new.lists c.in_ok-snapshot.snapshot c.in_ok-snapshot.snapshot c.in_ok-rows.rows c.as_slice-2.result.now c.in_ok-listed.listed.items c.in_ok-order.order c.entries.result.now c.in_ok-ids.ids.items c.pairs.result.now
+    c.in_ok-objects.objects refl (anew_as c.take_all.new.lists c.in_ok-snapshot.snapshot c.as_slice-2.result.now c.in_ok-rows.rows c.in_ok-made.made.items c.in_ok-rows.ensures c.in_ok-made.ensures) c.as_slice-2.ensures.value c.in_ok-listed.ensures.listed c.in_ok-listed.ensures.ordered c.entries.ensures c.in_ok-order.ensures c.pairs.ensures c.in_ok-ids.ensures
+    c.in_ok-objects.ensures (subst IsSound (sym c.in_ok-snapshot.ensures) c.requires)) c.count-count.ensures.interned c.in_ok-exits.ensures
 
 pub returns : goal.returns
 returns c =
-    all_stands c.take_all.new.lists c.in_ok-snapshot.snapshot c.args.tables.now c.in_ok-rows.rows.items c.as_slice-2.result.now c.in_ok-listed.listed.items c.in_ok-order.order c.entries.result.now c.in_ok-ids.ids.items c.pairs.result.now
-    c.in_ok-objects.objects c.in_ok-snapshot.ensures c.in_ok-rows.ensures c.as_slice-2.ensures.value c.in_ok-listed.ensures.listed c.in_ok-listed.ensures.ordered c.entries.ensures c.in_ok-order.ensures c.pairs.ensures c.in_ok-ids.ensures
+    all_stands c.take_all.new.lists c.in_ok-snapshot.snapshot c.args.tables.now c.in_ok-rows.rows c.as_slice-2.result.now c.in_ok-listed.listed.items c.in_ok-order.order c.entries.result.now c.in_ok-ids.ids.items c.pairs.result.now
+    c.in_ok-objects.objects c.in_ok-snapshot.ensures (anew_as c.take_all.new.lists c.in_ok-snapshot.snapshot c.as_slice-2.result.now c.in_ok-rows.rows c.in_ok-made.made.items c.in_ok-rows.ensures c.in_ok-made.ensures) c.as_slice-2.ensures.value c.in_ok-listed.ensures.listed c.in_ok-listed.ensures.ordered c.entries.ensures c.in_ok-order.ensures c.pairs.ensures c.in_ok-ids.ensures
     c.in_ok-objects.ensures (subst IsSound (sym c.in_ok-snapshot.ensures) c.requires)

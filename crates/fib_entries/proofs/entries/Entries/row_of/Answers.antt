@@ -1,4 +1,4 @@
-use Rattle.std.proofs.Common.{◌≡◌, List, Option, Some, None, Bor, sym, ap, ◌∙◌, subst}
+use Rattle.std.proofs.Common.{◌≡◌, List, Option, Some, None, Bor, sym, subst}
 use Rattle.std.specs.Prelude.{IfSome, option_copied}
 use Rattle.fib_addr.specs.Prefixes.{Prefix}
 use Rattle.fib_entries.specs.Rows.{Row}
@@ -15,4 +15,4 @@ kept_here rows lists e (Some r) held is = λ p c. held r.now p (row_there rows e
 pub returns-clause-held : goal.returns-clause-held
 returns-clause-held c =
     subst (λ (v : Known). IfSome c.row.result (λ r. AreKept v.lists r.now.pairs)) c.self.view_is
-    (kept_here c.self.inside.rows.items c.self.inside.lists c.args.prefix c.row.result c.self.invariant.held (c.row.ensures ∙ ap (λ l. row_of l c.args.prefix) c.as_slice.ensures.value))
+    (kept_here c.self.inside.rows c.self.inside.lists c.args.prefix c.row.result c.self.invariant.held (c.row.ensures))

@@ -1,0 +1,4 @@
+pub mod Starts
+pub mod Edits
+pub mod Laid
+pub mod Searching

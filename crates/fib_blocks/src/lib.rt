@@ -1,0 +1,15 @@
+//! Lists that lie in blocks: an element is found by its place with a binary search, and one that comes or goes moves the elements of
+//! its block alone.
+//!
+//! Contracts see the list itself; `specs/inner` only carries proofs.
+#![tactic(auto)]
+
+mod layout;
+mod list;
+mod search;
+
+pub use list::Blocks;
+pub use search::Sought;
+
+#[cfg(test)]
+mod tests;
