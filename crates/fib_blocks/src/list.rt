@@ -19,6 +19,7 @@ pub struct Blocks<T> {
     blocks: Vec<Vec<T>>,
     /// The place of the first element of each.
     starts: Vec<usize>,
+    /// How many elements there are.
     count: usize,
     alloc: Global,
 }
@@ -115,7 +116,7 @@ impl<T> IndexMut<usize> for Blocks<T> {
 }
 
 impl<T: Drop> Blocks<T> {
-    /// The elements of the vector, in order.
+    /// The elements of the vector, in order. Errs where memory is wanting.
     pub fn of(alloc: Global, elements: Vec<T>) -> Result<Blocks<T>, AllocError>
         ensures { IfOk result (λ s. s ≡ elements.items) }
     {
@@ -127,7 +128,8 @@ impl<T: Drop> Blocks<T> {
         Ok(out)
     }
 
-    /// Puts an element in at the place. After want of memory the list is as before.
+    /// Puts an element in at the place. Errs where memory is wanting, or where there are as many elements as a `usize` counts; the list is
+    /// as before then.
     pub fn insert(&mut self, place: usize, element: T) -> Result<(), AllocError>
         requires { place ≤ length self.old }
         ensures ok { OnOk result (self.new ≡ insert self.old place element) }
@@ -147,7 +149,7 @@ impl<T: Drop> Blocks<T> {
         Ok(())
     }
 
-    /// Takes the element at the place out. Takes no memory.
+    /// Takes the element at the place out, and gives it. Takes no memory.
     pub fn remove(&mut self, place: usize) -> T
         requires { place < length self.old }
         ensures value { result ≡ slice_index_or self.old place result }
