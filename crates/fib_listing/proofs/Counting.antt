@@ -9,9 +9,9 @@ use Rattle.std.specs.Set.{unique_keys}
 use Rattle.std.proofs.lemmas.Bool.Decides.{nat_tests}
 use Rattle.std.proofs.lemmas.List.Sums.{length-filter}
 use Rattle.std.proofs.lemmas.Map.Views.{Contains-from_any}
-use Rattle.fib_list.proofs.Lists.{either, Contains-nil}
+use Rattle.fib_list.proofs.Lists.{either}
 use Rattle.fib_addr.proofs.PrefixLaws.{same_prefix-Decides}
-use Rattle.fib_interned.specs.Interned.{Kept, kept_of, AreInterned}
+use Rattle.fib_interned.specs.Interned.{kept_of, AreInterned}
 use Rattle.fib_interned.proofs.Finding.{contains_at, find_place, find_only, some_is}
 use Rattle.fib_resolve.specs.Pairs.{pairs, entries}
 use Rattle.fib_resolve.specs.declared.pairs.Pair.{Pair}
@@ -22,7 +22,7 @@ use Rattle.fib_resolve.proofs.Covering.{unique_in, distinct_keys}
 use Rattle.fib_changes.proofs.SamePairs.{map_in, map_from}
 use Rattle.fib_changes.proofs.Targets.{pair_entry}
 use Rattle.fib_entries.specs.Known.{Known, PathKept, StandsFor, prefix_of, content_of}
-use Rattle.fib_listing.specs.Order.{in_order, list_before}
+use Rattle.fib_listing.specs.Order.{list_before}
 use Rattle.fib_listing.specs.PathLists.{same_list, list_of, path_lists, users, list_text, lists_text}
 use Rattle.fib_listing.specs.inner.Added.{under, Adds}
 use Rattle.fib_listing.specs.inner.Lists.{Counted, AreCounts, AreListed, counted, entry_line, line_text, paths_in}
@@ -104,11 +104,11 @@ module _ (v : Known) (S : Tables) (h : StandsFor v S) (interned : AreInterned v.
       let l = (listed list_before same_list list_trans list_apart (unique_keys same_list all) (distinct_keys same_list same_list_equiv all)).members ps in
       let u = unique_in same_list same_list_equiv list_is all ps in (
         λ c. (let x = map_from list_of (pairs S) ps (u.1 (l.0 c)) in
-          let k = kept x.0 x.1 in
-          subst (Contains (map (λ n. n.0) (map counted v.lists))) (k.2 ∙ x.2) (map_in (λ n. n.0) (map counted v.lists) (counted k.0) (map_in counted v.lists k.0 k.1))),
+            let k = kept x.0 x.1 in
+            subst (Contains (map (λ n. n.0) (map counted v.lists))) (k.2 ∙ x.2) (map_in (λ n. n.0) (map counted v.lists) (counted k.0) (map_in counted v.lists k.0 k.1))),
         λ c. (let n = map_from (λ n. n.0) (map counted v.lists) ps c in
-          let k = map_from counted v.lists n.0 n.1 in
-          l.1 (u.0 (subst (Contains all) (ap (λ m. m.0) k.2 ∙ n.2) (had k.0 k.1)))),
+            let k = map_from counted v.lists n.0 n.1 in
+            l.1 (u.0 (subst (Contains all) (ap (λ m. m.0) k.2 ∙ n.2) (had k.0 k.1)))),
       )
 
   pub lists_told : flat_map (entry_line S) es ≡ lists_text S

@@ -1,6 +1,6 @@
 -- What a map of Hop ends tells of the listing.
-use Rattle.std.proofs.Common.{arith, ◌≡◌, ℕ, Bool, true, false, ◌==◌, cond, ◌++◌, List, [], ◌∷◌, map, Option, Some, refl, sym, ◌∙◌, ap, subst, ◌↔◌}
-use Rattle.std.specs.Prelude.{Contains, flat_map, codes}
+use Rattle.std.proofs.Common.{◌≡◌, ℕ, Bool, true, false, ◌==◌, cond, List, [], ◌∷◌, map, Option, Some, refl, sym, ◌∙◌, ap, subst, ◌↔◌}
+use Rattle.std.specs.Prelude.{Contains, flat_map}
 use Rattle.std.specs.Map.{lookup}
 use Rattle.std.specs.Ordering.{is_eq, nat_cmp, ordering_then}
 use Rattle.fib_list.proofs.Lists.{Contains-flat_map}
@@ -12,7 +12,6 @@ use Rattle.fib_resolve.specs.Sizes.{same_adjacency, kind_adjacency, adjacencies_
 use Rattle.fib_resolve.specs.declared.aims.Aim.TheVariants as aims
 use Rattle.fib_resolve.specs.declared.pairs.Adjacency.{Adjacency}
 use Rattle.fib_resolve.specs.declared.types.End.TheVariants as answers
-use Rattle.fib_resolve.specs.declared.types.Path.{Path}
 use Rattle.fib_resolve.specs.declared.types.PathKind.{PathKind}
 use Rattle.fib_resolve.specs.declared.types.PathKind.TheVariants as kinds
 use Rattle.fib_resolve.specs.declared.types.Tables.{Tables}
@@ -90,11 +89,11 @@ module _ (v : Known) (S : Tables) (h : StandsFor v S) (es : List Hop) (are : Are
       let l = (listed adjacency_before same_adjacency adjacency_trans adjacency_apart (adjacencies S) (adjacencies_apart S)).members x in
       let u = unique_in same_adjacency adjacency_equiv adjacency_is all x in (
         λ c. (let e = flat_map_from (adjacencies_of S) (entries S) x (u.1 (l.0 c)) in
-          map_in hop_key news (with_mac S x) (Contains-flat_map (hops_at S) (map prefix_of v.rows) e.0 (with_mac S x) ((h.entries e.0).1 e.1) (hop_in S e.0 x e.2))),
+            map_in hop_key news (with_mac S x) (Contains-flat_map (hops_at S) (map prefix_of v.rows) e.0 (with_mac S x) ((h.entries e.0).1 e.1) (hop_in S e.0 x e.2))),
         λ c. (let g = map_from hop_key news x c in
-          let e = flat_map_from (hops_at S) (map prefix_of v.rows) g.0 g.1 in
-          let y = hop_of S e.0 g.0 e.2 in
-          l.1 (u.0 (Contains-flat_map (adjacencies_of S) (entries S) e.0 x ((h.entries e.0).0 e.1) (subst (Contains (adjacencies_of S e.0)) (ap hop_key y.2 ∙ g.2) y.1)))),
+            let e = flat_map_from (hops_at S) (map prefix_of v.rows) g.0 g.1 in
+            let y = hop_of S e.0 g.0 e.2 in
+            l.1 (u.0 (Contains-flat_map (adjacencies_of S) (entries S) e.0 x ((h.entries e.0).0 e.1) (subst (Contains (adjacencies_of S e.0)) (ap hop_key y.2 ∙ g.2) y.1)))),
       )
 
   pub hops_told : flat_map (hop_line S) es ≡ adjacencies_text S

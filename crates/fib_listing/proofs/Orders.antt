@@ -1,10 +1,5 @@
 -- The orders of the listings tell different elements apart.
-use Rattle.std.proofs.Common.{arith, ◌≡◌, ℕ, Bool, true, false, ◌==◌, ◌&&◌, List, [], ◌∷◌, refl, sym, ◌∙◌, ap, subst, ◌+◌}
-use Rattle.std.specs.Prelude.{slice_index_or}
-use Rattle.std.specs.List.{IsDistinct}
-use Rattle.std.specs.List.Sorted.{IsPermutation, IsSorted}
-use Rattle.fib_addr.proofs.PrefixLaws.{same_prefix_equiv}
-use Rattle.fib_listing.proofs.Sorting.{sorted_is}
+use Rattle.std.proofs.Common.{arith, ◌≡◌, ℕ, Bool, true, false, ◌==◌, ◌&&◌, List, [], ◌∷◌, refl, sym, ◌∙◌, ap}
 use Rattle.std.specs.Cmp.{IsTotalOrder, IsEquivalence, both_tied, tied_itself}
 use Rattle.std.specs.Cmp.Lexicographic.{pointwise}
 use Rattle.std.specs.declared.cmp.Ordering.{Ordering}
@@ -20,7 +15,7 @@ use Rattle.fib_resolve.specs.declared.pairs.Adjacency.{Adjacency}
 use Rattle.fib_resolve.specs.declared.keys.Key.{Key}
 use Rattle.fib_resolve.specs.declared.types.Path.{Path}
 use Rattle.fib_resolve.proofs.KeyOrder.{key_order}
-use Rattle.fib_listing.specs.Order.{prefix_before, adjacency_before, list_before, in_order}
+use Rattle.fib_listing.specs.Order.{prefix_before, adjacency_before, list_before}
 use Rattle.fib_listing.specs.PathLists.{same_list}
 
 pub prefix_trans : (p q r : Prefix) → prefix_before p q ≡ true → prefix_before q r ≡ true → prefix_before p r ≡ true

@@ -1,5 +1,5 @@
 -- Prefixes with their ranks, sorted.
-use Rattle.std.proofs.Common.{arith, ◌≡◌, ℕ, zero, suc, ◌+◌, ◌-◌, ◌≤◌, false, List, map, Some, refl, sym, ◌∙◌, ap, subst, slice_get}
+use Rattle.std.proofs.Common.{arith, ◌≡◌, ℕ, zero, suc, ◌+◌, ◌-◌, ◌≤◌, false, List, [], ◌∷◌, ◌++◌, take, map, Some, sym, ◌∙◌, ap, subst, slice_get}
 use Rattle.std.specs.Prelude.{Contains, slice_index_or}
 use Rattle.std.specs.List.Sorted.{IsPermutation, IsSorted}
 use Rattle.std.specs.declared.cmp.Ordering.{Ordering}
@@ -11,8 +11,9 @@ use Rattle.fib_addr.specs.Prefixes.{Prefix}
 use Rattle.fib_cover.specs.Covers.{prefix_cmp}
 use Rattle.fib_interned.proofs.Finding.{some_is}
 use Rattle.fib_entries.specs.Rows.{Row}
-use Rattle.fib_entries.specs.Known.{prefix_of}
+use Rattle.fib_entries.specs.Known.{prefix_of, rank_of}
 use Rattle.fib_listing.specs.inner.Forwards.{ranked_in, AreRanked, AreRising}
+use Rattle.fib_listing.proofs.Taking.{map_at}
 
 abbrev ranked_cmp : ℕ × Prefix → ℕ × Prefix → Ordering
 ranked_cmp x y = ordering_then (nat_cmp x.0 y.0) (prefix_cmp x.1 y.1)
@@ -48,3 +49,12 @@ ranks_sorted rows xs ys is moved s = record {
   );
   rising = rising ys s;
 }
+
+-- the ranks of one prefix more
+pub ranked_more : (rows : List Row) (n rank : ℕ) (e : Prefix) (old new : List (ℕ × Prefix)) → slice_get (map prefix_of rows) n ≡ Some e → rank ≡ rank_of rows e → old ≡ map (ranked_in rows) (take n (map prefix_of rows)) → new ≡ old ++ (rank, e) ∷ [] → new ≡ map (ranked_in rows) (take (n + 1) (map prefix_of rows))
+ranked_more rows n rank e old new at is so pushed =
+    let ps = map prefix_of rows in
+    pushed
+    ∙ ap (λ (l : List (ℕ × Prefix)). l ++ (rank, e) ∷ []) so
+    ∙ ap (λ (r : ℕ). map (ranked_in rows) (take n ps) ++ (r, e) ∷ []) is
+    ∙ sym (map_at (ranked_in rows) ps n e at)

@@ -41,10 +41,7 @@ fn add_hop(hops: &mut BTreeMap<Adjacency, Option<Mac>>, aim: Aim) -> Result<(), 
     }
 }
 
-fn add_hops(
-    hops: &mut BTreeMap<Adjacency, Option<Mac>>,
-    marks: &[Marked],
-) -> Result<(), AllocError>
+fn add_hops(hops: &mut BTreeMap<Adjacency, Option<Mac>>, marks: &[Marked]) -> Result<(), AllocError>
     ensures { OnOk result (AddsHops (flat_map mark_hops marks.now) hops.old.entries hops.new.entries) }
 {
     for mark in marks {
@@ -54,10 +51,7 @@ fn add_hops(
 }
 
 /// The Hop ends of all chosen paths in order, each once, with its MAC where that is known.
-fn hops_of(
-    alloc: Global,
-    entries: &Entries,
-) -> Result<BTreeMap<Adjacency, Option<Mac>>, AllocError>
+fn hops_of(alloc: Global, entries: &Entries) -> Result<BTreeMap<Adjacency, Option<Mac>>, AllocError>
     ensures { IfOk result (λ m. (S : TablesValue) → StandsFor entries.now S → AreHops entries.now S m.entries) }
 {
     let mut hops = BTreeMap::new(alloc);

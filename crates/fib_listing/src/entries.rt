@@ -85,12 +85,7 @@ fn put_marked(
 ) -> Result<(), AllocError>
     ensures { OnOk result (out.new.items ≡ out.old.items ++ marked_text view.now e place path.now) }
 {
-    put_path(
-        out,
-        view.tables(),
-        path,
-        cover_at(view, e, path.kind),
-    )?;
+    put_path(out, view.tables(), path, cover_at(view, e, path.kind))?;
     let fine = is_drop(path.kind) || view.is_usable(e, place);
     let mark = mark_name(view.is_looped(e, place), fine);
     out.extend_from_slice(mark.as_bytes())

@@ -1,4 +1,4 @@
-use Rattle.std.proofs.Common.{arith, ◌≡◌, refl, sym, ap, subst, length}
+use Rattle.std.proofs.Common.{arith, ◌≡◌, refl, sym, subst, length}
 use Rattle.std.proofs.lemmas.Option.{slice_get_read}
 use Rattle.fib_changes.proofs.Ranking.{ranked}
 use Rattle.fib_entries.specs.Known.{rank_of}
