@@ -79,6 +79,7 @@ pub fn put_path_lists(
     ensures err { OnErr result (out.new.items ≡ out.old.items) }
 {
     let lists = entries.lists();
+    // Read so that the proof knows that each kept list has a user.
     let _count = lists.count();
     let counts = counts_of(alloc, lists)?;
     let mut text = Vec::new(alloc);

@@ -37,6 +37,7 @@ impl<'a> Model for View<'a> {
 }
 
 impl<'a> View<'a> {
+    /// The tables with their entries; finds those that forward.
     pub fn new(
         alloc: Global,
         tables: &'a Tables,
@@ -53,6 +54,7 @@ impl<'a> View<'a> {
         })
     }
 
+    /// The tables.
     pub fn tables(&self) -> &'a Tables
         ensures { result.now ≡ self.now }
     {
@@ -91,18 +93,21 @@ impl<'a> View<'a> {
         }
     }
 
+    /// The cover of an address.
     pub fn cover(&self, addr: Addr) -> Prefix
         ensures { result ≡ cover self.now addr }
     {
         self.entries.cover(addr)
     }
 
+    /// Whether the path at that place of the entry's chosen list is there and looped.
     pub fn is_looped(&self, e: Prefix, place: usize) -> bool
         ensures { result ≡ looped_at self.now e place }
     {
         self.entries.looped(e, place)
     }
 
+    /// Whether it is there and usable.
     pub fn is_usable(&self, e: Prefix, place: usize) -> bool
         ensures { result ≡ usable_at self.now e place }
     {
