@@ -117,7 +117,8 @@ impl<B: Board> Control<B> {
 
     /// What is known of their entries.
     pub fn entries(&self) -> &Entries
-        ensures { result.now ≡ self.now.entries }
+        ensures value { result.now ≡ self.now.entries }
+        ensures stands { StandsFor result.now (tables_in self.now) }
     {
         &self.entries
     }

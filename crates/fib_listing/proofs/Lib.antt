@@ -1,4 +1,11 @@
 pub mod Sorting
 pub mod Orders
 pub mod Paths
+pub mod Taking
+pub mod Adding
+pub mod Marks
+pub mod Ranks
+pub mod Forwards
+pub mod Listed
+pub mod Hops
 pub mod Counting

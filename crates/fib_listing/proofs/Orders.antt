@@ -1,10 +1,5 @@
 -- The orders of the listings tell different elements apart.
-use Rattle.std.proofs.Common.{arith, ◌≡◌, ℕ, Bool, true, false, ◌==◌, ◌&&◌, List, [], ◌∷◌, refl, sym, ◌∙◌, ap, subst, ◌+◌}
-use Rattle.std.specs.Prelude.{slice_index_or}
-use Rattle.std.specs.List.{IsDistinct}
-use Rattle.std.specs.List.Sorted.{IsPermutation, IsSorted}
-use Rattle.fib_addr.proofs.PrefixLaws.{same_prefix_equiv}
-use Rattle.fib_listing.proofs.Sorting.{sorted_is}
+use Rattle.std.proofs.Common.{arith, ◌≡◌, ℕ, Bool, true, false, ◌==◌, ◌&&◌, List, [], ◌∷◌, refl, sym, ◌∙◌, ap}
 use Rattle.std.specs.Cmp.{IsTotalOrder, IsEquivalence, both_tied, tied_itself}
 use Rattle.std.specs.Cmp.Lexicographic.{pointwise}
 use Rattle.std.specs.declared.cmp.Ordering.{Ordering}
@@ -20,7 +15,7 @@ use Rattle.fib_resolve.specs.declared.pairs.Adjacency.{Adjacency}
 use Rattle.fib_resolve.specs.declared.keys.Key.{Key}
 use Rattle.fib_resolve.specs.declared.types.Path.{Path}
 use Rattle.fib_resolve.proofs.KeyOrder.{key_order}
-use Rattle.fib_listing.specs.Order.{prefix_before, adjacency_before, list_before, in_order}
+use Rattle.fib_listing.specs.Order.{prefix_before, adjacency_before, list_before}
 use Rattle.fib_listing.specs.PathLists.{same_list}
 
 pub prefix_trans : (p q r : Prefix) → prefix_before p q ≡ true → prefix_before q r ≡ true → prefix_before p r ≡ true
@@ -35,11 +30,11 @@ prefix_off p = grind (arith, nat_tests)
 prefix_test : (p q : Prefix) → is_lt (ordering_then (nat_cmp p.bits q.bits) (nat_cmp p.len q.len)) ≡ prefix_before p q
 prefix_test p q = grind (arith, nat_tests)
 
+pub prefix_lower : (p q : Prefix) → ordering_then (nat_cmp p.bits q.bits) (nat_cmp p.len q.len) ≡ Less → prefix_before p q ≡ true
+prefix_lower p q h = sym (prefix_test p q) ∙ ap is_lt h
+
 pub adjacency_off : (x : Adjacency) → adjacency_before x x ≡ false
 adjacency_off x = grind (arith, nat_tests)
-
-adjacency_flips : (x y : Adjacency) → same_adjacency x y ≡ same_adjacency y x
-adjacency_flips x y = grind (arith, nat_tests)
 
 adjacency_test : (x y : Adjacency) → is_lt (ordering_then (nat_cmp x.interface y.interface) (nat_cmp x.next_hop y.next_hop)) ≡ adjacency_before x y
 adjacency_test x y = grind (arith, nat_tests)
@@ -50,16 +45,11 @@ adjacency_trans x y z h k = grind (arith, nat_tests)
 pub adjacency_apart : (x y : Adjacency) → same_adjacency y x ≡ false → adjacency_before x y ≡ false → adjacency_before y x ≡ true
 adjacency_apart x y h k = grind (arith, nat_tests)
 
--- what a sort gives
-pub prefixes_sorted : (ps qs rs : List Prefix) → IsDistinct same_prefix ps → qs ≡ ps → IsPermutation qs rs → IsSorted (λ p q. ordering_then (nat_cmp p.bits q.bits) (nat_cmp p.len q.len)) rs → rs ≡ in_order prefix_before ps
-prefixes_sorted ps qs rs apart copy moved s =
-    sorted_is prefix_before prefix_off prefix_trans same_prefix same_prefix_equiv.symm prefix_apart ps rs apart (subst (λ (l : List Prefix). IsPermutation l rs) copy moved)
-    (λ k d low high. sym (prefix_test (slice_index_or rs (k + 1) d) (slice_index_or rs k d)) ∙ s k d low high)
+pub adjacency_lower : (x y : Adjacency) → ordering_then (nat_cmp x.interface y.interface) (nat_cmp x.next_hop y.next_hop) ≡ Less → adjacency_before x y ≡ true
+adjacency_lower x y h = sym (adjacency_test x y) ∙ ap is_lt h
 
-pub adjacencies_sorted : (xs ys : List Adjacency) → IsDistinct same_adjacency xs → IsPermutation xs ys → IsSorted (λ x y. ordering_then (nat_cmp x.interface y.interface) (nat_cmp x.next_hop y.next_hop)) ys → ys ≡ in_order adjacency_before xs
-adjacencies_sorted xs ys apart moved s =
-    sorted_is adjacency_before adjacency_off adjacency_trans same_adjacency adjacency_flips adjacency_apart xs ys apart moved
-    (λ k d low high. sym (adjacency_test (slice_index_or ys (k + 1) d) (slice_index_or ys k d)) ∙ s k d low high)
+pub adjacency_tied : (x y : Adjacency) → is_eq (ordering_then (nat_cmp x.interface y.interface) (nat_cmp x.next_hop y.next_hop)) ≡ same_adjacency x y
+adjacency_tied x y = grind (arith, nat_tests)
 
 path_order : IsTotalOrder path_cmp
 path_order = then_total (on_total key_of key_order) (then_total (on_total (λ (p : Path). p.weight) nat_cmp_total) (on_total (λ (p : Path). p.preference) nat_cmp_total))

@@ -1,11 +1,8 @@
 -- Elements put in one by one, each in front of the first that it stands before, are in order.
 use Rattle.std.proofs.Common.{arith, ◌≡◌, ℕ, ◌+◌, zero, suc, Bool, true, false, not, cond, List, [], ◌∷◌, ◌++◌, length, take, drop, ◌⊎◌, inl, inr, refl, sym, ◌∙◌, ap, subst, ◌↔◌}
-use Rattle.std.specs.Prelude.{Contains, fold, position, slice_index_or, unwrap_or}
+use Rattle.std.specs.Prelude.{Contains, fold, position, unwrap_or}
 use Rattle.std.specs.List.{AllByRecursion, IsDistinct, position_or_len, prefix_len}
-use Rattle.std.specs.List.Sorted.{IsPermutation, IsSortedBy}
 use Rattle.std.proofs.lemmas.Bool.{false≢true}
-use Rattle.std.proofs.lemmas.List.Sorted.{Contains-permutation, IsPermutation-sym}
-use Rattle.std.proofs.lemmas.Map.Keys.{IsDistinct-IsPermutation}
 use Rattle.std.proofs.lemmas.Bool.{lt-ltb, le-ltb, cases_lt}
 use Rattle.std.proofs.lemmas.List.Sums.{prefix_len-le-length}
 use Rattle.fib_list.proofs.Lists.{either, Contains-nil, each-weaker}
@@ -151,23 +148,3 @@ module _ {X : Type 0} (before : X → X → Bool) (off : (x : X) → before x x 
 
   pub only_listed : (all xs ys : List X) → IsListed before all xs → IsListed before all ys → xs ≡ ys
   only_listed all xs ys h l = only xs ys h.ordered l.ordered (λ z. (λ c. (l.members z).1 ((h.members z).0 c), λ c. (h.members z).1 ((l.members z).0 c)))
-
-  module _ (same : X → X → Bool) (flips : (x y : X) → same x y ≡ same y x) (apart : (x y : X) → same y x ≡ false → before x y ≡ false → before y x ≡ true) where
-    next : (k : ℕ) → suc k + 1 ≡ suc (k + 1)
-    next k = omega arith
-
-    rising : (ys : List X) → IsDistinct same ys → IsSortedBy before ys → IsOrderedBy before ys
-    unfolding IsDistinct
-    rising [] d s = tt
-    rising (y ∷ []) d s = (tt, tt)
-    rising (y ∷ z ∷ zs) d s =
-        let rest = rising (z ∷ zs) d.1 (λ k e low high. subst (λ (n : ℕ). before (slice_index_or (y ∷ z ∷ zs) n e) (slice_index_or (z ∷ zs) k e) ≡ false) (next k) (s (suc k) e (omega arith) (omega (arith, high)))) in
-        let is : before y z ≡ true = apart z y d.0.0 (s 0 y (omega arith) (omega arith)) in
-        ((is, each-weaker (λ w. before z w ≡ true) (λ w. before y w ≡ true) (λ w b. trans y z w is b) zs rest.0), rest)
-
-    -- what a sort gives
-    pub sorted_is : (xs ys : List X) → IsDistinct same xs → IsPermutation xs ys → IsSortedBy before ys → ys ≡ in_order before xs
-    sorted_is xs ys d p s =
-        let l = listed before same trans apart xs d in
-        only ys (in_order before xs) (rising ys (IsDistinct-IsPermutation same flips xs ys p d) s) l.ordered
-        (λ z. (λ c. (l.members z).1 (Contains-permutation ys xs z (IsPermutation-sym xs ys p) c), λ c. Contains-permutation xs ys z p ((l.members z).0 c)))

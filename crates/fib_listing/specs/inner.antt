@@ -1,2 +1,5 @@
-pub mod Sources
 pub mod Lists
+pub mod Added
+pub mod Forwards
+pub mod Hops
+pub mod Views

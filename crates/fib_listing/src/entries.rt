@@ -1,30 +1,18 @@
 // The listing of entries.
-ghost use Rattle.std.specs.Prelude.{◌≡◌, ◌++◌, OnOk, OnErr, IfOk, flat_map, map, codes};
-ghost use Rattle.fib_resolve.specs.Pairs.{pairs};
+ghost use Rattle.std.specs.Prelude.{◌≡◌, ◌++◌, OnOk, OnErr, IfOk, map, codes};
+ghost use Rattle.fib_entries.specs.Known.{StandsFor};
 ghost use Rattle.fib_listing.specs.Order.{row_from, gap};
-ghost use Rattle.fib_listing.specs.inner.Sources.{AreSources};
-ghost use Rattle.fib_listing.specs.Entries.{all_sources, source_text, is_drop, cover_at, mark_text, marked_text, marked_from, sources_text, paths_text, entry_text, fib_text};
+ghost use Rattle.fib_listing.specs.inner.Views.{source_in};
+ghost use Rattle.fib_listing.specs.Entries.{source_text, is_drop, cover_at, mark_text, marked_text, marked_from, sources_text, paths_text, entry_text, fib_text};
 
-use crate::order::prefixes_in_order;
 use crate::rows::put_gap;
-use crate::sources::{sources_at, sources_of};
+use crate::view::View;
 use fib_addr::{Prefix, put_prefix};
-use fib_plain::Snapshot;
+use fib_entries::Entries;
+use fib_paths::PathListId;
 use fib_print::put_path;
-use fib_resolve::{FibSource, Path, PathKind};
+use fib_resolve::{FibSource, Path, PathKind, Tables};
 use std::alloc::{AllocError, Global};
-use std::collections::HashSet;
-
-/// The sources, the best first.
-const ALL_SOURCES: [FibSource; 7] = [
-    FibSource::Special,
-    FibSource::Interface,
-    FibSource::Api,
-    FibSource::Cli,
-    FibSource::Adjacency,
-    FibSource::RecursiveResolution,
-    FibSource::DefaultRoute,
-];
 
 fn source_name(source: FibSource) -> &'static str
     ensures { result.now ≡ source_text source }
@@ -40,30 +28,21 @@ fn source_name(source: FibSource) -> &'static str
     }
 }
 
-fn put_names(out: &mut Vec<u8>, sources: &[FibSource]) -> Result<(), AllocError>
-    ensures { OnOk result (out.new.items ≡ out.old.items ++ row_from (codes "+") 0 (map source_text sources.now)) }
+fn put_names(out: &mut Vec<u8>, sources: &[(FibSource, PathListId)]) -> Result<(), AllocError>
+    ensures { OnOk result (out.new.items ≡ out.old.items ++ row_from (codes "+") 0 (map source_text (map source_in sources.now))) }
 {
     for (k, source) in sources.iter().enumerate() {
         put_gap(out, "+", k)?;
-        out.extend_from_slice(source_name(*source).as_bytes())?;
+        out.extend_from_slice(source_name(source.0).as_bytes())?;
     }
     Ok(())
 }
 
-/// The snapshot stands here for the proof alone.
 #[tactic(auto, unfolding(crate::specs::Entries::sources_text))]
-fn put_sources(
-    out: &mut Vec<u8>,
-    alloc: Global,
-    snapshot: &Snapshot<'_>,
-    sources: &HashSet<(Prefix, u8)>,
-    e: Prefix,
-) -> Result<(), AllocError>
-    requires { AreSources (pairs snapshot.now) sources.now.keys }
-    ensures { OnOk result (out.new.items ≡ out.old.items ++ sources_text snapshot.now e) }
+fn put_sources(out: &mut Vec<u8>, view: &View<'_>, e: Prefix) -> Result<(), AllocError>
+    ensures { OnOk result (out.new.items ≡ out.old.items ++ sources_text view.now e) }
 {
-    let found = sources_at(alloc, sources, e, &ALL_SOURCES)?;
-    put_names(out, &found)
+    put_names(out, view.sources(e))
 }
 
 fn is_drop(kind: PathKind) -> bool
@@ -75,11 +54,11 @@ fn is_drop(kind: PathKind) -> bool
     }
 }
 
-fn cover_at(snapshot: &Snapshot<'_>, e: Prefix, kind: PathKind) -> Option<Prefix>
-    ensures { result ≡ cover_at snapshot.now e kind }
+fn cover_at(view: &View<'_>, e: Prefix, kind: PathKind) -> Option<Prefix>
+    ensures { result ≡ cover_at view.now e kind }
 {
     match kind {
-        PathKind::Cover => Some(snapshot.cover(e.bits())),
+        PathKind::Cover => Some(view.cover(e.bits())),
         _ => None,
     }
 }
@@ -99,95 +78,77 @@ fn mark_name(looped: bool, fine: bool) -> &'static str
 #[tactic(auto, unfolding(crate::specs::Entries::marked_text))]
 fn put_marked(
     out: &mut Vec<u8>,
-    snapshot: &Snapshot<'_>,
+    view: &View<'_>,
     e: Prefix,
     place: usize,
     path: &Path,
 ) -> Result<(), AllocError>
-    ensures { OnOk result (out.new.items ≡ out.old.items ++ marked_text snapshot.now e place path.now) }
+    ensures { OnOk result (out.new.items ≡ out.old.items ++ marked_text view.now e place path.now) }
 {
-    put_path(
-        out,
-        snapshot.tables(),
-        path,
-        cover_at(snapshot, e, path.kind),
-    )?;
-    let fine = is_drop(path.kind) || snapshot.is_usable(e, place);
-    let mark = mark_name(snapshot.is_looped(e, place), fine);
+    put_path(out, view.tables(), path, cover_at(view, e, path.kind))?;
+    let fine = is_drop(path.kind) || view.is_usable(e, place);
+    let mark = mark_name(view.is_looped(e, place), fine);
     out.extend_from_slice(mark.as_bytes())
 }
 
 fn put_marked_all(
     out: &mut Vec<u8>,
-    snapshot: &Snapshot<'_>,
+    view: &View<'_>,
     e: Prefix,
     paths: &[Path],
 ) -> Result<(), AllocError>
-    ensures { OnOk result (out.new.items ≡ out.old.items ++ marked_from snapshot.now e 0 paths.now) }
+    ensures { OnOk result (out.new.items ≡ out.old.items ++ marked_from view.now e 0 paths.now) }
 {
     for (place, path) in paths.iter().enumerate() {
         put_gap(out, ", ", place)?;
-        put_marked(out, snapshot, e, place, path)?;
+        put_marked(out, view, e, place, path)?;
     }
     Ok(())
 }
 
 #[tactic(auto, unfolding(crate::specs::Entries::paths_text))]
-fn put_paths(out: &mut Vec<u8>, snapshot: &Snapshot<'_>, e: Prefix) -> Result<(), AllocError>
-    ensures { OnOk result (out.new.items ≡ out.old.items ++ paths_text snapshot.now e) }
+fn put_paths(out: &mut Vec<u8>, view: &View<'_>, e: Prefix) -> Result<(), AllocError>
+    ensures { OnOk result (out.new.items ≡ out.old.items ++ paths_text view.now e) }
 {
-    put_marked_all(out, snapshot, e, snapshot.chosen(e))
+    put_marked_all(out, view, e, view.chosen(e))
 }
 
 #[tactic(auto, unfolding(crate::specs::Entries::entry_text))]
-fn put_entry(
-    out: &mut Vec<u8>,
-    alloc: Global,
-    snapshot: &Snapshot<'_>,
-    sources: &HashSet<(Prefix, u8)>,
-    e: Prefix,
-) -> Result<(), AllocError>
-    requires { AreSources (pairs snapshot.now) sources.now.keys }
-    ensures { OnOk result (out.new.items ≡ out.old.items ++ entry_text snapshot.now e) }
+fn put_entry(out: &mut Vec<u8>, view: &View<'_>, e: Prefix) -> Result<(), AllocError>
+    ensures { OnOk result (out.new.items ≡ out.old.items ++ entry_text view.now e) }
 {
     put_prefix(out, e)?;
     out.extend_from_slice(b" ")?;
-    put_sources(out, alloc, snapshot, sources, e)?;
+    put_sources(out, view, e)?;
     out.extend_from_slice(b": ")?;
-    put_paths(out, snapshot, e)?;
+    put_paths(out, view, e)?;
     out.extend_from_slice(b"\n")
 }
 
-fn put_all(
-    out: &mut Vec<u8>,
-    alloc: Global,
-    snapshot: &Snapshot<'_>,
-    sources: &HashSet<(Prefix, u8)>,
-    entries: &[Prefix],
-) -> Result<(), AllocError>
-    requires { AreSources (pairs snapshot.now) sources.now.keys }
-    ensures { OnOk result (out.new.items ≡ out.old.items ++ flat_map (entry_text snapshot.now) entries.now) }
+#[tactic(auto, unfolding(crate::specs::Entries::fib_text))]
+fn put_all(out: &mut Vec<u8>, view: &View<'_>) -> Result<(), AllocError>
+    ensures { OnOk result (out.new.items ≡ out.old.items ++ fib_text view.now) }
 {
-    for e in entries {
-        put_entry(out, alloc, snapshot, sources, *e)?;
+    for place in 0..view.count() {
+        put_entry(out, view, view.entry(place))?;
     }
     Ok(())
 }
 
 /// Appends the text of `show ip fib`: a line for each effective entry, in order of bits, then of lengths, with the names of its
 /// sources from the best on and the paths of its chosen list, each with its mark. Where memory is wanted `out` is as it was.
-#[tactic(auto, unfolding(crate::specs::Entries::fib_text), using(fib_resolve::proofs::Covering::entries_apart))]
 pub fn put_entries(
     out: &mut Vec<u8>,
     alloc: Global,
-    snapshot: &Snapshot<'_>,
+    tables: &Tables,
+    entries: &Entries,
 ) -> Result<(), AllocError>
-    ensures ok { OnOk result (out.new.items ≡ out.old.items ++ fib_text snapshot.now) }
+    requires { StandsFor entries.now tables.now }
+    ensures ok { OnOk result (out.new.items ≡ out.old.items ++ fib_text tables.now) }
     ensures err { OnErr result (out.new.items ≡ out.old.items) }
 {
-    let sources = sources_of(alloc, snapshot.pairs())?;
-    let sorted = prefixes_in_order(alloc, snapshot.entries())?;
+    let view = View::new(alloc, tables, entries)?;
     let mut text = Vec::new(alloc);
-    put_all(&mut text, alloc, snapshot, &sources, &sorted)?;
+    put_all(&mut text, &view)?;
     out.extend_from_slice(text.as_slice())
 }

@@ -1,26 +1,26 @@
 // The listing of path-lists.
 ghost use Rattle.std.specs.Prelude.{◌≡◌, ◌++◌, OnOk, OnErr, IfOk, codes, flat_map, map};
+ghost use Rattle.fib_entries.specs.Known.{StandsFor};
 ghost use Rattle.fib_listing.specs.Order.{row_from, gap};
 ghost use Rattle.fib_listing.specs.PathLists.{plain_text, lists_text};
 ghost use Rattle.fib_listing.specs.inner.Lists.{AreCounts, AreListed, entry_line, line_text};
 
 use crate::rows::put_gap;
-use fib_plain::Snapshot;
+use fib_entries::Entries;
+use fib_paths::PathLists;
 use fib_print::{put_number, put_path};
-use fib_resolve::{Pair, Path, Tables};
+use fib_resolve::{Path, Tables};
 use std::alloc::{AllocError, Global};
 use std::collections::BTreeMap;
 
-/// The lists of the pairs in order, each once, with the number of pairs that have it.
-fn counts_of(alloc: Global, pairs: &[Pair]) -> Result<BTreeMap<&[Path], usize>, AllocError>
-    ensures counts { IfOk result (λ m. AreCounts pairs.now m.entries) }
-    ensures ordered { IfOk result (λ m. AreListed m.entries) }
+/// The kept lists in order, each with the number of its users.
+fn counts_of(alloc: Global, lists: &PathLists) -> Result<BTreeMap<&[Path], u32>, AllocError>
+    ensures { IfOk result (λ m. AreCounts lists.now m.entries) }
 {
     let mut counts = BTreeMap::new(alloc);
-    for x in pairs {
-        let paths = x.paths.as_slice();
-        let users = counts.get(&paths).copied().unwrap_or(0);
-        counts.insert(paths, users + 1)?;
+    for place in 0..lists.count() {
+        let id = lists.at(place);
+        counts.insert(lists.content(id), lists.users(id))?;
     }
     Ok(counts)
 }
@@ -39,12 +39,12 @@ fn put_list_line(
     out: &mut Vec<u8>,
     tables: &Tables,
     paths: &[Path],
-    users: usize,
+    users: u32,
 ) -> Result<(), AllocError>
     ensures { OnOk result (out.new.items ≡ out.old.items ++ line_text tables.now users paths.now) }
 {
     out.extend_from_slice(b"users ")?;
-    put_number(out, users as u64)?;
+    put_number(out, u64::from(users))?;
     out.extend_from_slice(b": ")?;
     put_paths(out, tables, paths)?;
     out.extend_from_slice(b"\n")
@@ -53,9 +53,10 @@ fn put_list_line(
 fn put_all(
     out: &mut Vec<u8>,
     tables: &Tables,
-    counts: &BTreeMap<&[Path], usize>,
+    counts: &BTreeMap<&[Path], u32>,
 ) -> Result<(), AllocError>
-    ensures { OnOk result (out.new.items ≡ out.old.items ++ flat_map (entry_line tables.now) counts.now.entries) }
+    ensures text { OnOk result (out.new.items ≡ out.old.items ++ flat_map (entry_line tables.now) counts.now.entries) }
+    ensures ordered { OnOk result (AreListed counts.now.entries) }
 {
     for (paths, users) in counts.iter() {
         put_list_line(out, tables, paths, *users)?;
@@ -70,13 +71,18 @@ fn put_all(
 pub fn put_path_lists(
     out: &mut Vec<u8>,
     alloc: Global,
-    snapshot: &Snapshot<'_>,
+    tables: &Tables,
+    entries: &Entries,
 ) -> Result<(), AllocError>
-    ensures ok { OnOk result (out.new.items ≡ out.old.items ++ lists_text snapshot.now) }
+    requires { StandsFor entries.now tables.now }
+    ensures ok { OnOk result (out.new.items ≡ out.old.items ++ lists_text tables.now) }
     ensures err { OnErr result (out.new.items ≡ out.old.items) }
 {
-    let counts = counts_of(alloc, snapshot.pairs())?;
+    let lists = entries.lists();
+    // Read so that the proof knows that each kept list has a user.
+    let _count = lists.count();
+    let counts = counts_of(alloc, lists)?;
     let mut text = Vec::new(alloc);
-    put_all(&mut text, snapshot.tables(), &counts)?;
+    put_all(&mut text, tables, &counts)?;
     out.extend_from_slice(text.as_slice())
 }

@@ -3,7 +3,7 @@ ghost use Rattle.std.specs.Prelude.{◌≡◌, IfOk};
 ghost use Rattle.fib_resolve.specs.Tables.{fresh};
 
 use super::*;
-use fib_plain::Snapshot;
+use fib_entries::Entries;
 use fib_resolve::{List, Tables};
 use std::alloc::Global;
 use std::test::Fail;
@@ -23,17 +23,17 @@ fn empty(alloc: Global) -> Tables
 #[test]
 fn listings_of_empty_tables(rt: HostRuntime) -> Result<(), Fail> {
     let tables = empty(rt.alloc());
-    let snapshot = Snapshot::new(rt.alloc(), &tables)?;
+    let entries = Entries::of(rt.alloc(), &tables)?;
     let mut out = Vec::new(rt.alloc());
-    put_entries(&mut out, rt.alloc(), &snapshot)?;
+    put_entries(&mut out, rt.alloc(), &tables, &entries)?;
     assert!(rt;
         out.starts_with(
             b"0.0.0.0/0 default-route: drop weight 1 preference 0\n0.0.0.0/32 special: "
         )
     );
     let mut out = Vec::new(rt.alloc());
-    put_path_lists(&mut out, rt.alloc(), &snapshot)?;
-    put_adjacencies(&mut out, rt.alloc(), &snapshot)?;
+    put_path_lists(&mut out, rt.alloc(), &tables, &entries)?;
+    put_adjacencies(&mut out, rt.alloc(), &tables, &entries)?;
     assert_eq!(rt;
         out.as_slice(),
         b"users 5: drop weight 1 preference 0\n".as_slice()

@@ -1,5 +1,5 @@
 -- The texts of ends, with the names of interfaces.
-use Rattle.std.specs.Prelude.{ℕ, ◌++◌, List, [], Option, Some, None, slice_get, codes, decimal}
+use Rattle.std.specs.Prelude.{ℕ, ◌++◌, List, [], Option, Some, None, slice_get, codes}
 use Rattle.fib_addr.specs.Texts.{address_text, mac_text}
 use Rattle.fib_resolve.specs.declared.types.Interface.{Interface}
 use Rattle.fib_resolve.specs.declared.types.Tables.{Tables}

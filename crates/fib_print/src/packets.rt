@@ -1,34 +1,38 @@
 // The lines of packets.
 ghost use Rattle.std.specs.Prelude.{◌≡◌, ◌++◌, OnOk, OnErr, IfOk, decimal};
 ghost use Rattle.fib_print.specs.Packets.{version_text, window_text, flow_text, packet_text, not_ipv4_text, bad_header_text, cut_text};
+ghost use Rattle.fib_print.specs.inner.Growing.{HasKept};
 
-use crate::ends::write_end;
-use crate::text::{put_number, put_text, write_addr};
+use crate::ends::put_end;
+use crate::text::{or_undone, put_number, put_text, write_addr};
 use fib_resolve::Tables;
 use fib_results::{Record, Version};
 use std::alloc::{AllocError, Global};
 
-#[tactic(auto, unfolding(crate::specs::Packets::version_text))]
+#[tactic(auto, unfolding(crate::specs::Packets::version_text), using(crate::proofs::Growing::kept_on, crate::proofs::Growing::kept_one, crate::proofs::Growing::kept_all))]
 fn write_version(out: &mut Vec<u8>, version: Version) -> Result<(), AllocError>
-    ensures { OnOk result (out.new.items ≡ out.old.items ++ version_text version) }
+    ensures ok { OnOk result (out.new.items ≡ out.old.items ++ version_text version) }
+    ensures err { OnErr result (HasKept out.old.items out.new.items) }
 {
     put_number(out, u64::from(version.settled))?;
     put_text(out, ".")?;
     put_number(out, u64::from(version.applied))
 }
 
-#[tactic(auto, unfolding(crate::specs::Packets::window_text))]
+#[tactic(auto, unfolding(crate::specs::Packets::window_text), using(crate::proofs::Growing::kept_on, crate::proofs::Growing::kept_one, crate::proofs::Growing::kept_all))]
 fn write_window(out: &mut Vec<u8>, answer: &Record) -> Result<(), AllocError>
-    ensures { OnOk result (out.new.items ≡ out.old.items ++ window_text answer.now) }
+    ensures ok { OnOk result (out.new.items ≡ out.old.items ++ window_text answer.now) }
+    ensures err { OnErr result (HasKept out.old.items out.new.items) }
 {
     write_version(out, answer.lo)?;
     put_text(out, "-")?;
     write_version(out, answer.hi)
 }
 
-#[tactic(auto, unfolding(crate::specs::Packets::flow_text))]
+#[tactic(auto, unfolding(crate::specs::Packets::flow_text), using(crate::proofs::Growing::kept_on, crate::proofs::Growing::kept_one, crate::proofs::Growing::kept_all))]
 fn write_flow(out: &mut Vec<u8>, number: u32, answer: &Record) -> Result<(), AllocError>
-    ensures { OnOk result (out.new.items ≡ out.old.items ++ flow_text number answer.now) }
+    ensures ok { OnOk result (out.new.items ≡ out.old.items ++ flow_text number answer.now) }
+    ensures err { OnErr result (HasKept out.old.items out.new.items) }
 {
     put_text(out, "packet ")?;
     put_number(out, u64::from(number))?;
@@ -39,25 +43,25 @@ fn write_flow(out: &mut Vec<u8>, number: u32, answer: &Record) -> Result<(), All
     put_text(out, " ")
 }
 
-/// Appends the line of a flow: `packet N ADDRESS HASH S.A-T.B END`, where S.A and T.B are the settled and applied numbers of the
-/// answer's window, and a line feed. It takes no memory but what the vector grows by; where that is wanting, the first part of the line may stand.
-#[tactic(auto, unfolding(crate::specs::Packets::packet_text))]
-pub fn write_packet(
+#[tactic(auto, unfolding(crate::specs::Packets::packet_text), using(crate::proofs::Growing::kept_on, crate::proofs::Growing::kept_one, crate::proofs::Growing::kept_all))]
+fn write_packet(
     out: &mut Vec<u8>,
     tables: &Tables,
     number: u32,
     answer: &Record,
 ) -> Result<(), AllocError>
-    ensures { OnOk result (out.new.items ≡ out.old.items ++ packet_text tables.now number answer.now) }
+    ensures ok { OnOk result (out.new.items ≡ out.old.items ++ packet_text tables.now number answer.now) }
+    ensures err { OnErr result (HasKept out.old.items out.new.items) }
 {
     write_flow(out, number, answer)?;
     write_window(out, answer)?;
     put_text(out, " ")?;
-    write_end(out, tables, &answer.end)?;
+    put_end(out, tables, &answer.end)?;
     put_text(out, "\n")
 }
 
-/// Appends the line of a flow as `write_packet` does. Unchanged on want of memory.
+/// Appends the line of a flow: `packet N ADDRESS HASH S.A-T.B END`, where S.A and T.B are the settled and applied numbers of the
+/// answer's window, and a line feed. It takes no memory but what the vector grows by, and leaves it as it was where that is wanting.
 pub fn put_packet(
     out: &mut Vec<u8>,
     tables: &Tables,
@@ -67,9 +71,9 @@ pub fn put_packet(
     ensures ok { OnOk result (out.new.items ≡ out.old.items ++ packet_text tables.now number answer.now) }
     ensures err { OnErr result (out.new.items ≡ out.old.items) }
 {
-    let mut text = Vec::new(*out.allocator());
-    write_packet(&mut text, tables, number, answer)?;
-    out.extend_from_slice(&text)
+    let before = out.len();
+    let written = write_packet(out, tables, number, answer);
+    or_undone(out, before, written)
 }
 
 /// A word, a number, and what follows.

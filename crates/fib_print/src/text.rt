@@ -1,6 +1,7 @@
 // Parts of a text.
-ghost use Rattle.std.specs.Prelude.{◌≡◌, ◌++◌, ◌∷◌, ◌<◌, OnOk, OnErr, decimal};
+ghost use Rattle.std.specs.Prelude.{◌≡◌, ◌++◌, ◌∷◌, ◌<◌, IsOk, OnOk, OnErr, decimal, take};
 ghost use Rattle.fib_addr.specs.Texts.{address_text, hex_digit, mac_text, pair_text, three_text};
+ghost use Rattle.fib_print.specs.inner.Growing.{HasKept};
 
 use fib_addr::{Addr, Mac};
 use itoa::Buffer;
@@ -23,9 +24,30 @@ pub fn put_text(out: &mut Vec<u8>, text: &str) -> Result<(), AllocError>
     out.extend_from_slice(text.as_bytes())
 }
 
+/// Takes back what was appended behind that length, where memory was wanting.
+pub fn or_undone(
+    out: &mut Vec<u8>,
+    before: usize,
+    written: Result<(), AllocError>,
+) -> Result<(), AllocError>
+    ensures same { result ≡ written }
+    ensures ok { OnOk result (out.new.items ≡ out.old.items) }
+    ensures err { OnErr result (out.new.items ≡ take before out.old.items) }
+{
+    match written {
+        Ok(()) => Ok(()),
+        Err(e) => {
+            out.truncate(before);
+            Err(e)
+        }
+    }
+}
+
 // Four numbers, joined by dots.
+#[tactic(auto, using(crate::proofs::Growing::kept_on, crate::proofs::Growing::kept_one, crate::proofs::Growing::kept_all))]
 fn write_four(out: &mut Vec<u8>, a: u8, b: u8, c: u8, d: u8) -> Result<(), AllocError>
-    ensures { OnOk result (out.new.items ≡ out.old.items ++ (decimal a ++ 46 ∷ (decimal b ++ 46 ∷ (decimal c ++ 46 ∷ decimal d)))) }
+    ensures ok { OnOk result (out.new.items ≡ out.old.items ++ (decimal a ++ 46 ∷ (decimal b ++ 46 ∷ (decimal c ++ 46 ∷ decimal d)))) }
+    ensures err { OnErr result (HasKept out.old.items out.new.items) }
 {
     put_number(out, u64::from(a))?;
     put_text(out, ".")?;
@@ -36,10 +58,11 @@ fn write_four(out: &mut Vec<u8>, a: u8, b: u8, c: u8, d: u8) -> Result<(), Alloc
     put_number(out, u64::from(d))
 }
 
-/// Appends the text of an address. It takes no memory but what the vector grows by.
-#[tactic(auto, unfolding(fib_addr::specs::Texts::address_text))]
+/// Appends the text of an address; on want of memory, a first part of it.
+#[tactic(auto, unfolding(fib_addr::specs::Texts::address_text), using(crate::proofs::Growing::kept_on, crate::proofs::Growing::kept_one, crate::proofs::Growing::kept_all))]
 pub fn write_addr(out: &mut Vec<u8>, addr: Addr) -> Result<(), AllocError>
-    ensures { OnOk result (out.new.items ≡ out.old.items ++ address_text addr) }
+    ensures ok { OnOk result (out.new.items ≡ out.old.items ++ address_text addr) }
+    ensures err { OnErr result (HasKept out.old.items out.new.items) }
 {
     let [a, b, c, d] = addr.0.to_be_bytes();
     write_four(out, a, b, c, d)
@@ -65,9 +88,10 @@ fn pair(number: u64) -> [u8; 2]
 }
 
 // Three pairs of digits, joined by colons.
-#[tactic(auto, unfolding(fib_addr::specs::Texts::three_text))]
+#[tactic(auto, unfolding(fib_addr::specs::Texts::three_text), using(crate::proofs::Growing::kept_on, crate::proofs::Growing::kept_one, crate::proofs::Growing::kept_all))]
 fn write_three(out: &mut Vec<u8>, a: u64, b: u64, c: u64) -> Result<(), AllocError>
-    ensures { OnOk result (out.new.items ≡ out.old.items ++ three_text a b c) }
+    ensures ok { OnOk result (out.new.items ≡ out.old.items ++ three_text a b c) }
+    ensures err { OnErr result (HasKept out.old.items out.new.items) }
 {
     out.extend_from_slice(&pair(a))?;
     put_text(out, ":")?;
@@ -76,10 +100,11 @@ fn write_three(out: &mut Vec<u8>, a: u64, b: u64, c: u64) -> Result<(), AllocErr
     out.extend_from_slice(&pair(c))
 }
 
-/// Appends the text of a MAC. It takes no memory but what the vector grows by.
-#[tactic(auto, unfolding(fib_addr::specs::Texts::mac_text))]
+/// Appends the text of a MAC; on want of memory, a first part of it.
+#[tactic(auto, unfolding(fib_addr::specs::Texts::mac_text), using(crate::proofs::Growing::kept_on, crate::proofs::Growing::kept_one, crate::proofs::Growing::kept_all))]
 pub fn write_mac(out: &mut Vec<u8>, mac: Mac) -> Result<(), AllocError>
-    ensures { OnOk result (out.new.items ≡ out.old.items ++ mac_text mac) }
+    ensures ok { OnOk result (out.new.items ≡ out.old.items ++ mac_text mac) }
+    ensures err { OnErr result (HasKept out.old.items out.new.items) }
 {
     let m = mac.bits();
     write_three(out, m / (1 << 40), m / (1 << 32), m / (1 << 24))?;

@@ -12,7 +12,7 @@ use crate::opening::Opening;
 use fib_capture::{Capture, Packet};
 use fib_crew::Results;
 use fib_outside::{Failed, Sink};
-use fib_print::{put_bad_header, put_cut, put_not_ipv4, write_packet};
+use fib_print::{put_bad_header, put_cut, put_not_ipv4, put_packet};
 use fib_resolve::Tables;
 use fib_results::Record;
 use std::alloc::AllocError;
@@ -60,7 +60,7 @@ fn put_span(
                 let [kept, others @ ..] = rest else {
                     return Ok(());
                 };
-                write_packet(text, tables, at, &kept.1)?;
+                put_packet(text, tables, at, &kept.1)?;
                 rest = others;
             }
         }

@@ -2,7 +2,6 @@
 ghost use Rattle.std.specs.Prelude.{◌≡◌, ◌++◌, ◌+◌, ◌-◌, ◌<◌, ◌≤◌, ◌^◌, OnOk, IfOk, IfSome, None, Some, codes};
 ghost use Rattle.fib_commands.specs.Lines.{line_of, IsWrittenLine};
 ghost use Rattle.fib_resolve.specs.Reachable.{IsWritten};
-ghost use Rattle.fib_resolve.specs.Tables.{IsSound};
 ghost use Rattle.fib_print.specs.Ends.{end_text};
 ghost use Rattle.fib_listing.specs.Entries.{fib_text};
 ghost use Rattle.fib_listing.specs.PathLists.{lists_text};
@@ -23,7 +22,6 @@ use fib_commands::{Line, LineError, read_line};
 use fib_control::Control;
 use fib_listing::{put_adjacencies, put_entries, put_path_lists};
 use fib_outside::Gate;
-use fib_plain::Snapshot;
 use fib_print::{BatchFault, put_batch, put_end, put_message, put_refusal};
 use fib_resolve::{Edit, End, Tables};
 use std::alloc::{AllocError, Global};
@@ -85,28 +83,34 @@ fn lookup<R: Wait, B: Board>(
     put_answer(out, control.tables(), &end)
 }
 
-fn put_fib(alloc: Global, tables: &Tables, out: &mut Vec<u8>) -> Result<(), AllocError>
-    requires { IsSound tables.now }
-    ensures { OnOk result (out.new.items ≡ out.old.items ++ fib_text tables.now) }
+fn put_fib<B: Board>(
+    alloc: Global,
+    control: &Control<B>,
+    out: &mut Vec<u8>,
+) -> Result<(), AllocError>
+    ensures { OnOk result (out.new.items ≡ out.old.items ++ fib_text (tables_in control.now)) }
 {
-    let snapshot = Snapshot::new(alloc, tables)?;
-    put_entries(out, alloc, &snapshot)
+    put_entries(out, alloc, control.tables(), control.entries())
 }
 
-fn put_lists(alloc: Global, tables: &Tables, out: &mut Vec<u8>) -> Result<(), AllocError>
-    requires { IsSound tables.now }
-    ensures { OnOk result (out.new.items ≡ out.old.items ++ lists_text tables.now) }
+fn put_lists<B: Board>(
+    alloc: Global,
+    control: &Control<B>,
+    out: &mut Vec<u8>,
+) -> Result<(), AllocError>
+    ensures { OnOk result (out.new.items ≡ out.old.items ++ lists_text (tables_in control.now)) }
 {
-    let snapshot = Snapshot::new(alloc, tables)?;
-    put_path_lists(out, alloc, &snapshot)
+    put_path_lists(out, alloc, control.tables(), control.entries())
 }
 
-fn put_adj(alloc: Global, tables: &Tables, out: &mut Vec<u8>) -> Result<(), AllocError>
-    requires { IsSound tables.now }
-    ensures { OnOk result (out.new.items ≡ out.old.items ++ adjacencies_text tables.now) }
+fn put_adj<B: Board>(
+    alloc: Global,
+    control: &Control<B>,
+    out: &mut Vec<u8>,
+) -> Result<(), AllocError>
+    ensures { OnOk result (out.new.items ≡ out.old.items ++ adjacencies_text (tables_in control.now)) }
 {
-    let snapshot = Snapshot::new(alloc, tables)?;
-    put_adjacencies(out, alloc, &snapshot)
+    put_adjacencies(out, alloc, control.tables(), control.entries())
 }
 
 // A listing, once all changes are settled.
@@ -120,7 +124,7 @@ fn show_fib<R: Wait, G: Gate, B: Board>(
     ensures keeps { KeepsCrew control.old control.new }
 {
     settle(means.rt, control)?;
-    put_fib(means.alloc, control.tables(), out)
+    put_fib(means.alloc, control, out)
 }
 
 fn show_lists<R: Wait, G: Gate, B: Board>(
@@ -133,7 +137,7 @@ fn show_lists<R: Wait, G: Gate, B: Board>(
     ensures keeps { KeepsCrew control.old control.new }
 {
     settle(means.rt, control)?;
-    put_lists(means.alloc, control.tables(), out)
+    put_lists(means.alloc, control, out)
 }
 
 fn show_adj<R: Wait, G: Gate, B: Board>(
@@ -146,7 +150,7 @@ fn show_adj<R: Wait, G: Gate, B: Board>(
     ensures keeps { KeepsCrew control.old control.new }
 {
     settle(means.rt, control)?;
-    put_adj(means.alloc, control.tables(), out)
+    put_adj(means.alloc, control, out)
 }
 
 // A line outside a batch, and how many packets it asks for.

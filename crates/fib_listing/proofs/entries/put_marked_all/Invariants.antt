@@ -4,4 +4,4 @@ use Rattle.fib_listing.proofs.entries.put_marked_all.Given as goal
 
 abbrev pub invariant-loop-place : goal.invariant-loop-place
 invariant-loop-place l =
-    l.out.items ++ marked_from l.snapshot l.e l.place (drop l.place l.paths) ≡ l.initial.out.items ++ marked_from l.snapshot l.e 0 l.paths
+    l.out.items ++ marked_from l.view l.e l.place (drop l.place l.paths) ≡ l.initial.out.items ++ marked_from l.view l.e 0 l.paths

@@ -1,18 +1,32 @@
-use Rattle.std.proofs.Common.{arith, sym, ap, ◌∙◌, take}
-use Rattle.std.specs.Prelude.{unwrap_or}
-use Rattle.fib_listing.proofs.Counting.{one_more, counted_before, count_low, in_place}
+use Rattle.std.proofs.Common.{◌≡◌, refl, sym, ap, ◌∙◌, subst, ◌∷◌, [], map, take}
+use Rattle.std.specs.Prelude.{IsSome, option_map}
+use Rattle.fib_interned.specs.Interned.{users_in}
+use Rattle.fib_interned.proofs.Finding.{some_is}
+use Rattle.fib_listing.specs.PathLists.{same_list}
+use Rattle.fib_listing.specs.inner.Added.{Adds}
+use Rattle.fib_listing.specs.inner.Lists.{counted, paths_in}
+use Rattle.fib_listing.proofs.Adding.{adds_more}
+use Rattle.fib_listing.proofs.Counting.{kept_with, count_one}
+use Rattle.fib_listing.proofs.Taking.{map_at}
 use Rattle.fib_listing.proofs.lists.counts_of.Goals as goal
 
-pub overflow_add-users : goal.overflow_add-users
-overflow_add-users c =
-    let was = counted_before (take c.loop-x.x-index c.args.pairs.now) c.loop-x.counts.entries c.loop-x.invariant.0 c.as_slice-paths.result.now in
-    let users = c.unwrap_or-users.ensures ∙ (ap (λ o. unwrap_or o 0) (c.copied.ensures ∙ c.get.ensures.value) ∙ was) in
-    omega (arith, users, count_low c.as_slice-paths.result.now c.loop-x.x-index c.args.pairs.now, c.loop-x-test.true, c.loop-x.auto.x-index-end)
+pub content-requires : goal.content-requires
+content-requires c =
+    let k = kept_with c.args.lists.now c.loop-place.place c.at-id.result c.count-place-end.ensures.interned c.at-id.ensures in
+    subst (λ o. IsSome o) (sym k.2) refl
 
-pub loop-x-preserved : goal.loop-x-preserved
-loop-x-preserved c =
-    let was = counted_before (take c.loop-x.x-index c.args.pairs.now) c.loop-x.counts.entries c.loop-x.invariant.0 c.as_slice-paths.result.now in
-    let users = c.unwrap_or-users.ensures ∙ (ap (λ o. unwrap_or o 0) (c.copied.ensures ∙ c.get.ensures.value) ∙ was) in (
-      one_more c.args.pairs.now c.loop-x.x-index c.x-item.result (omega (arith, c.loop-x-test.true)) (sym c.x-item.is) c.loop-x.counts.entries c.insert.new.self.entries c.as_slice-paths.result c.as_slice-paths.ensures c.unwrap_or-users.result users c.loop-x.invariant.0 (c.in_ok-insert.ensures.updates.0),
-      in_place c.insert.new.self.entries c.insert.ensures.ordered,
-    )
+pub loop-place-preserved : goal.loop-place-preserved
+loop-place-preserved c =
+    let lists = c.args.lists.now in
+    let n = c.loop-place.place in
+    let k = kept_with lists n c.at-id.result c.count-place-end.ensures.interned c.at-id.ensures in
+    let paths = c.content.result.now in
+    let users = c.users.result in
+    let old = c.loop-place.counts.entries in
+    let new = c.insert.new.self.entries in
+    let content : k.0.content ≡ paths = some_is k.0.content paths (ap (option_map (λ j. j.content)) (sym k.2) ∙ c.content.ensures) in
+    let used : users ≡ k.0.users = c.users.ensures.count ∙ ap users_in k.2 in
+    let same : (paths, users) ≡ counted k.0 = ap (λ p. (p, users)) (sym content) ∙ ap (λ u. (k.0.content, u)) used in
+    let one = count_one c.content.result users old new c.in_ok-insert.ensures.updates.0 in
+    subst (λ l. Adds same_list paths_in l [] new) (sym (map_at counted lists n k.0 k.1))
+    (adds_more same_list paths_in (map counted (take n lists)) (counted k.0 ∷ []) [] old new c.loop-place.invariant (subst (λ x. Adds same_list paths_in (x ∷ []) old new) same one))

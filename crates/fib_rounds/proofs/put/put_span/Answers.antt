@@ -7,7 +7,7 @@ use Rattle.fib_crew.specs.Packets.{span}
 use Rattle.fib_rounds.specs.Packets.{packets_text}
 use Rattle.fib_rounds.proofs.Spans.{text_none, text_at_not_ipv4, text_at_bad_header, text_at_flow, text_at_missing, short_none, append_step, first_rest}
 use Rattle.fib_rounds.proofs.put.put_span.Goals as goal
-use Rattle.fib_rounds.proofs.put.put_span.Goals.{in-NotIpv4+in_ok-put_not_ipv4-in-NotIpv4, in-BadHeader+in_ok-put_bad_header-in-BadHeader, in-Flow+in-len1-up+in_ok-write_packet-in-Flow}
+use Rattle.fib_rounds.proofs.put.put_span.Goals.{in-NotIpv4+in_ok-put_not_ipv4-in-NotIpv4, in-BadHeader+in_ok-put_bad_header-in-BadHeader, in-Flow+in-len1-up+in_ok-put_packet-in-Flow}
 
 pub returns-in_default : goal.returns-in_default
 returns-in_default c =
@@ -28,13 +28,13 @@ loop-at-preserved c = elim c.match-at.branch [
       let text = text_at_bad_header c.args.tables.now c.loop-at.at c.args.packets.now.packets c.loop-at.at c.args.to (results_of c.loop-at.rest.now) c.loop-at-test.true (c.at.ensures ∙ ap (λ p. Some p) w.in-BadHeader.is) in
       let out : c.match-at.text.items ≡ c.loop-at.text.items ++ bad_header_text c.loop-at.at = search rules in
       rw w.rest-is (append_step c.loop-at.text.items _ _ _ _ out (ap (λ t. c.loop-at.text.items ++ t) (sym text) ∙ c.loop-at.invariant))
-  | in-Flow+in-len1-up+in_ok-write_packet-in-Flow w ↦
+  | in-Flow+in-len1-up+in_ok-put_packet-in-Flow w ↦
       let T = c.args.tables.now in
       let at = c.loop-at.at in
       let xs = c.loop-at.rest.now in
       let x = w.kept-item.result in
       let whole = first_rest xs x w.in-len1-up.len_at_least w.kept-item.is in
-      let out : c.match-at.text.items ≡ c.loop-at.text.items ++ packet_text T at x.1 = ap (λ t. t.items) w.text-is ∙ w.in_ok-write_packet-in-Flow.ensures in
+      let out : c.match-at.text.items ≡ c.loop-at.text.items ++ packet_text T at x.1 = ap (λ t. t.items) w.text-is ∙ w.in_ok-put_packet-in-Flow.ensures.ok in
       let tail : c.match-at.rest.now ≡ drop 1 xs = ap (λ r. r.now) w.rest-is ∙ take_rest xs 1 in
       let text = text_at_flow T at c.args.packets.now.packets at c.args.to _ _ x.1 (results_of (drop 1 xs)) c.loop-at-test.true (c.at.ensures ∙ ap (λ p. Some p) w.in-Flow.is) in
       let both = ap (λ rs. packets_text T at (span c.args.packets.now.packets at c.args.to) (results_of rs)) whole ∙ text in
