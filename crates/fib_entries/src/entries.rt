@@ -204,6 +204,16 @@ impl Entries {
         row(&self.rows, prefix)
     }
 
+    /// The row at that place.
+    pub(crate) fn row_at(&self, place: usize) -> &Row
+        requires { place < length self.now.rows }
+        ensures named { slice_get (map prefix_of self.now.rows) place ≡ Some result.now.prefix }
+        ensures found { row_of self.now.rows result.now.prefix ≡ Some result.now }
+        ensures held { AreKept self.now.lists result.now.pairs }
+    {
+        &self.rows[place]
+    }
+
     /// The number of effective entries.
     pub fn len(&self) -> usize
         ensures { result ≡ length self.now.rows }

@@ -1,19 +1,20 @@
 // Entries that follow a change of the tables.
-ghost use Rattle.std.specs.Prelude.{◌≡◌, ◌≤◌, ◌++◌, ◌∷◌, [], IfSome, IfNone, IfOk, IfErr, OnOk, OnErr, ◌<◌, ◌-◌, ◌^◌, map, flat_map, filter, min, if◌then◌else◌};
+ghost use Rattle.std.specs.Prelude.{◌≡◌, ◌≤◌, ◌++◌, ◌∷◌, [], IfSome, IfNone, IfOk, IfErr, OnOk, OnErr, Some, ◌<◌, ◌-◌, ◌==◌, ◌^◌, map, flat_map, filter, min, if◌then◌else◌};
 ghost use Rattle.fib_resolve.specs.Sizes.{size};
 ghost use Rattle.fib_resolve.specs.Tables.{IsSound};
 ghost use Rattle.fib_resolve.specs.Touched.{is_touched};
 ghost use Rattle.fib_resolve.specs.declared.types.Tables.{Tables as TablesValue};
 ghost use Rattle.fib_changes.specs.Differ.{Differ};
 ghost use Rattle.fib_changes.specs.declared.change.Change.TheVariants as change_kinds;
-ghost use Rattle.fib_entries.specs.Known.{StandsFor, prefix_of};
-ghost use Rattle.fib_entries.specs.inner.Compare.{is_new, moved_one, moved_new};
+ghost use Rattle.fib_entries.specs.Known.{StandsFor, prefix_of, row_of, rank_of};
+ghost use Rattle.fib_entries.specs.inner.Compare.{AreKept, is_new, moved_one, moved_new};
 ghost use Rattle.fib_entries.specs.inner.Leaf.{IsFollowed};
 ghost use Rattle.fib_entries.specs.Changes.{AreTouched, AreMoved, IsTooMany};
 
 use crate::changes::{FollowError, Followed, Moved, Touched};
 use crate::compare::are_alike;
 use crate::entries::Entries;
+use crate::rows::Row;
 use fib_addr::Prefix;
 use fib_changes::Change;
 use fib_config::Config;
@@ -21,147 +22,125 @@ use fib_list::List;
 use fib_resolve::{FibSource, Tables};
 use std::alloc::{AllocError, Global};
 
-/// Whether the change touches the prefix.
-fn touches(before: &Entries, after: &Entries, e: Prefix) -> bool
-    ensures { (S T : TablesValue) → StandsFor before.now S → StandsFor after.now T → result ≡ is_touched S T e }
-{
-    match before.row_of(e) {
-        Some(r) => match after.row_of(e) {
-            Some(s) => !are_alike(before.lists(), r, after.lists(), s),
-            None => true,
-        },
-        None => after.row_of(e).is_some(),
-    }
+/// What a change does to prefixes.
+#[derive(Drop)]
+struct Differences {
+    /// Those that it touches.
+    touched: List<Prefix>,
+    /// Those that have another rank, each with the rank that it had.
+    moved: List<Moved>,
 }
 
-/// Appends the prefix where the change touches it.
-fn add_if_touched(
-    out: &mut List<Prefix>,
-    before: &Entries,
-    after: &Entries,
-    e: Prefix,
+/// Appends the prefix where it is touched, and where it has another rank.
+fn note(
+    out: &mut Differences,
+    prefix: Prefix,
+    is_touched: bool,
+    rank: u32,
+    rank_after: u32,
 ) -> Result<(), AllocError>
-    ensures { OnOk result ((S T : TablesValue) → StandsFor before.now S → StandsFor after.now T →
-        out.new ≡ (if is_touched S T e then out.old ++ e ∷ [] else out.old)) }
+    ensures touched { OnOk result (out.new.touched ≡ (if is_touched then out.old.touched ++ prefix ∷ [] else out.old.touched)) }
+    ensures moved { OnOk result (out.new.moved ≡ out.old.moved ++ (if rank == rank_after then [] else record { prefix = prefix; rank = rank } ∷ [])) }
 {
-    if touches(before, after, e) {
-        out.push(e)?;
+    if is_touched {
+        out.touched.push(prefix)?;
+    }
+    if rank != rank_after {
+        out.moved.push(Moved { prefix, rank })?;
     }
     Ok(())
 }
 
-/// Appends the prefix where the change touches it and it is a new one.
-fn add_if_new(
-    out: &mut List<Prefix>,
-    before: &Entries,
-    after: &Entries,
-    e: Prefix,
-) -> Result<(), AllocError>
-    ensures { OnOk result ((S T : TablesValue) → StandsFor before.now S → StandsFor after.now T →
-        out.new ≡ (if is_new before.now.rows S T e then out.old ++ e ∷ [] else out.old)) }
+/// Whether the change touches the prefix of a row of before, and the prefix's rank after it.
+fn look_after(before: &Entries, after: &Entries, r: &Row) -> (bool, u32)
+    requires row { row_of before.now.rows r.now.prefix ≡ Some r.now }
+    requires held { AreKept before.now.lists r.now.pairs }
+    ensures touched { (S T : TablesValue) → StandsFor before.now S → StandsFor after.now T → result.0 ≡ is_touched S T r.now.prefix }
+    ensures rank { result.1 ≡ rank_of after.now.rows r.now.prefix }
 {
-    if before.row_of(e).is_none() {
-        return add_if_touched(out, before, after, e);
+    match after.row_of(r.prefix) {
+        Some(s) => (!are_alike(before.lists(), r, after.lists(), s), s.rank()),
+        None => (true, 0),
     }
-    Ok(())
 }
 
-/// The touched prefixes that were entries before.
-fn touched_before(
+/// Appends what the change does to an entry of before.
+fn add_old(
+    out: &mut Differences,
+    before: &Entries,
+    after: &Entries,
+    r: &Row,
+) -> Result<(), AllocError>
+    requires row { row_of before.now.rows r.now.prefix ≡ Some r.now }
+    requires held { AreKept before.now.lists r.now.pairs }
+    ensures touched { OnOk result ((S T : TablesValue) → StandsFor before.now S → StandsFor after.now T →
+        out.new.touched ≡ (if is_touched S T r.now.prefix then out.old.touched ++ r.now.prefix ∷ [] else out.old.touched)) }
+    ensures moved { OnOk result (out.new.moved ≡ out.old.moved ++ moved_one before.now.rows after.now.rows r.now.prefix) }
+{
+    let (is_touched, rank_after) = look_after(before, after, r);
+    note(out, r.prefix, is_touched, r.rank(), rank_after)
+}
+
+/// Appends what the change does to an entry of after, where it was none before.
+fn add_new(
+    out: &mut Differences,
+    before: &Entries,
+    after: &Entries,
+    s: &Row,
+) -> Result<(), AllocError>
+    requires { row_of after.now.rows s.now.prefix ≡ Some s.now }
+    ensures touched { OnOk result ((S T : TablesValue) → StandsFor before.now S → StandsFor after.now T →
+        out.new.touched ≡ (if is_new before.now.rows S T s.now.prefix then out.old.touched ++ s.now.prefix ∷ [] else out.old.touched)) }
+    ensures moved { OnOk result (out.new.moved ≡ out.old.moved ++ moved_new before.now.rows after.now.rows s.now.prefix) }
+{
+    let _rows = after;
+    match before.row_of(s.prefix) {
+        Some(_) => Ok(()),
+        None => note(out, s.prefix, true, 0, s.rank()),
+    }
+}
+
+/// What the change does to the entries of before.
+fn compared_before(
     alloc: Global,
     before: &Entries,
     after: &Entries,
-) -> Result<List<Prefix>, AllocError>
-    ensures { IfOk result (λ v. (S T : TablesValue) → StandsFor before.now S → StandsFor after.now T →
-        v ≡ filter (is_touched S T) (map prefix_of before.now.rows)) }
+) -> Result<Differences, AllocError>
+    ensures touched { IfOk result (λ d. (S T : TablesValue) → StandsFor before.now S → StandsFor after.now T →
+        d.touched ≡ filter (is_touched S T) (map prefix_of before.now.rows)) }
+    ensures moved { IfOk result (λ d. d.moved ≡ flat_map (moved_one before.now.rows after.now.rows) (map prefix_of before.now.rows)) }
 {
-    let mut out = List::new(alloc);
+    let mut out = Differences {
+        touched: List::new(alloc),
+        moved: List::new(alloc),
+    };
     for place in 0..before.len() {
-        add_if_touched(&mut out, before, after, before.at(place))?;
+        add_old(&mut out, before, after, before.row_at(place))?;
     }
     Ok(out)
 }
 
-/// Appends the touched prefixes that are entries after the change alone.
-fn add_new(out: &mut List<Prefix>, before: &Entries, after: &Entries) -> Result<(), AllocError>
-    ensures { OnOk result ((S T : TablesValue) → StandsFor before.now S → StandsFor after.now T →
-        out.new ≡ out.old ++ filter (is_new before.now.rows S T) (map prefix_of after.now.rows)) }
+/// Appends what the change does to the prefixes that are entries after it alone.
+fn add_all_new(out: &mut Differences, before: &Entries, after: &Entries) -> Result<(), AllocError>
+    ensures touched { OnOk result ((S T : TablesValue) → StandsFor before.now S → StandsFor after.now T →
+        out.new.touched ≡ out.old.touched ++ filter (is_new before.now.rows S T) (map prefix_of after.now.rows)) }
+    ensures moved { OnOk result (out.new.moved ≡ out.old.moved ++ flat_map (moved_new before.now.rows after.now.rows) (map prefix_of after.now.rows)) }
 {
     for place in 0..after.len() {
-        add_if_new(out, before, after, after.at(place))?;
+        add_new(out, before, after, after.row_at(place))?;
     }
     Ok(())
 }
 
-/// The touched prefixes.
-fn touched(alloc: Global, before: &Entries, after: &Entries) -> Result<List<Prefix>, AllocError>
-    ensures { IfOk result (λ v. (S T : TablesValue) → StandsFor before.now S → StandsFor after.now T →
-        AreTouched S T v) }
+/// What the change does: each row of one is looked up once in the other.
+fn compared(alloc: Global, before: &Entries, after: &Entries) -> Result<Differences, AllocError>
+    ensures touched { IfOk result (λ d. (S T : TablesValue) → StandsFor before.now S → StandsFor after.now T →
+        AreTouched S T d.touched) }
+    ensures moved { IfOk result (λ d. (S T : TablesValue) → StandsFor before.now S → StandsFor after.now T →
+        AreMoved before.now.rows after.now.rows d.moved) }
 {
-    let mut out = touched_before(alloc, before, after)?;
-    add_new(&mut out, before, after)?;
-    Ok(out)
-}
-
-/// Appends the prefix with the rank that it had, where it has another.
-fn add_if_moved(
-    out: &mut List<Moved>,
-    before: &Entries,
-    after: &Entries,
-    e: Prefix,
-) -> Result<(), AllocError>
-    ensures { OnOk result (out.new ≡ out.old ++ moved_one before.now.rows after.now.rows e) }
-{
-    let rank = before.rank(e);
-    if rank != after.rank(e) {
-        out.push(Moved { prefix: e, rank })?;
-    }
-    Ok(())
-}
-
-/// The same where the prefix was no entry.
-fn add_if_came(
-    out: &mut List<Moved>,
-    before: &Entries,
-    after: &Entries,
-    e: Prefix,
-) -> Result<(), AllocError>
-    ensures { OnOk result (out.new ≡ out.old ++ moved_new before.now.rows after.now.rows e) }
-{
-    if before.row_of(e).is_none() {
-        return add_if_moved(out, before, after, e);
-    }
-    Ok(())
-}
-
-/// The entries of before that have another rank.
-fn moved_before(alloc: Global, before: &Entries, after: &Entries) -> Result<List<Moved>, AllocError>
-    ensures { IfOk result (λ v. v ≡ flat_map (moved_one before.now.rows after.now.rows) (map prefix_of before.now.rows)) }
-{
-    let mut out = List::new(alloc);
-    for place in 0..before.len() {
-        add_if_moved(&mut out, before, after, before.at(place))?;
-    }
-    Ok(out)
-}
-
-/// Appends the new entries that have a rank.
-fn add_came(out: &mut List<Moved>, before: &Entries, after: &Entries) -> Result<(), AllocError>
-    ensures { OnOk result (out.new ≡ out.old ++ flat_map (moved_new before.now.rows after.now.rows) (map prefix_of after.now.rows)) }
-{
-    for place in 0..after.len() {
-        add_if_came(out, before, after, after.at(place))?;
-    }
-    Ok(())
-}
-
-/// The prefixes that have another rank.
-fn moved(alloc: Global, before: &Entries, after: &Entries) -> Result<List<Moved>, AllocError>
-    ensures { IfOk result (λ v. (S T : TablesValue) → StandsFor before.now S → StandsFor after.now T →
-        AreMoved before.now.rows after.now.rows v) }
-{
-    let mut out = moved_before(alloc, before, after)?;
-    add_came(&mut out, before, after)?;
+    let mut out = compared_before(alloc, before, after)?;
+    add_all_new(&mut out, before, after)?;
     Ok(out)
 }
 
@@ -179,9 +158,9 @@ impl Entries {
     {
         let _before = before;
         let made = Entries::of(self.allocator(), after)?;
-        let list = touched(self.allocator(), self, &made)?;
+        let found = compared(self.allocator(), self, &made)?;
         *self = made;
-        Ok(Touched::of(list))
+        Ok(Touched::of(found.touched))
     }
 
     /// Makes the entries stand for the tables after changes, and answers which prefixes the changes touch and which have another rank.
@@ -320,12 +299,11 @@ impl Entries {
         if made.size() > most {
             return Err(FollowError::TooMany(made.size()));
         }
-        let list = touched(self.allocator(), self, &made)?;
-        let ranks = moved(self.allocator(), self, &made)?;
+        let found = compared(self.allocator(), self, &made)?;
         *self = made;
         Ok(Followed {
-            touched: Touched::of(list),
-            moved: ranks,
+            touched: Touched::of(found.touched),
+            moved: found.moved,
         })
     }
 }

@@ -15,6 +15,3 @@ mod view;
 pub use adjacencies::put_adjacencies;
 pub use entries::put_entries;
 pub use lists::put_path_lists;
-
-#[cfg(test)]
-mod tests;

@@ -1,9 +1,9 @@
-// The listings of empty tables; those of others are tested by whole files, in the crates above.
+// The listings of empty tables; those of others are tested by whole files, in the crate above.
 ghost use Rattle.std.specs.Prelude.{◌≡◌, IfOk};
 ghost use Rattle.fib_resolve.specs.Tables.{fresh};
 
-use super::*;
 use fib_entries::Entries;
+use fib_listing::{laws, put_adjacencies, put_entries, put_path_lists};
 use fib_resolve::{List, Tables};
 use std::alloc::Global;
 use std::test::Fail;
