@@ -77,12 +77,17 @@ fn has_two_links(config: &Config) -> bool {
 }
 
 // The same of a copy.
+fn is_copied(alloc: Global, copy: &mut Config) -> Result<bool, Fail> {
+    let has_two = has_two_links(copy);
+    let is_refused = is_too_large_at_one(alloc, copy)?;
+    let is_made = is_made_alone(alloc, copy)?;
+    Ok(has_two && is_refused && is_made)
+}
+
+// The one owner of the copy.
 fn copy_is_right(alloc: Global, config: &Config) -> Result<bool, Fail> {
     let mut copy = config.copy()?;
-    let has_two = has_two_links(&copy);
-    let is_refused = is_too_large_at_one(alloc, &mut copy)?;
-    let is_made = is_made_alone(alloc, &mut copy)?;
-    Ok(has_two && is_refused && is_made)
+    is_copied(alloc, &mut copy)
 }
 
 // What thirty-two objects hold of two links.

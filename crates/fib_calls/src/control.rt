@@ -4,11 +4,12 @@ ghost use Rattle.std.specs.List.{AllByRecursion};
 ghost use Rattle.fib_resolve.specs.Reachable.{IsWritten};
 ghost use Rattle.fib_calls.specs.Rested.{IsRested};
 
+use crate::config::name;
 use fib_addr::{Addr, Prefix};
 use fib_control::{ApplyError, BatchApplyError, Control};
 use fib_core::Version;
 use fib_plainboard::PlainBoard;
-use fib_resolve::{Edit, End, List, Name, Need, PathSpec, Refusal, SpecKind};
+use fib_resolve::{Edit, End, List, Need, PathSpec, Refusal, SpecKind};
 use fib_stack::Turn;
 use std::alloc::Global;
 use std::test::Fail;
@@ -24,26 +25,18 @@ fn fresh(alloc: Global) -> Result<Control<PlainBoard>, Fail>
     }
 }
 
-fn name(alloc: Global) -> Result<Name, Fail> {
-    let text = b"eth0";
-    if !Name::is_name(text) {
-        return Err("no name".into());
-    }
-    Ok(Name::from_text(List::from_vec(text.to_vec(alloc)?)))
-}
-
 // An interface that is up and has 10.0.0.1/24; and 50.0.0.0/8 over 10.0.0.7.
 fn edit_of(alloc: Global, number: u32) -> Result<Edit, Fail>
     ensures { IfOk result IsWritten }
 {
     match number {
-        0 => Ok(Edit::CreateInterface(name(alloc)?)),
+        0 => Ok(Edit::CreateInterface(name(alloc, "eth0")?)),
         1 => Ok(Edit::SetState {
-            name: name(alloc)?,
+            name: name(alloc, "eth0")?,
             up: true,
         }),
         2 => Ok(Edit::AddAddress {
-            name: name(alloc)?,
+            name: name(alloc, "eth0")?,
             addr: Addr(0x0a00_0001),
             len: 24,
         }),

@@ -29,13 +29,6 @@ fn recursive_route(alloc: Global) -> Result<Edit, AllocError>
     })
 }
 
-/// Tables with that route.
-fn with_route(alloc: Global) -> Result<Config, Fail> {
-    let mut config = Config::new(alloc, 1000)?;
-    config.edit(&recursive_route(alloc)?)?;
-    Ok(config)
-}
-
 /// Whether the change is too large for three objects.
 fn is_too_large(entries: &mut Entries, config: &Config, change: Change) -> bool {
     entries.follow_changes(config, &[change], 3).is_err()
@@ -91,15 +84,11 @@ fn follows_the_route(entries: &mut Entries, config: &Config) -> Result<bool, Fol
     )
 }
 
-// The test owns what it looks at and has one assertion: the prover follows every way out past every owner.
-#[test]
-fn a_recursive_route_makes_a_host(rt: HostRuntime) -> Result<(), Fail> {
-    let alloc = rt.alloc();
-    let config = with_route(alloc)?;
-    let mut entries = Entries::new(alloc)?;
+/// Whether fresh entries follow that route.
+fn makes_a_host(alloc: Global, entries: &mut Entries, config: &mut Config) -> Result<bool, Fail> {
+    config.edit(&recursive_route(alloc)?)?;
     let is_fresh = entries.len() == 5 && entries.size() == 20;
-    assert!(rt; is_fresh && follows_the_route(&mut entries, &config)?);
-    Ok(())
+    Ok(is_fresh && follows_the_route(entries, config)?)
 }
 
 /// The route of that prefix of length 8 gets a path via that next hop, or the path goes.
@@ -215,6 +204,21 @@ fn are_as_anew(alloc: Global, entries: &Entries, config: &Config) -> Result<bool
     Ok(agree(entries, &anew))
 }
 
+/// The size of entries made anew.
+fn size_anew(alloc: Global, config: &Config) -> Result<u32, AllocError> {
+    let anew = Entries::of(alloc, config.tables())?;
+    Ok(anew.size())
+}
+
+/// Whether the change is refused with that size where no object may come.
+fn is_refused_with(entries: &mut Entries, config: &Config, change: Change, size: u32) -> bool {
+    let most = entries.size();
+    match entries.follow_changes(config, &[change], most) {
+        Err(FollowError::TooMany(told)) => told == size,
+        _ => false,
+    }
+}
+
 /// Whether the change, where it makes objects, is refused where none may come, and told with the size of the tables.
 fn tells_size(
     alloc: Global,
@@ -222,15 +226,8 @@ fn tells_size(
     config: &Config,
     change: Change,
 ) -> Result<bool, Fail> {
-    let anew = Entries::of(alloc, config.tables())?;
-    let most = entries.size();
-    if anew.size() <= most {
-        return Ok(true);
-    }
-    match entries.follow_changes(config, &[change], most) {
-        Err(FollowError::TooMany(size)) => Ok(size == anew.size()),
-        _ => Ok(false),
-    }
+    let size = size_anew(alloc, config)?;
+    Ok(size <= entries.size() || is_refused_with(entries, config, change, size))
 }
 
 /// Whether the edit of the second route touches it alone, and the entries that follow it are as if made anew.
@@ -294,15 +291,36 @@ fn follows_ends(alloc: Global, entries: &mut Entries, config: &mut Config) -> Re
     Ok(true)
 }
 
-// Each of the five changes of the second route is followed in its row, and then what becomes of a link.
-#[test]
-fn a_leaf_is_followed_in_its_row(rt: HostRuntime) -> Result<(), Fail> {
-    let alloc = rt.alloc();
+fn is_right(
+    alloc: Global,
+    entries: &mut Entries,
+    config: &mut Config,
+    scene: u32,
+) -> Result<bool, Fail> {
+    match scene {
+        0 => makes_a_host(alloc, entries, config),
+        _ => Ok(follows_all(alloc, entries, config)? && follows_ends(alloc, entries, config)?),
+    }
+}
+
+// The one owner of a configuration, and below it the one of entries: the prover follows every way out past them.
+fn plays_over(alloc: Global, entries: &mut Entries, scene: u32) -> Result<bool, Fail> {
     let mut config = Config::new(alloc, 1000)?;
+    is_right(alloc, entries, &mut config, scene)
+}
+
+fn plays(alloc: Global, scene: u32) -> Result<bool, Fail> {
     let mut entries = Entries::new(alloc)?;
-    assert!(rt;
-        follows_all(alloc, &mut entries, &mut config)?
-            && follows_ends(alloc, &mut entries, &mut config)?
-    );
+    plays_over(alloc, &mut entries, scene)
+}
+
+// A recursive route makes a host; each of the five changes of the second route is followed in its row, and then what becomes of a link.
+#[test]
+fn what_entries_follow(rt: HostRuntime) -> Result<(), Fail> {
+    for scene in 0..2 {
+        if !plays(rt.alloc(), scene)? {
+            return Err("a scene went otherwise".into());
+        }
+    }
     Ok(())
 }

@@ -150,20 +150,30 @@ fn looks_up_some(
     Ok(true)
 }
 
-// What of a settled control is another than the plain programs say of its tables.
+// What of a settled control is another than the plain programs say.
+fn difference_from(
+    alloc: Global,
+    control: &Control<PlainBoard>,
+    snapshot: &Snapshot<'_>,
+    dice: &mut Dice,
+) -> Result<Option<Part>, AllocError> {
+    if control.used() != snapshot.size(alloc)? {
+        return Ok(Some(Part::Size));
+    }
+    if !looks_up_some(alloc, control, snapshot, dice)? {
+        return Ok(Some(Part::Lookup));
+    }
+    Ok(None)
+}
+
+// The same by its tables.
 fn difference(
     alloc: Global,
     control: &Control<PlainBoard>,
     dice: &mut Dice,
 ) -> Result<Option<Part>, AllocError> {
     let snapshot = Snapshot::new(alloc, control.tables())?;
-    if control.used() != snapshot.size(alloc)? {
-        return Ok(Some(Part::Size));
-    }
-    if !looks_up_some(alloc, control, &snapshot, dice)? {
-        return Ok(Some(Part::Lookup));
-    }
-    Ok(None)
+    difference_from(alloc, control, &snapshot, dice)
 }
 
 // Settles, and compares.

@@ -9,7 +9,7 @@ use crate::compared::Part;
 use crate::dice::Dice;
 use crate::driven::{apply, settle, work};
 use crate::watched::Watch;
-use fib_addr::Addr;
+use fib_addr::{Addr, Prefix};
 use fib_control::Control;
 use fib_plain::Snapshot;
 use fib_plainboard::PlainBoard;
@@ -26,20 +26,24 @@ pub fn may_pass(control: &Control<PlainBoard>) -> bool
     control.passes_left(0) > 0
 }
 
+// The first or the last address of one of these.
+fn addr_of(entries: &[Prefix], dice: &mut Dice) -> Addr {
+    if entries.is_empty() {
+        return Addr(0);
+    }
+    let e = entries[dice.place(entries.len())];
+    match dice.roll(2) {
+        0 => e.bits(),
+        _ => e.last(),
+    }
+}
+
 // The first or the last address of some entry.
 fn some_addr(alloc: Global, tables: &Tables, dice: &mut Dice) -> Result<Addr, AllocError>
     requires { IsSound tables.now }
 {
     let snapshot = Snapshot::new(alloc, tables)?;
-    let entries = snapshot.entries();
-    if entries.is_empty() {
-        return Ok(Addr(0));
-    }
-    let e = entries[dice.place(entries.len())];
-    match dice.roll(2) {
-        0 => Ok(e.bits()),
-        _ => Ok(e.last()),
-    }
+    Ok(addr_of(snapshot.entries(), dice))
 }
 
 // A change beneath the pass, and some of the work that it makes.

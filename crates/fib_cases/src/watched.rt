@@ -97,19 +97,43 @@ pub struct Watch {
 }
 
 impl Watch {
+    // From a version that means this on.
+    fn of(
+        alloc: Global,
+        snapshot: &Snapshot<'_>,
+        addr: Addr,
+        hash: u32,
+    ) -> Result<Watch, AllocError> {
+        Ok(Watch {
+            addr,
+            hash,
+            later: 0,
+            first: way_of(alloc, snapshot, addr, hash)?,
+            alike: true,
+            ends: snapshot.ends(alloc)?,
+        })
+    }
+
     // From a version with these tables on.
     pub fn new(alloc: Global, tables: &Tables, addr: Addr, hash: u32) -> Result<Watch, AllocError>
         requires { IsSound tables.now }
     {
         let snapshot = Snapshot::new(alloc, tables)?;
-        Ok(Watch {
-            addr,
-            hash,
-            later: 0,
-            first: way_of(alloc, &snapshot, addr, hash)?,
-            alike: true,
-            ends: snapshot.ends(alloc)?,
-        })
+        Watch::of(alloc, &snapshot, addr, hash)
+    }
+
+    // Whether the packet goes that way in the first version.
+    fn goes_alike(&self, way: &Way) -> bool {
+        way.end == self.first.end && way.steps.as_slice() == self.first.steps.as_slice()
+    }
+
+    // A version more, which means this.
+    fn see_in(&mut self, alloc: Global, snapshot: &Snapshot<'_>) -> Result<(), AllocError> {
+        let way = way_of(alloc, snapshot, self.addr, self.hash)?;
+        self.alike = self.alike && self.goes_alike(&way);
+        self.later = self.later.saturating_add(1);
+        let ends = snapshot.ends(alloc)?;
+        self.ends.extend_from_slice(ends.as_slice())
     }
 
     // A version more.
@@ -117,12 +141,7 @@ impl Watch {
         requires { IsSound tables.now }
     {
         let snapshot = Snapshot::new(alloc, tables)?;
-        let way = way_of(alloc, &snapshot, self.addr, self.hash)?;
-        let same = way.end == self.first.end && way.steps.as_slice() == self.first.steps.as_slice();
-        self.alike = self.alike && same;
-        self.later = self.later.saturating_add(1);
-        let ends = snapshot.ends(alloc)?;
-        self.ends.extend_from_slice(ends.as_slice())
+        self.see_in(alloc, &snapshot)
     }
 
     // Whether the window is from the first version, which was settled, to the last.
