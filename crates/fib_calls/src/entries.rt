@@ -1,5 +1,5 @@
 // Each public call once, with ample memory: what a recursive route makes, and a leaf's route that changes.
-ghost use Rattle.std.specs.Prelude.{IfOk, ◌<◌};
+ghost use Rattle.std.specs.Prelude.{IfOk, ◌<◌, ◌-◌, ◌^◌};
 ghost use Rattle.fib_resolve.specs.Reachable.{IsWritten};
 
 use crate::config::name;
@@ -211,7 +211,9 @@ fn size_anew(alloc: Global, config: &Config) -> Result<u32, AllocError> {
 }
 
 /// Whether the change is refused with that size where no object may come.
-fn is_refused_with(entries: &mut Entries, config: &Config, change: Change, size: u32) -> bool {
+fn is_refused_with(entries: &mut Entries, config: &Config, change: Change, size: u32) -> bool
+    requires { entries.old.objects < 2 ^ 32 - 1 }
+{
     let most = entries.size();
     match entries.follow_changes(config, &[change], most) {
         Err(FollowError::TooMany(told)) => told == size,
