@@ -1,7 +1,6 @@
 // Each public call, with ample memory, over a plain board. Each test owns the plane and has one assertion: the prover follows every way out past
 // every owner.
 ghost use Rattle.std.specs.Prelude.{IfOk, None, OnOk, Some, [], ◌+◌, ◌<◌, ◌≡◌, ◌≤◌};
-ghost use Rattle.fib_board.specs.Told.{IsWithinLimits};
 ghost use Rattle.fib_interned.specs.Interned.{kept_of};
 ghost use Rattle.fib_pool.specs.Objects.{fresh_objects};
 ghost use Rattle.fib_pool.specs.Records.{adjacency};
@@ -21,25 +20,14 @@ use fib_resolve::{End, Tables};
 use std::alloc::{AllocError, Global};
 use std::test::Fail;
 
-/// A plane over so many objects and workers. The prover works out a board's words where their number is a literal beside them, so the
-/// numbers come from elsewhere.
-fn plane_over(alloc: Global, objects: u32, workers: u32) -> Result<Plane<PlainBoard>, AllocError>
-    requires { IsWithinLimits objects workers }
-    ensures board { IfOk result (λ p. p.board ≡ fresh_plain objects workers) }
-    ensures objects { IfOk result (λ p. p.objects ≡ fresh_objects objects) }
-    ensures records { IfOk result (λ p. p.records ≡ []) }
-{
-    let board = PlainBoard::new(alloc, objects, workers)?;
-    Plane::new(alloc, board)
-}
-
 /// A plane over 64 objects and two workers.
 fn fresh(alloc: Global) -> Result<Plane<PlainBoard>, AllocError>
     ensures board { IfOk result (λ p. p.board ≡ fresh_plain 64 2) }
     ensures objects { IfOk result (λ p. p.objects ≡ fresh_objects 64) }
     ensures records { IfOk result (λ p. p.records ≡ []) }
 {
-    plane_over(alloc, 64, 2)
+    let board = PlainBoard::new(alloc, 64, 2)?;
+    Plane::new(alloc, board)
 }
 
 #[test]
@@ -241,7 +229,8 @@ fn held_plane(alloc: Global) -> Result<Plane<PlainBoard>, Fail>
     ensures filling { IfOk result (λ p. IsFillingPlane 0 p) }
     ensures calm { IfOk result (λ p. IsCalm p.board) }
 {
-    let mut plane = plane_over(alloc, 64, 1)?;
+    let board = PlainBoard::new(alloc, 64, 1)?;
+    let mut plane = Plane::new(alloc, board)?;
     plane.room(300)?;
     for _ in 0..63 {
         let _ = plane.take(Kind::Balance);
