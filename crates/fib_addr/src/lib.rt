@@ -16,6 +16,3 @@ pub use read::{
     BadText, addr_in, mac_in, number_in, prefix_in, read_addr, read_mac, read_number, read_prefix,
 };
 pub use write::{put_addr, put_mac, put_prefix};
-
-#[cfg(test)]
-mod tests;

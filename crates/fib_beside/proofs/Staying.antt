@@ -1,7 +1,7 @@
 -- Workers that were in threads are of the same words.
 use Rattle.std.proofs.Common.{ℕ, List, Option, Some, None, ◌∙◌}
 use Rattle.fib_board.specs.Crews.{Seated}
-use Rattle.fib_worker.specs.inner.Homes.{IsOf}
+use Rattle.fib_worker_calls.specs.Homes.{IsOf}
 use Rattle.fib_beside.specs.Stays.{StaysOf}
 
 pub stays_of : (id : List ℕ) (o p : Option Seated) → StaysOf o p → IsOf id o → IsOf id p

@@ -1,7 +1,7 @@
 -- A worker that was in a thread.
 use Rattle.std.specs.Prelude.{◌≡◌, Option, Some, None}
 use Rattle.fib_board.specs.Crews.{Seated}
-use Rattle.fib_worker.specs.inner.Homes.{IsOf}
+use Rattle.fib_worker_calls.specs.Homes.{IsOf}
 
 -- the worker, if there is one then, is of the words of the one before
 abbrev pub StaysOf : Option Seated → Option Seated → Type 0

@@ -3,7 +3,7 @@ ghost use Rattle.std.specs.Prelude.{ℕ, All, IfSome, List, length, slice_index_
 ghost use Rattle.std.specs.List.{AllByRecursion};
 ghost use Rattle.fib_resolve.specs.Reachable.{IsWritten};
 ghost use Rattle.fib_board.specs.Crews.{MaySend, board_sent};
-ghost use Rattle.fib_worker.specs.inner.Homes.{IsOf};
+ghost use Rattle.fib_worker_calls.specs.Homes.{IsOf};
 ghost use Rattle.fib_live.specs.Crewed.{IsManned, SameCrew};
 ghost use Rattle.fib_beside.specs.Stays.{StaysOf};
 ghost use Rattle.fib_beside.specs.declared.beside.Job.{Job as Work};
@@ -400,14 +400,15 @@ fn is_as_told(found: &Found) -> bool {
         && found.verdict.beneath >= 10_000
 }
 
-fn forwards<R: Threads + Wait + Sync>(
-    rt: &R,
-    alloc: Global,
-    control: &mut Control<LiveBoard<'_>>,
-) -> bool
-    requires { IsManned 4 control.old.plane.board }
-{
-    match run(rt, alloc, control) {
+// What is found over fresh cells. None where memory is wanted. One way out after the control is made: each takes long to prove.
+fn forwarded<R: Threads + Wait + Sync>(rt: &R, alloc: Global) -> Option<Found> {
+    let (cells, seat) = Cells::new(alloc, 1024, 4).ok()?;
+    let mut control = fresh(alloc, &cells, seat)?;
+    run(rt, alloc, &mut control)
+}
+
+fn forwards<R: Threads + Wait + Sync>(rt: &R, alloc: Global) -> bool {
+    match forwarded(rt, alloc) {
         Some(found) => is_as_told(&found),
         None => false,
     }
@@ -415,11 +416,6 @@ fn forwards<R: Threads + Wait + Sync>(
 
 #[test]
 fn four_workers_beside_200_changes(rt: HostRuntime) -> Result<(), Fail> {
-    let (cells, seat) = Cells::new(rt.alloc(), 1024, 4)?;
-    let Some(mut control) = fresh(rt.alloc(), &cells, seat) else {
-        return Err("no memory".into());
-    };
-    let right = forwards(&rt, rt.alloc(), &mut control);
-    assert!(rt; right);
+    assert!(rt; forwards(&rt, rt.alloc()));
     Ok(())
 }

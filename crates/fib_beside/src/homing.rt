@@ -49,6 +49,7 @@ fn round<R: Threads + Sync>(
     requires board { IsRested control.old.plane.board }
     requires all { length packets.now.packets ≡ 600 }
     requires places { length places.old ≡ 3 }
+    ensures workers { control.new.plane.board.workers ≡ 2 }
 {
     let Ok(mut crew) = Vec::with_capacity(alloc, 2) else {
         return false;
@@ -93,6 +94,13 @@ fn are_dropped(places: &[Option<Results>]) -> bool {
     packet == 600
 }
 
+// Whether both workers are at home.
+fn are_home(control: &Control<LiveBoard<'_>>) -> bool
+    requires { control.now.plane.board.workers ≡ 2 }
+{
+    !control.is_out(0) && !control.is_out(1)
+}
+
 // The round, and what is at home after it.
 fn is_gathered<R: Threads + Sync>(
     rt: &R,
@@ -105,17 +113,19 @@ fn is_gathered<R: Threads + Sync>(
 {
     let mut places = [None, None, None];
     let done = round(rt, alloc, control, packets, &mut places);
-    done && are_dropped(&places) && control.gathered() == 5
+    done && are_dropped(&places) && are_home(control) && control.gathered() == 5
+}
+
+// The same over fresh cells. None where memory is wanted. One way out after the control is made: each takes long to prove.
+fn gathers<R: Threads + Sync>(rt: &R, alloc: Global) -> Option<bool> {
+    let packets = flows(alloc, 600).ok()?;
+    let (cells, seat) = Cells::new(alloc, 64, 2).ok()?;
+    let mut control = Control::new(alloc, LiveBoard::new(&cells, seat)).ok()?;
+    Some(is_gathered(rt, alloc, &mut control, &packets))
 }
 
 #[test]
 fn two_workers_bring_three_frames_home(rt: HostRuntime) -> Result<(), Fail> {
-    let packets = flows(rt.alloc(), 600)?;
-    let (cells, seat) = Cells::new(rt.alloc(), 64, 2)?;
-    let Ok(mut control) = Control::new(rt.alloc(), LiveBoard::new(&cells, seat)) else {
-        return Err("no memory".into());
-    };
-    let right = is_gathered(&rt, rt.alloc(), &mut control, &packets);
-    assert!(rt; right);
+    assert!(rt; gathers(&rt, rt.alloc()) == Some(true));
     Ok(())
 }

@@ -1,5 +1,6 @@
 // Each trial over live cells, on one thread.
 ghost use Rattle.fib_live.specs.Crewed.{IsManned};
+ghost use Rattle.fib_board.specs.Told.{IsWithinLimits};
 
 use fib_cells::{Cells, LiveBoard};
 use fib_control::Control;
@@ -14,6 +15,59 @@ use fib_trials::trouble::Trouble;
 use std::alloc::Global;
 use std::test::Fail;
 
+// What is tried over cells of its own with four workers.
+trait Trial {
+    type Found;
+
+    fn find(&self, alloc: Global, control: &mut Control<LiveBoard<'_>>) -> Option<Self::Found>
+        requires { IsManned 4 control.old.plane.board };
+}
+
+// What is found over that many objects. None where memory is wanted.
+//
+// The one owner of a control here, with one way out after it is made: each way out of an owner takes long to prove.
+fn over_cells<T: Trial>(alloc: Global, objects: u32, trial: &T) -> Option<T::Found>
+    requires { IsWithinLimits objects 4 }
+{
+    let (cells, seat) = Cells::new(alloc, objects, 4).ok()?;
+    let mut control = fresh(alloc, &cells, seat)?;
+    trial.find(alloc, &mut control)
+}
+
+#[derive(Clone, Copy)]
+struct Tells;
+
+impl Trial for Tells {
+    type Found = Told;
+
+    fn find(&self, alloc: Global, control: &mut Control<LiveBoard<'_>>) -> Option<Told> {
+        tell_of_a_change(alloc, control)
+    }
+}
+
+#[derive(Clone, Copy)]
+struct Holds;
+
+impl Trial for Holds {
+    type Found = Held;
+
+    fn find(&self, alloc: Global, control: &mut Control<LiveBoard<'_>>) -> Option<Held> {
+        hold_beneath_a_change(alloc, control)
+    }
+}
+
+// After so many hops.
+#[derive(Clone, Copy)]
+struct HoldsAt(u32);
+
+impl Trial for HoldsAt {
+    type Found = Found;
+
+    fn find(&self, alloc: Global, control: &mut Control<LiveBoard<'_>>) -> Option<Found> {
+        hold_at(alloc, control, self.0)
+    }
+}
+
 // The route stood in version 4, which was settled, and not in version 5, which was settled while the worker rested.
 fn is_told(found: &Told) -> bool {
     found.before.lo == Version::settled_at(4)
@@ -26,10 +80,8 @@ fn is_told(found: &Told) -> bool {
         && found.passes_left == 9_223_372_036_854_775_805
 }
 
-fn tells(alloc: Global, control: &mut Control<LiveBoard<'_>>) -> bool
-    requires { IsManned 4 control.old.plane.board }
-{
-    match tell_of_a_change(alloc, control) {
+fn tells(alloc: Global) -> bool {
+    match over_cells(alloc, 1024, &Tells) {
         Some(found) => is_told(&found),
         None => false,
     }
@@ -37,12 +89,7 @@ fn tells(alloc: Global, control: &mut Control<LiveBoard<'_>>) -> bool
 
 #[test]
 fn a_worker_goes_by_what_is_settled(rt: HostRuntime) -> Result<(), Fail> {
-    let (cells, seat) = Cells::new(rt.alloc(), 1024, 4)?;
-    let Some(mut control) = fresh(rt.alloc(), &cells, seat) else {
-        return Err("no memory".into());
-    };
-    let right = tells(rt.alloc(), &mut control);
-    assert!(rt; right);
+    assert!(rt; tells(rt.alloc()));
     Ok(())
 }
 
@@ -55,10 +102,8 @@ fn is_held(found: &Held) -> bool {
         && found.settled == Some(5)
 }
 
-fn holds(alloc: Global, control: &mut Control<LiveBoard<'_>>) -> bool
-    requires { IsManned 4 control.old.plane.board }
-{
-    match hold_beneath_a_change(alloc, control) {
+fn holds(alloc: Global) -> bool {
+    match over_cells(alloc, 1024, &Holds) {
         Some(found) => is_held(&found),
         None => false,
     }
@@ -66,26 +111,16 @@ fn holds(alloc: Global, control: &mut Control<LiveBoard<'_>>) -> bool
 
 #[test]
 fn a_held_pass_keeps_copies(rt: HostRuntime) -> Result<(), Fail> {
-    let (cells, seat) = Cells::new(rt.alloc(), 1024, 4)?;
-    let Some(mut control) = fresh(rt.alloc(), &cells, seat) else {
-        return Err("no memory".into());
-    };
-    let right = holds(rt.alloc(), &mut control);
-    assert!(rt; right);
+    assert!(rt; holds(rt.alloc()));
     Ok(())
-}
-
-// What a pass finds that is held after so many hops over live cells.
-fn held_at(alloc: Global, hops: u32) -> Option<Found> {
-    let (cells, seat) = Cells::new(alloc, 200, 4).ok()?;
-    let mut control = fresh(alloc, &cells, seat)?;
-    hold_at(alloc, &mut control, hops)
 }
 
 // Whether that is what one finds over the plain board.
 fn holds_alike(alloc: Global, hops: u32) -> bool {
-    let (Some(live), Ok(plain)) = (held_at(alloc, hops), held_after(alloc, hops, Made::InTurn))
-    else {
+    let (Some(live), Ok(plain)) = (
+        over_cells(alloc, 200, &HoldsAt(hops)),
+        held_after(alloc, hops, Made::InTurn),
+    ) else {
         return false;
     };
     live == plain

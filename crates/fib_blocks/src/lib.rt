@@ -10,6 +10,3 @@ mod search;
 
 pub use list::Blocks;
 pub use search::Sought;
-
-#[cfg(test)]
-mod tests;

@@ -11,6 +11,3 @@ pub mod laws;
 
 pub use board::Board;
 pub use crew::Crew;
-
-#[cfg(test)]
-mod tests;

@@ -14,6 +14,3 @@ pub use capture::Capture;
 pub use flow::flow_hash;
 pub use packet::{CaptureError, Packet};
 pub use spans::Spans;
-
-#[cfg(test)]
-mod tests;

@@ -18,6 +18,3 @@ mod table;
 pub use board::LiveBoard;
 pub use cells::{Cells, ControlSeat};
 pub use seats::{Note, WalkingSeat, WorkerSeat};
-
-#[cfg(test)]
-mod tests;

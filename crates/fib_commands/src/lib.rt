@@ -17,6 +17,3 @@ mod types;
 pub use read::read_line;
 pub use script::{MOST_LINES, Script, ScriptError};
 pub use types::{Line, LineError};
-
-#[cfg(test)]
-mod tests;

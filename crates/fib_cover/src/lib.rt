@@ -4,6 +4,3 @@
 mod set;
 
 pub use set::PrefixSet;
-
-#[cfg(test)]
-mod tests;

@@ -11,6 +11,3 @@ mod span;
 pub use claims::{Frame, Taken, Worked, work};
 pub use results::Results;
 pub use span::forward_span;
-
-#[cfg(test)]
-mod tests;

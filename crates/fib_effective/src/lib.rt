@@ -21,6 +21,3 @@ pub use paths::{add_adjacencies, adjacency_of, is_same_list, recursive_hop, recu
 pub use places::first_places;
 pub use repeats::distinct;
 pub use sizes::size;
-
-#[cfg(test)]
-mod tests;

@@ -7,6 +7,3 @@
 mod stage;
 
 pub use stage::{Stage, adjacency_end, after_balance, after_ply};
-
-#[cfg(test)]
-mod tests;

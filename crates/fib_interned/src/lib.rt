@@ -9,6 +9,3 @@ mod numbered;
 
 pub use interned::Interned;
 pub use numbered::Numbered;
-
-#[cfg(test)]
-mod tests;

@@ -9,6 +9,3 @@
 mod passes;
 
 pub use passes::passes_left;
-
-#[cfg(test)]
-mod tests;

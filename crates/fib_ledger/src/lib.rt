@@ -9,6 +9,3 @@ mod ledger;
 
 pub use late::{Late, Lates};
 pub use ledger::{Known, Ledger, Use};
-
-#[cfg(test)]
-mod tests;

@@ -9,6 +9,3 @@ mod words;
 
 pub use lines::{count_lines, cut_line, is_plain};
 pub use words::{Words, is_idle};
-
-#[cfg(test)]
-mod tests;

@@ -8,6 +8,3 @@ mod list;
 
 pub use duplicate::Duplicate;
 pub use list::List;
-
-#[cfg(test)]
-mod tests;

@@ -9,6 +9,3 @@ mod marks;
 mod part;
 
 pub use marks::{Marks, mark};
-
-#[cfg(test)]
-mod tests;

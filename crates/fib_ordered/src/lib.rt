@@ -9,6 +9,3 @@ mod set;
 
 pub use block::Keyed;
 pub use set::Ordered;
-
-#[cfg(test)]
-mod tests;

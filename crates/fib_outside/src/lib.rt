@@ -21,6 +21,3 @@ pub use part::{Failed, Part};
 pub use real::{FileShelf, StandardOut};
 pub use shelf::{MemoryShelf, Shelf};
 pub use sink::{MemorySink, Sink};
-
-#[cfg(test)]
-mod tests;

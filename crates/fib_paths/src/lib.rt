@@ -7,6 +7,3 @@
 mod lists;
 
 pub use lists::{PathListId, PathLists};
-
-#[cfg(test)]
-mod tests;

@@ -14,6 +14,3 @@ mod plain_board;
 mod running;
 
 pub use plain_board::PlainBoard;
-
-#[cfg(test)]
-mod tests;

@@ -10,6 +10,3 @@ mod table;
 pub use object::{AdjacencyRecord, Kind, Object, Taken};
 pub use pool::Pool;
 pub use table::AdjTable;
-
-#[cfg(test)]
-mod tests;

@@ -14,6 +14,3 @@ pub use lines::{BatchFault, put_batch, put_message, put_refusal};
 pub use packets::{put_bad_header, put_cut, put_not_ipv4, put_packet};
 pub use paths::put_path;
 pub use text::put_number;
-
-#[cfg(test)]
-mod tests;

@@ -8,6 +8,3 @@ mod queue;
 
 pub use order::Queued;
 pub use queue::Queue;
-
-#[cfg(test)]
-mod tests;

@@ -9,6 +9,3 @@ mod visit;
 
 pub use graph::Graph;
 pub use visit::Search;
-
-#[cfg(test)]
-mod tests;

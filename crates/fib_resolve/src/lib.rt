@@ -20,6 +20,3 @@ pub use types::{
     Address, Edit, End, FibSource, Interface, Need, Neighbor, Path, PathKind, PathSpec, Refusal,
     Route, SpecKind, Tables,
 };
-
-#[cfg(test)]
-mod tests;

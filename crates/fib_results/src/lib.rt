@@ -9,6 +9,3 @@ pub mod laws;
 mod record;
 
 pub use record::{Record, Version};
-
-#[cfg(test)]
-mod tests;

@@ -4,6 +4,3 @@
 mod sizes;
 
 pub use sizes::Settings;
-
-#[cfg(test)]
-mod tests;

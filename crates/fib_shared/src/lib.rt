@@ -10,6 +10,3 @@ mod passes;
 mod shared;
 
 pub use shared::Shared;
-
-#[cfg(test)]
-mod tests;

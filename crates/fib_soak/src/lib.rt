@@ -9,6 +9,3 @@ mod script;
 
 pub use flows::soak_flows;
 pub use script::soak_script;
-
-#[cfg(test)]
-mod tests;

@@ -13,6 +13,3 @@ mod steps;
 mod union;
 
 pub use union::Union;
-
-#[cfg(test)]
-mod tests;

@@ -24,6 +24,3 @@ mod words;
 
 pub use types::{Asked, Source};
 pub use words::read_words;
-
-#[cfg(test)]
-mod tests;

@@ -16,10 +16,3 @@ mod worker;
 pub use pass::{Done, Finished, Pass};
 pub use step::Step;
 pub use worker::Worker;
-
-#[cfg(test)]
-mod standing;
-#[cfg(test)]
-mod tests;
-#[cfg(test)]
-mod threads;

@@ -1,6 +1,6 @@
 use Rattle.std.proofs.Common.{arith, subst, sym}
 use Rattle.std.specs.Prelude.{slice_index_or}
-use Rattle.fib_worker.specs.inner.Homes.{IsOf}
+use Rattle.fib_worker_calls.specs.Homes.{IsOf}
 use Rattle.fib_beside.specs.declared.beside.Job.{Job}
 use Rattle.fib_beside.proofs.Staying.{stays_of}
 use Rattle.fib_beside.proofs.beside.run_jobs.Goals as goal

@@ -1,6 +1,6 @@
 use Rattle.std.proofs.Common.{arith, subst, sym}
 use Rattle.std.specs.Prelude.{slice_index_or}
-use Rattle.fib_worker.specs.inner.Homes.{IsOf}
+use Rattle.fib_worker_calls.specs.Homes.{IsOf}
 use Rattle.fib_beside.proofs.beside.take_home.Goals as goal
 
 pub take_one-came-requires : goal.take_one-came-requires

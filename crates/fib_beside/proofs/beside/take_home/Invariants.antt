@@ -1,6 +1,6 @@
 use Rattle.std.proofs.Common.{◌<◌, length}
 use Rattle.std.specs.Prelude.{All}
-use Rattle.fib_worker.specs.inner.Homes.{IsOf}
+use Rattle.fib_worker_calls.specs.Homes.{IsOf}
 use Rattle.fib_beside.specs.declared.beside.Job.{Job}
 use Rattle.fib_beside.proofs.beside.take_home.Given as goal
 

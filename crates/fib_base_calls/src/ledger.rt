@@ -1,0 +1,66 @@
+// Each public call once.
+use fib_addr::{Addr, Prefix};
+use fib_core::Word;
+use fib_ledger::{Known, Late, Lates, Ledger, Use};
+use fib_list::List;
+use std::test::Fail;
+
+#[test]
+fn buckets_are_deferred_and_cleared(rt: HostRuntime) -> Result<(), Fail> {
+    let first = Prefix::masked(Addr(0x0a00_0000), 8);
+    let second = Prefix::host(Addr(0x0a00_0001));
+    let mut late = Lates::new(rt.alloc());
+    late.reserve(3)?;
+    late.add(first, 4, Word::ToBalance(7));
+    late.add(second, 4, Word::ToBalance(8));
+    late.add(first, 5, Word::ToBalance(9));
+    assert_eq!(rt; late.len(), 3);
+    assert_eq!(rt;
+        late.at(1),
+        Late {
+            entry: second,
+            slot: 4,
+            word: Word::ToBalance(8),
+        }
+    );
+    late.clear(first);
+    assert_eq!(rt; late.len(), 1);
+    late.take_out(0);
+    assert_eq!(rt; late.len(), 0);
+    let _alloc = late.allocator();
+    Ok(())
+}
+
+#[test]
+fn a_prefix_is_known_and_forgotten(rt: HostRuntime) -> Result<(), Fail> {
+    let prefix = Prefix::masked(Addr(0x0a00_0000), 8);
+    let mut ledger = Ledger::new(rt.alloc());
+    ledger.reserve(1)?;
+    let mut uses = List::new(rt.alloc());
+    uses.push(Use {
+        interface: 2,
+        next_hop: Addr(0x0a00_0001),
+        mac: None,
+        object: 30,
+    })?;
+    assert!(rt; !ledger.forwarded(prefix));
+    assert!(rt;
+        ledger
+            .set(
+                prefix,
+                Known {
+                    forwarded: true,
+                    uses,
+                }
+            )
+            .is_none()
+    );
+    assert!(rt; ledger.forwarded(prefix));
+    ledger.tells();
+    let Some(old) = ledger.forget(prefix) else {
+        panic!(rt; "nothing is known");
+    };
+    assert_eq!(rt; old.uses.len(), 1);
+    assert!(rt; !ledger.forwarded(prefix));
+    Ok(())
+}

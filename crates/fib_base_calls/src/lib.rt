@@ -1,0 +1,71 @@
+//! The calls of the lower crates, each made once with ample memory, and each generic at a type of its own.
+//!
+//! A file a crate. These tests stand apart from what they call, since a crate's own tests have it proved a second time.
+#![tactic(auto)]
+
+#[cfg(test)]
+mod addr;
+#[cfg(test)]
+mod blocks;
+#[cfg(test)]
+mod board;
+#[cfg(test)]
+mod capture;
+#[cfg(test)]
+mod commands;
+#[cfg(test)]
+mod core_calls;
+#[cfg(test)]
+mod cover;
+#[cfg(test)]
+mod effective;
+#[cfg(test)]
+mod hops;
+#[cfg(test)]
+mod interned;
+#[cfg(test)]
+mod lawful;
+#[cfg(test)]
+mod ledger;
+#[cfg(test)]
+mod lines;
+#[cfg(test)]
+mod list;
+#[cfg(test)]
+mod loops;
+#[cfg(test)]
+mod ordered;
+#[cfg(test)]
+mod outside;
+#[cfg(test)]
+mod paths;
+#[cfg(test)]
+mod pool;
+#[cfg(test)]
+mod print;
+#[cfg(test)]
+mod queue;
+#[cfg(test)]
+mod reach;
+#[cfg(test)]
+mod resolve;
+#[cfg(test)]
+mod results;
+#[cfg(test)]
+mod rule;
+#[cfg(test)]
+mod serving;
+#[cfg(test)]
+mod settings;
+#[cfg(test)]
+mod shared;
+#[cfg(test)]
+mod soak;
+#[cfg(test)]
+mod stands;
+#[cfg(test)]
+mod steady;
+#[cfg(test)]
+mod union;
+#[cfg(test)]
+mod words;

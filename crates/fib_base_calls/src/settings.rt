@@ -1,0 +1,41 @@
+// The ends of each range.
+use fib_settings::Settings;
+
+#[test]
+fn ranges(rt: HostRuntime) {
+    let inside = Settings {
+        workers: 1,
+        objects: 64,
+        walk: 0,
+    };
+    assert!(rt; inside.is_in_range());
+    assert!(rt;
+        Settings {
+            workers: 8,
+            objects: 131_072,
+            walk: 65_535
+        }
+        .is_in_range()
+    );
+    assert!(rt;
+        !Settings {
+            workers: 9,
+            ..inside
+        }
+        .is_in_range()
+    );
+    assert!(rt;
+        !Settings {
+            objects: 65,
+            ..inside
+        }
+        .is_in_range()
+    );
+    assert!(rt;
+        !Settings {
+            walk: 65_536,
+            ..inside
+        }
+        .is_in_range()
+    );
+}

@@ -1,0 +1,23 @@
+// Each law, and a fresh plane over a plain board.
+use fib_plainboard::PlainBoard;
+use fib_shared::{Shared, laws};
+use std::alloc::{AllocError, Global};
+use std::test::Fail;
+
+fn fresh(alloc: Global) -> Result<Shared<PlainBoard>, AllocError> {
+    let board = PlainBoard::new(alloc, 64, 2)?;
+    Shared::new(alloc, board)
+}
+
+#[test]
+fn each_law() {
+    laws::what_is_in_use_is_counted();
+}
+
+#[test]
+fn the_root_alone_is_used(rt: HostRuntime) -> Result<(), Fail> {
+    let shared = fresh(rt.alloc())?;
+    shared.tells();
+    assert_eq!(rt; shared.used(), 1);
+    Ok(())
+}
