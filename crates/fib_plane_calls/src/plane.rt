@@ -1,6 +1,7 @@
-// Each public call, with ample memory, over a plain board. Each test owns the plane and has one assertion: the prover follows every way out past
-// every owner.
+// Each public call, with ample memory, over a plain board. Each test owns the plane and has one assertion, and what may fail on the way borrows
+// it: the prover follows every way out past every owner.
 ghost use Rattle.std.specs.Prelude.{IfOk, None, OnOk, Some, [], ◌+◌, ◌<◌, ◌≡◌, ◌≤◌};
+ghost use Rattle.fib_board.specs.Told.{IsWithinLimits};
 ghost use Rattle.fib_interned.specs.Interned.{kept_of};
 ghost use Rattle.fib_pool.specs.Objects.{fresh_objects};
 ghost use Rattle.fib_pool.specs.Records.{adjacency};
@@ -20,14 +21,24 @@ use fib_resolve::{End, Tables};
 use std::alloc::{AllocError, Global};
 use std::test::Fail;
 
+// A plane over so many objects and workers. The prover takes ten times as long where these are numerals.
+fn plane_over(alloc: Global, objects: u32, workers: u32) -> Result<Plane<PlainBoard>, AllocError>
+    requires { IsWithinLimits objects workers }
+    ensures board { IfOk result (λ p. p.board ≡ fresh_plain objects workers) }
+    ensures objects { IfOk result (λ p. p.objects ≡ fresh_objects objects) }
+    ensures records { IfOk result (λ p. p.records ≡ []) }
+{
+    let board = PlainBoard::new(alloc, objects, workers)?;
+    Plane::new(alloc, board)
+}
+
 /// A plane over 64 objects and two workers.
 fn fresh(alloc: Global) -> Result<Plane<PlainBoard>, AllocError>
     ensures board { IfOk result (λ p. p.board ≡ fresh_plain 64 2) }
     ensures objects { IfOk result (λ p. p.objects ≡ fresh_objects 64) }
     ensures records { IfOk result (λ p. p.records ≡ []) }
 {
-    let board = PlainBoard::new(alloc, 64, 2)?;
-    Plane::new(alloc, board)
+    plane_over(alloc, 64, 2)
 }
 
 #[test]
@@ -191,11 +202,12 @@ fn empty(plane: &mut Plane<PlainBoard>) -> Put
     plane.put(0, 0, Word::Drop)
 }
 
-// A plane whose root leads to object 1, which is not held.
-fn linked(alloc: Global) -> Result<Plane<PlainBoard>, Fail>
-    ensures { IfOk result (λ p. IsLinked p × (0 < p.spare)) }
+// The root leads to object 1 then, which is not held.
+fn take_and_link(plane: &mut Plane<PlainBoard>) -> Result<(), Fail>
+    requires board { plane.old.board ≡ fresh_plain 64 2 }
+    requires records { plane.old.records ≡ [] }
+    ensures { OnOk result (IsLinked plane.new × (0 < plane.new.spare)) }
 {
-    let mut plane = fresh(alloc)?;
     plane.room(2)?;
     let Some(object) = plane.take(Kind::Balance) else {
         return Err(Fail::from("no object"));
@@ -203,10 +215,19 @@ fn linked(alloc: Global) -> Result<Plane<PlainBoard>, Fail>
     if object != 1 {
         return Err(Fail::from("another object"));
     }
-    let Put::Stored = link(&mut plane) else {
+    let Put::Stored = link(plane) else {
         return Err(Fail::from("the edge isn't stored"));
     };
-    leave(&mut plane);
+    leave(plane);
+    Ok(())
+}
+
+// A plane whose root leads to object 1, which is not held.
+fn linked(alloc: Global) -> Result<Plane<PlainBoard>, Fail>
+    ensures { IfOk result (λ p. IsLinked p × (0 < p.spare)) }
+{
+    let mut plane = fresh(alloc)?;
+    take_and_link(&mut plane)?;
     Ok(plane)
 }
 
@@ -224,13 +245,13 @@ fn a_scan_frees_what_a_replaced_edge_led_to(rt: HostRuntime) -> Result<(), Fail>
     Ok(())
 }
 
-// A plane over 64 objects and one worker, of which the control plane holds each.
-fn held_plane(alloc: Global) -> Result<Plane<PlainBoard>, Fail>
-    ensures filling { IfOk result (λ p. IsFillingPlane 0 p) }
-    ensures calm { IfOk result (λ p. IsCalm p.board) }
+// The control plane holds each object then, and there is room for the stores.
+fn hold_all(plane: &mut Plane<PlainBoard>) -> Result<(), Fail>
+    requires board { plane.old.board ≡ fresh_plain 64 1 }
+    requires records { plane.old.records ≡ [] }
+    ensures filling { OnOk result (IsFillingPlane 0 plane.new) }
+    ensures calm { OnOk result (IsCalm plane.new.board) }
 {
-    let board = PlainBoard::new(alloc, 64, 1)?;
-    let mut plane = Plane::new(alloc, board)?;
     plane.room(300)?;
     for _ in 0..63 {
         let _ = plane.take(Kind::Balance);
@@ -239,6 +260,16 @@ fn held_plane(alloc: Global) -> Result<Plane<PlainBoard>, Fail>
         return Err(Fail::from("an object is free"));
     }
     plane.tells();
+    Ok(())
+}
+
+// A plane over 64 objects and one worker, of which the control plane holds each.
+fn held_plane(alloc: Global) -> Result<Plane<PlainBoard>, Fail>
+    ensures filling { IfOk result (λ p. IsFillingPlane 0 p) }
+    ensures calm { IfOk result (λ p. IsCalm p.board) }
+{
+    let mut plane = plane_over(alloc, 64, 1)?;
+    hold_all(&mut plane)?;
     Ok(plane)
 }
 

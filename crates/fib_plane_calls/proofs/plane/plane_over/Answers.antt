@@ -1,13 +1,13 @@
-use Rattle.std.proofs.Common.{◌≡◌, subst}
+use Rattle.std.proofs.Common.{◌≡◌, subst, refl, arith, sym, ap}
 use Rattle.std.specs.Prelude.{IfOk}
 use Rattle.fib_pool.specs.Objects.{fresh_objects}
-use Rattle.fib_board.specs.Boards.{Board}
+use Rattle.fib_board.specs.Boards.{Board, IsFresh}
+use Rattle.fib_plainboard.specs.Passes.{fresh_plain}
 use Rattle.fib_plane.specs.Planes.{Plane}
-use Rattle.fib_plane.proofs.Trying.{is_fresh}
-use Rattle.fib_plane_calls.proofs.plane.fresh.Goals as goal
+use Rattle.fib_plane_calls.proofs.plane.plane_over.Goals as goal
 
 pub new-requires-2 : goal.new-requires-2
-new-requires-2 c = is_fresh c.in_ok-board.board c.in_ok-board.ensures
+new-requires-2 c = subst IsFresh (sym c.in_ok-board.ensures) (record { some = let l = c.requires.least in omega (arith, l); few = c.requires.eight; fresh = refl })
 
 pub returns-clause-board : goal.returns-clause-board
 returns-clause-board c = subst (λ (b : Board). IfOk c.new-2.result (λ (p : Plane). p.board ≡ b)) c.in_ok-board.ensures c.new-2.ensures.board

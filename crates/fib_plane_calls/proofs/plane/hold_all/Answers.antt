@@ -1,10 +1,7 @@
 use Rattle.std.proofs.Common.{arith, ◌≡◌}
 use Rattle.fib_pool.specs.Objects.{free_in}
-use Rattle.fib_plane.proofs.Growing.{calm_fresh, first_plane, is_fresh_one}
-use Rattle.fib_plane_calls.proofs.plane.held_plane.Goals as goal
-
-pub new-requires-2 : goal.new-requires-2
-new-requires-2 c = is_fresh_one c.in_ok-board.board c.in_ok-board.ensures
+use Rattle.fib_plane.proofs.Growing.{calm_fresh, first_plane}
+use Rattle.fib_plane_calls.proofs.plane.hold_all.Goals as goal
 
 pub returns-clause-filling : goal.returns-clause-filling
 returns-clause-filling c =
