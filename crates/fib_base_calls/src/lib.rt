@@ -10,6 +10,8 @@ mod blocks;
 #[cfg(test)]
 mod board;
 #[cfg(test)]
+mod buckets;
+#[cfg(test)]
 mod capture;
 #[cfg(test)]
 mod commands;

@@ -116,21 +116,3 @@ pub fn share(weights: &[u8]) -> [u8; 16]
     }
     out
 }
-
-#[cfg(test)]
-mod tests {
-    use super::*;
-
-    /// The first bucket of each path but the first.
-    #[test]
-    fn runs_of_weights(rt: HostRuntime) {
-        let mut shared = share(&[3, 5]);
-        assert_eq!(rt; shared, [0, 0, 0, 0, 0, 0, 1, 1, 1, 1, 1, 1, 1, 1, 1, 1]);
-        shared = share(&[1, 255]);
-        assert_eq!(rt; shared, [1; 16]);
-        shared = share(&[1, 1, 1]);
-        assert_eq!(rt; shared, [0, 0, 0, 0, 0, 0, 1, 1, 1, 1, 1, 2, 2, 2, 2, 2]);
-        shared = share(&[7]);
-        assert_eq!(rt; shared, [0; 16]);
-    }
-}
