@@ -4,7 +4,8 @@ ghost use Rattle.fib_control.specs.Controls.{IsQuiet};
 ghost use Rattle.fib_trials.specs.Seats.{IsHome, first_seats, seats_in};
 
 use crate::held::base;
-use crate::steps::{fresh, settle};
+use crate::steps::{FEW, settle};
+use crate::trial::{Trial, found_by};
 use crate::trouble::Trouble;
 use fib_control::{Busy, Control};
 use fib_plainboard::PlainBoard;
@@ -47,8 +48,20 @@ fn settle_lines(alloc: Global, control: &mut Control<PlainBoard>) -> Result<Sett
     })
 }
 
+#[derive(Clone, Copy)]
+struct ThreeLines;
+
+impl Trial for ThreeLines {
+    type Found = Settled;
+
+    ghost is_so = { λ found. Unit {0} };
+
+    fn find(&self, alloc: Global, control: &mut Control<PlainBoard>) -> Result<Settled, Trouble> {
+        settle_lines(alloc, control)
+    }
+}
+
 /// Three changes are made and settled.
 pub fn three_lines(alloc: Global) -> Result<Settled, Trouble> {
-    let mut control = fresh(alloc)?;
-    settle_lines(alloc, &mut control)
+    found_by(alloc, FEW, &ThreeLines)
 }

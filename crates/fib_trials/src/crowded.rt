@@ -11,7 +11,8 @@ ghost use Rattle.fib_control.specs.Controls.{Control as Seen};
 
 use crate::changes::{coming, going};
 use crate::held::{base, go_on, hold, settle_all};
-use crate::steps::{Answers, calm, fresh_over, make, walk};
+use crate::steps::{Answers, calm, make, walk};
+use crate::trial::{Trial, found_by};
 use crate::trouble::Trouble;
 use fib_addr::Addr;
 use fib_control::{ApplyError, Control};
@@ -212,14 +213,44 @@ fn crowd_below(
     crowd_while_held(control, &edit, &other, hops)
 }
 
+// After so many hops.
+#[derive(Clone, Copy)]
+struct Above(u32);
+
+impl Trial for Above {
+    type Found = Crowded;
+
+    ghost is_so = { λ found. AreCalm found.ended × (found.crowd.free < found.crowd.wanted) };
+
+    fn find(&self, alloc: Global, control: &mut Control<PlainBoard>) -> Result<Crowded, Trouble> {
+        let found = crowd_above(alloc, control, self.0)?;
+        Ok(found)
+    }
+}
+
 /// A pass to 20.1.1.1 is held after so many hops while 20.0.0.0/8 comes and goes, over that many objects.
 pub fn crowded_after(alloc: Global, objects: u32, hops: u32) -> Result<Crowded, Trouble>
     requires { IsWithinLimits objects 1 }
     ensures calm { IfOk result (λ found. AreCalm found.ended) }
     ensures few { IfOk result (λ found. found.crowd.free < found.crowd.wanted) }
 {
-    let mut control = fresh_over(alloc, objects)?;
-    crowd_above(alloc, &mut control, hops)
+    let found = found_by(alloc, objects, &Above(hops))?;
+    Ok(found)
+}
+
+// After so many hops.
+#[derive(Clone, Copy)]
+struct Below(u32);
+
+impl Trial for Below {
+    type Found = Crowded;
+
+    ghost is_so = { λ found. AreCalm found.ended × (found.crowd.free < found.crowd.wanted) };
+
+    fn find(&self, alloc: Global, control: &mut Control<PlainBoard>) -> Result<Crowded, Trouble> {
+        let found = crowd_below(alloc, control, self.0)?;
+        Ok(found)
+    }
 }
 
 /// The same where 20.0.0.0/8 is there as the pass begins: after one hop it stands on the ply below the root.
@@ -228,6 +259,6 @@ pub fn crowded_below(alloc: Global, objects: u32, hops: u32) -> Result<Crowded, 
     ensures calm { IfOk result (λ found. AreCalm found.ended) }
     ensures few { IfOk result (λ found. found.crowd.free < found.crowd.wanted) }
 {
-    let mut control = fresh_over(alloc, objects)?;
-    crowd_below(alloc, &mut control, hops)
+    let found = found_by(alloc, objects, &Below(hops))?;
+    Ok(found)
 }

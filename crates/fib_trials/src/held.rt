@@ -4,7 +4,8 @@ ghost use Rattle.fib_trials.specs.Calm.{AreCalm};
 ghost use Rattle.fib_trials.specs.Seats.{IsHeld, IsKept, IsRested, first_seats, seats_in};
 
 use crate::changes::eight;
-use crate::steps::{Answers, apply, apply_all, calm, fresh, turns, turns_and_retries, walk};
+use crate::steps::{Answers, FEW, apply, apply_all, calm, turns, turns_and_retries, walk};
+use crate::trial::{Trial, found_by};
 use crate::trouble::Trouble;
 use fib_addr::Addr;
 use fib_control::Control;
@@ -219,12 +220,28 @@ fn hold_while_turned(
     })
 }
 
+// After so many hops, beneath changes that are made so.
+#[derive(Clone, Copy)]
+struct HeldAfter {
+    most: u32,
+    made: Made,
+}
+
+impl Trial for HeldAfter {
+    type Found = Found;
+
+    ghost is_so = { λ found. AreCalm found.ended };
+
+    fn find(&self, alloc: Global, control: &mut Control<PlainBoard>) -> Result<Found, Trouble> {
+        hold_while_turned(alloc, control, self.most, self.made)
+    }
+}
+
 /// A pass to 50.1.1.1 is held after so many hops while the routes change. Once it has ended, nothing is left to wait for.
 pub fn held_after(alloc: Global, most: u32, made: Made) -> Result<Found, Trouble>
     ensures { IfOk result (λ found. AreCalm found.ended) }
 {
-    let mut control = fresh(alloc)?;
-    hold_while_turned(alloc, &mut control, most, made)
+    found_by(alloc, FEW, &HeldAfter { most, made })
 }
 
 /// What is found where 60.0.0.0/8 is deleted while its buckets are deferred.
@@ -253,11 +270,23 @@ fn delete_while_held(alloc: Global, control: &mut Control<PlainBoard>) -> Result
     Ok(Deleted { record, ended, end })
 }
 
+#[derive(Clone, Copy)]
+struct DeletedWhileHeld;
+
+impl Trial for DeletedWhileHeld {
+    type Found = Deleted;
+
+    ghost is_so = { λ found. AreCalm found.ended };
+
+    fn find(&self, alloc: Global, control: &mut Control<PlainBoard>) -> Result<Deleted, Trouble> {
+        delete_while_held(alloc, control)
+    }
+}
+
 /// A pass to 50.1.1.1 is held after three hops while the routes change and 60.0.0.0/8 is deleted: its buckets stay deferred until its turn, and
 /// none from then on.
 pub fn deleted_while_held(alloc: Global) -> Result<Deleted, Trouble>
     ensures { IfOk result (λ found. AreCalm found.ended) }
 {
-    let mut control = fresh(alloc)?;
-    delete_while_held(alloc, &mut control)
+    found_by(alloc, FEW, &DeletedWhileHeld)
 }

@@ -12,4 +12,5 @@ pub mod prefixes;
 pub mod records;
 pub mod sets;
 pub mod steps;
+mod trial;
 pub mod trouble;

@@ -16,7 +16,10 @@ use fib_resolve::Edit;
 use fib_stack::Turn;
 use std::alloc::Global;
 
-/// Over that many objects, with one worker.
+/// How many objects a trial has that crowds none.
+pub(crate) const FEW: u32 = 200;
+
+/// A control over that many objects, with one worker.
 pub fn fresh_over(alloc: Global, objects: u32) -> Result<Control<PlainBoard>, Trouble>
     requires { IsWithinLimits objects 1 }
     ensures { IfOk result (λ c. seats_in c ≡ first_seats) }
@@ -26,13 +29,6 @@ pub fn fresh_over(alloc: Global, objects: u32) -> Result<Control<PlainBoard>, Tr
         Ok(control) => Ok(control),
         Err(_) => Err(Trouble::Memory),
     }
-}
-
-/// Over 200 objects, with one worker.
-pub fn fresh(alloc: Global) -> Result<Control<PlainBoard>, Trouble>
-    ensures { IfOk result (λ c. seats_in c ≡ first_seats) }
-{
-    fresh_over(alloc, 200)
 }
 
 /// Makes an edit, and answers the version.
