@@ -2,6 +2,8 @@
 use fib_control::Control;
 use fib_outside::{FreeGate, Gate};
 use fib_plainboard::PlainBoard;
+use fib_trials::steps::fresh_over;
+use fib_trials::trouble::Trouble;
 use fib_turns::{Means, Progress, finish, run_line};
 use std::alloc::Global;
 use std::sync::Wait;
@@ -42,14 +44,6 @@ impl Gate for CountGate {
     }
 
     fn before(&self, _worker: u32, _packet: u32) {}
-}
-
-fn fresh(alloc: Global) -> Result<Control<PlainBoard>, Fail> {
-    let board = PlainBoard::new(alloc, 200, 1)?;
-    match Control::new(alloc, board) {
-        Ok(control) => Ok(control),
-        Err(_) => Err("no memory".into()),
-    }
 }
 
 // What the next line asks for.
@@ -156,26 +150,42 @@ fn is_left<R: Wait>(rt: &R, alloc: Global, control: &mut Control<PlainBoard>) ->
         && out.as_slice() == b"line 1: batch not committed\n".as_slice()
 }
 
+// What is looked at after lines on a fresh control.
+#[derive(Clone, Copy)]
+enum Look {
+    Versions,
+    Left,
+    Told,
+}
+
+fn look_at<R: Wait>(rt: &R, alloc: Global, control: &mut Control<PlainBoard>, look: Look) -> bool {
+    match look {
+        Look::Versions => are_two_versions(rt, alloc, control),
+        Look::Left => is_left(rt, alloc, control),
+        Look::Told => is_told_once(rt, alloc, control),
+    }
+}
+
+// Whether that is as it should be. It alone owns a control, and has one way out from then on: each takes long to prove.
+fn is_right<R: Wait>(rt: &R, alloc: Global, look: Look) -> Result<bool, Trouble> {
+    let mut control = fresh_over(alloc, 200)?;
+    Ok(look_at(rt, alloc, &mut control, look))
+}
+
 #[test]
 fn a_change_and_a_batch(rt: HostRuntime) -> Result<(), Fail> {
-    let mut control = fresh(rt.alloc())?;
-    let right = are_two_versions(&rt, rt.alloc(), &mut control);
-    assert!(rt; right);
+    assert!(rt; is_right(&rt, rt.alloc(), Look::Versions)?);
     Ok(())
 }
 
 #[test]
 fn a_batch_that_is_left(rt: HostRuntime) -> Result<(), Fail> {
-    let mut control = fresh(rt.alloc())?;
-    let right = is_left(&rt, rt.alloc(), &mut control);
-    assert!(rt; right);
+    assert!(rt; is_right(&rt, rt.alloc(), Look::Left)?);
     Ok(())
 }
 
 #[test]
 fn a_gate_is_told_of_a_batch_once(rt: HostRuntime) -> Result<(), Fail> {
-    let mut control = fresh(rt.alloc())?;
-    let right = is_told_once(&rt, rt.alloc(), &mut control);
-    assert!(rt; right);
+    assert!(rt; is_right(&rt, rt.alloc(), Look::Told)?);
     Ok(())
 }
