@@ -35,9 +35,9 @@ fn over_cells<T: Trial>(alloc: Global, objects: u32, trial: &T) -> Option<T::Fou
 }
 
 #[derive(Clone, Copy)]
-struct Tells;
+struct Telling;
 
-impl Trial for Tells {
+impl Trial for Telling {
     type Found = Told;
 
     fn find(&self, alloc: Global, control: &mut Control<LiveBoard<'_>>) -> Option<Told> {
@@ -46,9 +46,9 @@ impl Trial for Tells {
 }
 
 #[derive(Clone, Copy)]
-struct Holds;
+struct Holding;
 
-impl Trial for Holds {
+impl Trial for Holding {
     type Found = Held;
 
     fn find(&self, alloc: Global, control: &mut Control<LiveBoard<'_>>) -> Option<Held> {
@@ -58,9 +58,9 @@ impl Trial for Holds {
 
 // After so many hops.
 #[derive(Clone, Copy)]
-struct HoldsAt(u32);
+struct HoldingAt(u32);
 
-impl Trial for HoldsAt {
+impl Trial for HoldingAt {
     type Found = Found;
 
     fn find(&self, alloc: Global, control: &mut Control<LiveBoard<'_>>) -> Option<Found> {
@@ -81,7 +81,7 @@ fn is_told(found: &Told) -> bool {
 }
 
 fn tells(alloc: Global) -> bool {
-    match over_cells(alloc, 1024, &Tells) {
+    match over_cells(alloc, 1024, &Telling) {
         Some(found) => is_told(&found),
         None => false,
     }
@@ -103,7 +103,7 @@ fn is_held(found: &Held) -> bool {
 }
 
 fn holds(alloc: Global) -> bool {
-    match over_cells(alloc, 1024, &Holds) {
+    match over_cells(alloc, 1024, &Holding) {
         Some(found) => is_held(&found),
         None => false,
     }
@@ -118,7 +118,7 @@ fn a_held_pass_keeps_copies(rt: HostRuntime) -> Result<(), Fail> {
 // Whether that is what one finds over the plain board.
 fn holds_alike(alloc: Global, hops: u32) -> bool {
     let (Some(live), Ok(plain)) = (
-        over_cells(alloc, 200, &HoldsAt(hops)),
+        over_cells(alloc, 200, &HoldingAt(hops)),
         held_after(alloc, hops, Made::InTurn),
     ) else {
         return false;
