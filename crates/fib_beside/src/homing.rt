@@ -118,9 +118,15 @@ fn is_gathered<R: Threads + Sync>(
 
 // The same over fresh cells. None where memory is wanted. One way out after the control is made: each takes long to prove.
 fn gathers<R: Threads + Sync>(rt: &R, alloc: Global) -> Option<bool> {
-    let packets = flows(alloc, 600).ok()?;
-    let (cells, seat) = Cells::new(alloc, 64, 2).ok()?;
-    let mut control = Control::new(alloc, LiveBoard::new(&cells, seat)).ok()?;
+    let Ok(packets) = flows(alloc, 600) else {
+        return None;
+    };
+    let Ok((cells, seat)) = Cells::new(alloc, 64, 2) else {
+        return None;
+    };
+    let Ok(mut control) = Control::new(alloc, LiveBoard::new(&cells, seat)) else {
+        return None;
+    };
     Some(is_gathered(rt, alloc, &mut control, &packets))
 }
 
