@@ -13,7 +13,6 @@ use std::ops::{Index, IndexMut};
 
 /// A list that lies in blocks of at most 256 elements. An element that comes or goes moves those of its block alone, and one is found by
 /// its place with a binary search over the blocks. Contracts see the list.
-#[derive(Drop)]
 pub struct Blocks<T> {
     /// None of them is empty.
     blocks: Vec<Vec<T>>,
@@ -22,6 +21,18 @@ pub struct Blocks<T> {
     /// How many elements there are.
     count: usize,
     alloc: Global,
+}
+
+// The prover follows what a drop does here, once, and not at every way out past an owner.
+impl<T: Drop> Drop for Blocks<T> {
+    fn drop(self) {
+        let Blocks {
+            blocks: _,
+            starts: _,
+            count: _,
+            alloc: _,
+        } = self;
+    }
 }
 
 impl<T> Model for Blocks<T> {

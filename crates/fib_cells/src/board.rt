@@ -12,7 +12,6 @@ use fib_resolve::Tables;
 use std::marker::Model;
 
 /// The control plane at work on the shared words. It reads its own copy of what it alone writes.
-#[derive(Drop)]
 pub struct LiveBoard<'a> {
     pub(crate) cells: &'a Cells,
     pub(crate) place: Place,
@@ -23,6 +22,23 @@ pub struct LiveBoard<'a> {
     pub(crate) out: [bool; 8],
     pub(crate) rests: [u64; 8],
     pub(crate) gathered: u64,
+}
+
+// The prover follows what a drop does here, once, and not at every way out past an owner.
+impl Drop for LiveBoard<'_> {
+    fn drop(self) {
+        let LiveBoard {
+            cells: _,
+            place: _,
+            copy: _,
+            objects: _,
+            workers: _,
+            version: _,
+            out: _,
+            rests: _,
+            gathered: _,
+        } = self;
+    }
 }
 
 impl<'a> Model for LiveBoard<'a> {

@@ -22,12 +22,23 @@ use std::marker::Model;
 ///
 /// Beside them stands what finds their routes and neighbors without a search, and a number that the tables' size doesn't exceed and that
 /// each edit raises by what it can add, so that the tables are counted anew only where that number passes the room.
-#[derive(Drop)]
 pub struct Config {
     held: Tables,
     most: u32,
     digest: Digest,
     alloc: Global,
+}
+
+// The prover follows what a drop does here, once, and not at every way out past an owner.
+impl Drop for Config {
+    fn drop(self) {
+        let Config {
+            held: _,
+            most: _,
+            digest: _,
+            alloc: _,
+        } = self;
+    }
 }
 
 impl Model for Config {

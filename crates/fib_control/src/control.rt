@@ -51,7 +51,6 @@ use std::marker::Model;
 /// A change makes a version more and queues the prefixes that it touches; a turn restacks one of them, the targets of packets before those that
 /// lead to them. A scan lets go what no pass stands on any more, a retry stores what would have closed a cycle before, and then the version may be
 /// settled. Nothing of the tables is ever copied.
-#[derive(Drop)]
 pub struct Control<B: Board> {
     config: Config,
     room: u32,
@@ -62,6 +61,23 @@ pub struct Control<B: Board> {
     queue: Queue,
     done: Vec<Prefix>,
     alloc: Global,
+}
+
+// The prover follows what a drop does here, once, and not at every way out past an owner.
+impl<B: Board + Drop> Drop for Control<B> {
+    fn drop(self) {
+        let Control {
+            config: _,
+            room: _,
+            entries: _,
+            shared: _,
+            table: _,
+            stack: _,
+            queue: _,
+            done: _,
+            alloc: _,
+        } = self;
+    }
 }
 
 impl<B: Board> Model for Control<B> {

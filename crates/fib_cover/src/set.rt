@@ -12,11 +12,20 @@ use std::marker::Model;
 use std::ops::Bound;
 
 /// A set of prefixes. Contracts see it as the list of its members in order of bits, then length.
-#[derive(Drop)]
 pub struct PrefixSet {
     members: BTreeSet<Prefix>,
     /// For each length, whether a member may have it: look-ups pass over the other lengths.
     lengths: [bool; 33],
+}
+
+// The prover follows what a drop does here, once, and not at every way out past an owner.
+impl Drop for PrefixSet {
+    fn drop(self) {
+        let PrefixSet {
+            members: _,
+            lengths: _,
+        } = self;
+    }
 }
 
 impl Model for PrefixSet {

@@ -16,12 +16,23 @@ use std::collections::HashMap;
 use std::marker::Model;
 
 /// Tables with their covers, pairs and entries. Contracts see the tables.
-#[derive(Drop)]
 pub struct Known<'a> {
     covers: Covers<'a>,
     pairs: Ranked,
     entries: Vec<Prefix>,
     numbers: HashMap<Prefix, usize>,
+}
+
+// The prover follows what a drop does here, once, and not at every way out past an owner.
+impl Drop for Known<'_> {
+    fn drop(self) {
+        let Known {
+            covers: _,
+            pairs: _,
+            entries: _,
+            numbers: _,
+        } = self;
+    }
 }
 
 impl<'a> Model for Known<'a> {

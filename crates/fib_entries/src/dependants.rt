@@ -11,9 +11,15 @@ use std::alloc::{AllocError, Global};
 use std::marker::Model;
 
 /// Prefixes, each once, of which one is found, put in or taken out without a search. Contracts see their list.
-#[derive(Drop)]
 pub struct Dependants {
     held: IndexSet<Prefix>,
+}
+
+// The prover follows what a drop does here, once, and not at every way out past an owner.
+impl Drop for Dependants {
+    fn drop(self) {
+        let Dependants { held: _ } = self;
+    }
 }
 
 impl Model for Dependants {

@@ -43,7 +43,6 @@ use std::marker::Model;
 
 /// The effective entries of tables. Contracts see their rows in order, with the interned path-lists; `StandsFor` says of which tables
 /// they are.
-#[derive(Drop)]
 pub struct Entries {
     rows: Blocks<Row>,
     lists: PathLists,
@@ -52,6 +51,20 @@ pub struct Entries {
     exits: List<Prefix>,
     objects: u32,
     alloc: Global,
+}
+
+// The prover follows what a drop does here, once, and not at every way out past an owner.
+impl Drop for Entries {
+    fn drop(self) {
+        let Entries {
+            rows: _,
+            lists: _,
+            order: _,
+            exits: _,
+            objects: _,
+            alloc: _,
+        } = self;
+    }
 }
 
 impl Model for Entries {

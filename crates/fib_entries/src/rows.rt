@@ -8,7 +8,6 @@ use std::alloc::{AllocError, Global};
 use std::marker::Model;
 
 /// What is known of an entry beside its prefix.
-#[derive(Drop)]
 pub struct Body {
     /// Its sources with the numbers of their lists, the best first.
     pub pairs: List<(FibSource, PathListId)>,
@@ -22,6 +21,20 @@ pub struct Body {
     pub dependants: Dependants,
     /// A number that falls along each edge that isn't looped.
     pub rank: u32,
+}
+
+// The prover follows what a drop does here, once, and not at every way out past an owner.
+impl Drop for Body {
+    fn drop(self) {
+        let Body {
+            pairs: _,
+            looped: _,
+            met: _,
+            marked: _,
+            dependants: _,
+            rank: _,
+        } = self;
+    }
 }
 
 /// What is known of an entry. Only its prefix lies in the list of rows, so that little moves where a row comes or goes.

@@ -17,10 +17,16 @@ struct Held {
 
 /// Contents that are kept once, however many use them, each under a number that the caller chose. Contracts see them in the order of
 /// their places.
-#[derive(Drop)]
 pub struct Interned<T: Eq + Hash> {
     rows: IndexMap<T, Held>,
     places: HashMap<u64, usize>,
+}
+
+// The prover follows what a drop does here, once, and not at every way out past an owner.
+impl<T: Eq + Hash + Drop> Drop for Interned<T> {
+    fn drop(self) {
+        let Interned { rows: _, places: _ } = self;
+    }
 }
 
 impl<T: Eq + Hash> Model for Interned<T> {

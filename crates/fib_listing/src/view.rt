@@ -18,11 +18,21 @@ use std::collections::HashSet;
 use std::marker::Model;
 
 /// Tables with what is known of their entries, and those that forward. Contracts see the tables.
-#[derive(Drop)]
 pub struct View<'a> {
     tables: &'a Tables,
     entries: &'a Entries,
     forwarding: HashSet<Prefix>,
+}
+
+// The prover follows what a drop does here, once, and not at every way out past an owner.
+impl Drop for View<'_> {
+    fn drop(self) {
+        let View {
+            tables: _,
+            entries: _,
+            forwarding: _,
+        } = self;
+    }
 }
 
 impl<'a> Model for View<'a> {

@@ -13,12 +13,18 @@ const MOST: usize = 64;
 
 /// A set of members with keys of 64 bits, no two with one key. Contracts see the list of the members, the least key first, and for
 /// how many more there is room. No call takes memory but `reserve`.
-#[derive(Drop)]
 pub struct Ordered<T: Keyed> {
     /// None of them is empty.
     blocks: Vec<Block<T>>,
     /// Blocks to come.
     idle: Vec<Block<T>>,
+}
+
+// The prover follows what a drop does here, once, and not at every way out past an owner.
+impl<T: Keyed + Drop> Drop for Ordered<T> {
+    fn drop(self) {
+        let Ordered { blocks: _, idle: _ } = self;
+    }
 }
 
 impl<T: Keyed> Model for Ordered<T> {

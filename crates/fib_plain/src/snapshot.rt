@@ -24,13 +24,25 @@ use std::marker::Model;
 ///
 /// Making it takes a look-up or two for each pair, path and edge, and as many rounds over all paths as the longest chain of recursion
 /// has entries.
-#[derive(Drop)]
 pub struct Snapshot<'a> {
     known: Known<'a>,
     pub(crate) order: PrefixSet,
     pub(crate) macs: HashMap<Adjacency, Mac>,
     pub(crate) rows: Vec<List<PathFacts>>,
     pub(crate) marks: Vec<bool>,
+}
+
+// The prover follows what a drop does here, once, and not at every way out past an owner.
+impl Drop for Snapshot<'_> {
+    fn drop(self) {
+        let Snapshot {
+            known: _,
+            order: _,
+            macs: _,
+            rows: _,
+            marks: _,
+        } = self;
+    }
 }
 
 impl<'a> Model for Snapshot<'a> {

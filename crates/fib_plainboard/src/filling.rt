@@ -1,4 +1,4 @@
-//! A board that stands for the fresh tables, for tests here and in the crates above.
+//! A board that stands for the fresh tables, for tests in the crates above.
 //!
 //! 254 stores fill the cells, each ply before it is linked. 17 further ones grow a ply in object 20, below the root's cell 1, and one more puts
 //! the balance back that stood there.

@@ -112,10 +112,16 @@ impl Play<Tables, Known> for Ended {
 }
 
 /// The board and its passes as they are, for proofs alone.
-#[derive(Drop)]
 pub struct Memory {
     table: Table<Tables, Known, Room, Anything, Global>,
     seat: Seat<Tables, Known>,
+}
+
+// The prover follows what a drop does here, once, and not at every way out past an owner.
+impl Drop for Memory {
+    fn drop(self) {
+        let Memory { table: _, seat: _ } = self;
+    }
 }
 
 impl Model for Memory {

@@ -25,7 +25,6 @@ use std::alloc::{AllocError, Global};
 use std::marker::Model;
 
 /// A board whose words no other thread shares. Its passes are calls: a worker's number is out while its pass runs.
-#[derive(Drop)]
 pub struct PlainBoard {
     /// The version, the pass words, the claim word, and from 16 on the cells.
     words: Vec<u64>,
@@ -33,6 +32,19 @@ pub struct PlainBoard {
     passes: [Option<Running>; 8],
     objects: u32,
     workers: u32,
+}
+
+// The prover follows what a drop does here, once, and not at every way out past an owner.
+impl Drop for PlainBoard {
+    fn drop(self) {
+        let PlainBoard {
+            words: _,
+            memory: _,
+            passes: _,
+            objects: _,
+            workers: _,
+        } = self;
+    }
 }
 
 impl Model for PlainBoard {

@@ -29,7 +29,6 @@ use std::marker::Model;
 ///
 /// An object is counted once for each edge into it, current or retired, and once more while it is held: by `take` until `let_go`, or as the
 /// object of an adjacency record. One that is counted no more is cleared and given back in the call that took its last count.
-#[derive(Drop)]
 pub struct Plane<B: Board> {
     pub(crate) board: Counted<B>,
     union: Union,
@@ -37,6 +36,19 @@ pub struct Plane<B: Board> {
     table: AdjTable,
     /// The objects that are counted no more, while they wait for being cleared; with room for all.
     dying: Vec<u32>,
+}
+
+// The prover follows what a drop does here, once, and not at every way out past an owner.
+impl<B: Board + Drop> Drop for Plane<B> {
+    fn drop(self) {
+        let Plane {
+            board: _,
+            union: _,
+            pool: _,
+            table: _,
+            dying: _,
+        } = self;
+    }
 }
 
 impl<B: Board> Model for Plane<B> {

@@ -15,12 +15,18 @@ use std::marker::Model;
 
 /// Prefixes with their ranks, each once. Contracts see the list of them, the one that is taken first at its head, and for how many more
 /// there is room at least. No call takes memory but `reserve`.
-#[derive(Drop)]
 pub struct Queue {
     /// By prefix.
     ranks: Ordered<Queued>,
     /// By rank, then by prefix. What is taken next leaves at the front without a shift of those behind it.
     order: VecDeque<Queued>,
+}
+
+// The prover follows what a drop does here, once, and not at every way out past an owner.
+impl Drop for Queue {
+    fn drop(self) {
+        let Queue { ranks: _, order: _ } = self;
+    }
 }
 
 impl Model for Queue {

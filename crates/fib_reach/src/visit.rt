@@ -10,12 +10,23 @@ use std::marker::Model;
 ///
 /// The caller knows the edges: it begins at a node, and for each `next` node notes where the edges of it lead. No call but `new` takes
 /// memory. What a search saw bears its number, so nothing is cleared between two searches (but once in 2^64 of them).
-#[derive(Drop)]
 pub struct Search {
     marks: Vec<u64>,
     visit: u64,
     seen: Vec<u32>,
     done: usize,
+}
+
+// The prover follows what a drop does here, once, and not at every way out past an owner.
+impl Drop for Search {
+    fn drop(self) {
+        let Search {
+            marks: _,
+            visit: _,
+            seen: _,
+            done: _,
+        } = self;
+    }
 }
 
 impl Model for Search {

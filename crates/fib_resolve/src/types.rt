@@ -100,12 +100,23 @@ pub struct Route {
 }
 
 /// All that the commands have written. What it means stands in `specs/`, from `Pairs` on.
-#[derive(Drop)]
 pub struct Tables {
     pub interfaces: List<Interface>,
     pub addresses: List<Address>,
     pub neighbors: List<Neighbor>,
     pub routes: List<Route>,
+}
+
+// The prover follows what a drop does here, once, and not at every way out past an owner.
+impl Drop for Tables {
+    fn drop(self) {
+        let Tables {
+            interfaces: _,
+            addresses: _,
+            neighbors: _,
+            routes: _,
+        } = self;
+    }
 }
 
 impl Tables {

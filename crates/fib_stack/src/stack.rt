@@ -12,10 +12,16 @@ use std::alloc::Global;
 
 /// The buckets of entries, as far as they aren't in the plane: what is known of each prefix since its last turn, and which buckets are
 /// deferred.
-#[derive(Drop)]
 pub struct Stack {
     pub(crate) ledger: Ledger,
     pub(crate) late: Lates,
+}
+
+// The prover follows what a drop does here, once, and not at every way out past an owner.
+impl Drop for Stack {
+    fn drop(self) {
+        let Stack { ledger: _, late: _ } = self;
+    }
 }
 
 /// What a turn of an entry needs, made ready before its first put.

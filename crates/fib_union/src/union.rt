@@ -15,7 +15,6 @@ use std::marker::Model;
 
 /// The current edges between numbered objects of sixteen cells each, and copies of those that were replaced, each until it is passed for
 /// every worker. No call but `new` and `reserve` takes memory.
-#[derive(Drop)]
 pub struct Union {
     /// Where the edge of each cell leads.
     edges: Vec<Option<u32>>,
@@ -30,6 +29,21 @@ pub struct Union {
     /// Where copies led that have left, and that no call has answered yet.
     left: Vec<u32>,
     search: Search,
+}
+
+// The prover follows what a drop does here, once, and not at every way out past an owner.
+impl Drop for Union {
+    fn drop(self) {
+        let Union {
+            edges: _,
+            ins: _,
+            retired: _,
+            newest: _,
+            progress: _,
+            left: _,
+            search: _,
+        } = self;
+    }
 }
 
 impl Model for Union {
