@@ -2,8 +2,7 @@
 use Rattle.std.proofs.Common.{arith, ◌≡◌, ℕ, ◌<◌, ◌^◌, List, Some, None, ◌↔◌, map, ap, ◌∙◌, subst}
 use Rattle.std.specs.Prelude.{Contains, filter}
 use Rattle.std.proofs.lemmas.Bool.{ltb-true}
-use Rattle.std.proofs.lemmas.Bool.Decides.{nat_tests}
-use Rattle.fib_addr.specs.Prefixes.{Prefix, IsPrefix}
+use Rattle.fib_addr.specs.Prefixes.{Prefix}
 use Rattle.fib_addr.specs.Longest.{everything}
 use Rattle.fib_cover.specs.Covers.{ArePrefixes, IsLongestMatch}
 use Rattle.fib_cover.proofs.Sets.{match_is_longest, no_match_is_longest}

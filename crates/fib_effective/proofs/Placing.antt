@@ -1,6 +1,6 @@
 -- Maps from what stands in a list to its places, made from behind.
-use Rattle.std.proofs.Common.{arith, drop, take, get_or, ◌||◌, ◌++◌, ◌==◌, ◌≡◌, ℕ, ◌+◌, ◌-◌, ◌<◌, ◌≤◌, Bool, true, false, List, [], ◌∷◌, length, Option, Some, None, refl, sym, ◌∙◌, ap, cond, inl, inr}
-use Rattle.std.specs.Prelude.{IfSome, slice_get, find, option_map, nat_lt}
+use Rattle.std.proofs.Common.{arith, drop, take, get_or, ◌||◌, ◌++◌, ◌==◌, ◌≡◌, ℕ, ◌+◌, ◌-◌, ◌<◌, Bool, true, false, List, [], ◌∷◌, length, Option, Some, None, refl, sym, ◌∙◌, ap, cond, inl, inr}
+use Rattle.std.specs.Prelude.{IfSome, slice_get, find, option_map}
 use Rattle.std.specs.List.{position_from, list_any}
 use Rattle.std.proofs.lemmas.List.{take_more}
 use Rattle.std.proofs.lemmas.List.Folds.{list_any-append}

@@ -1,6 +1,6 @@
 // The prefixes that can be covers, and what the covers attach.
 ghost use Rattle.std.specs.Prelude.{◌≡◌, IfOk, filter, map};
-ghost use Rattle.fib_resolve.specs.Pairs.{attached_by, attached_of, cover, is_short, prefix_of};
+ghost use Rattle.fib_resolve.specs.Pairs.{base_pairs, attached_by, attached_of, cover, is_short, prefix_of};
 ghost use Rattle.fib_resolve.specs.Tables.{IsSound};
 
 use crate::base;
@@ -88,6 +88,13 @@ impl<'a> Covers<'a> {
         ensures sound { IsSound self.now }
     {
         self.tables
+    }
+
+    /// The pairs that depend on no cover, with repeats.
+    pub fn base_pairs(&self) -> &[Pair]
+        ensures { result.now ≡ base_pairs self.now }
+    {
+        self.base.pairs()
     }
 
     /// The longest prefix below 32 that contains the address.

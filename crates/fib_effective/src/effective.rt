@@ -1,9 +1,11 @@
 // The effective pairs and entries.
 ghost use Rattle.std.specs.Prelude.{◌≡◌, ◌++◌, OnOk, IfOk, map, flat_map};
-ghost use Rattle.fib_resolve.specs.Pairs.{neighbor_pairs, derived_pair, all_pairs, pairs, entries, prefix_of};
+ghost use Rattle.std.specs.Set.{unique_keys};
+ghost use Rattle.fib_resolve.specs.Pairs.{neighbor_pairs, derived_pair, base_pairs, same_pair, pairs, entries, prefix_of};
 
 use crate::covers::Covers;
 use crate::keyed::distinct_pairs;
+use crate::repeats::distinct;
 use crate::{base, paths};
 use fib_addr::{Addr, Prefix};
 use fib_resolve::{FibSource, Neighbor, Pair, PathKind};
@@ -76,25 +78,25 @@ fn add_derived(
     Ok(())
 }
 
-#[tactic(auto, unfolding(fib_resolve::specs::Pairs::all_pairs))]
-fn all_pairs(alloc: Global, covers: &Covers<'_>) -> Result<Vec<Pair>, AllocError>
-    ensures { IfOk result (λ v. v.items ≡ all_pairs covers.now) }
+/// The pairs that depend on covers: those of neighbors with repeats, and that of each next hop once.
+fn covered_pairs(alloc: Global, covers: &Covers<'_>) -> Result<Vec<Pair>, AllocError>
+    ensures { IfOk result (λ v. unique_keys same_pair (base_pairs covers.now ++ v.items) ≡ pairs covers.now) }
 {
     let tables = covers.tables();
     let hops = paths::recursive_hops(alloc, tables.routes.as_slice())?;
-    let mut out = base::base_pairs(alloc, tables)?;
+    let hops = distinct(alloc, hops.as_slice())?;
+    let mut out = Vec::new(alloc);
     add_neighbors(&mut out, alloc, covers)?;
     add_derived(&mut out, alloc, covers, hops.as_slice())?;
     Ok(out)
 }
 
 /// The effective pairs, each once.
-#[tactic(auto, unfolding(fib_resolve::specs::Pairs::pairs))]
 pub fn pairs(alloc: Global, covers: &Covers<'_>) -> Result<Vec<Pair>, AllocError>
     ensures { IfOk result (λ v. v.items ≡ pairs covers.now) }
 {
-    let all = all_pairs(alloc, covers)?;
-    distinct_pairs(alloc, all.as_slice())
+    let covered = covered_pairs(alloc, covers)?;
+    distinct_pairs(alloc, covers.base_pairs(), covered.as_slice())
 }
 
 /// The prefixes of the pairs.

@@ -1,5 +1,5 @@
 // Pairs without repeats.
-ghost use Rattle.std.specs.Prelude.{◌≡◌, IfOk};
+ghost use Rattle.std.specs.Prelude.{◌≡◌, ◌++◌, ◌+◌, ◌<◌, IfOk, Some, length, slice_get};
 ghost use Rattle.std.specs.Set.{unique_keys};
 ghost use Rattle.fib_resolve.specs.Pairs.{same_pair};
 
@@ -22,19 +22,17 @@ pub fn is_same_pair(x: &Pair, y: &Pair) -> bool
 
 /// A pair as a key of a set.
 #[derive(Drop)]
-struct PairKey(Pair);
+struct PairKey<'a>(&'a Pair);
 
-impl Model for PairKey {
+impl<'a> Model for PairKey<'a> {
     ghost use Rattle.fib_resolve.specs.declared.pairs.Pair.{Pair as PairValue};
 
     ghost Value = { PairValue };
 
-    ghost view = { λ s. s.0 };
-
-    ghost inverse = { λ x. record { 0 = x } };
+    ghost view = { λ s. s.0.now };
 }
 
-impl PartialEq for PairKey {
+impl PartialEq for PairKey<'_> {
     ghost use Rattle.std.specs.Cmp.{partial_equiv_from_equiv};
     ghost use Rattle.fib_resolve.proofs.Touching.{same_pair_equiv};
 
@@ -42,19 +40,19 @@ impl PartialEq for PairKey {
 
     ghost laws = { partial_equiv_from_equiv same_pair_equiv };
 
-    fn eq(&self, other: &PairKey) -> bool {
-        is_same_pair(&self.0, &other.0)
+    fn eq(&self, other: &PairKey<'_>) -> bool {
+        is_same_pair(self.0, other.0)
     }
 }
 
-impl Eq for PairKey {
+impl Eq for PairKey<'_> {
     ghost use Rattle.fib_resolve.proofs.Touching.{same_pair_equiv};
 
     ghost laws = { same_pair_equiv };
 }
 
 /// Pairs of one prefix and source differ in their first path, but for those of routes, of which there is one.
-impl Hash for PairKey {
+impl Hash for PairKey<'_> {
     ghost use Rattle.std.proofs.Common.{ap};
     ghost use Rattle.fib_resolve.proofs.Touching.{same_pair-Decides};
     ghost use Rattle.fib_effective.specs.inner.Places.{pair_hash};
@@ -75,15 +73,29 @@ impl Hash for PairKey {
     }
 }
 
-/// The pairs, each once: of those that are equal the last stays. Costs one look-up a pair.
-pub fn distinct_pairs(alloc: Global, pairs: &[Pair]) -> Result<Vec<Pair>, AllocError>
-    ensures { IfOk result (λ v. v.items ≡ unique_keys same_pair pairs.now) }
+/// The pair at that place of the first list, or behind it of the other.
+fn pair_at<'a>(pairs: &'a [Pair], more: &'a [Pair], place: usize) -> &'a Pair
+    requires { place < length pairs.now + length more.now }
+    ensures { slice_get (pairs.now ++ more.now) place ≡ Some result.now }
 {
-    let mut seen = HashSet::new(alloc);
+    match pairs.get(place) {
+        Some(pair) => pair,
+        None => &more[place - pairs.len()],
+    }
+}
+
+/// The pairs of both lists, each once: of those that are equal the last stays. Costs one look-up a pair, and a copy of each that stays.
+pub fn distinct_pairs(alloc: Global, pairs: &[Pair], more: &[Pair]) -> Result<Vec<Pair>, AllocError>
+    ensures { IfOk result (λ v. v.items ≡ unique_keys same_pair (pairs.now ++ more.now)) }
+{
+    let Some(count) = pairs.len().checked_add(more.len()) else {
+        return Err(AllocError);
+    };
+    let mut seen = HashSet::with_capacity(alloc, count)?;
     let mut out = Vec::new(alloc);
-    for i in (0..pairs.len()).rev() {
-        let pair = &pairs[i];
-        if seen.insert(PairKey(pair.duplicate(alloc)?))? {
+    for i in (0..count).rev() {
+        let pair = pair_at(pairs, more, i);
+        if seen.insert(PairKey(pair))? {
             out.push(pair.duplicate(alloc)?)?;
         }
     }

@@ -18,7 +18,7 @@ pub fn first_places<T: Copy + Eq + Hash + Drop>(
 ) -> Result<HashMap<T, usize>, AllocError>
     ensures { IfOk result (λ m. (x : T) → get T.eq m x ≡ position (T.eq x) items.now) }
 {
-    let mut places = HashMap::new(alloc);
+    let mut places = HashMap::with_capacity(alloc, items.len())?;
     for i in (0..items.len()).rev() {
         places.insert(items[i], i)?;
     }
@@ -42,7 +42,7 @@ fn better_place(pairs: &[Pair], first: usize, other: Option<usize>) -> usize
 pub fn best_places(alloc: Global, pairs: &[Pair]) -> Result<HashMap<Prefix, usize>, AllocError>
     ensures { IfOk result (λ m. AreBest pairs.now m) }
 {
-    let mut places = HashMap::new(alloc);
+    let mut places = HashMap::with_capacity(alloc, pairs.len())?;
     for i in (0..pairs.len()).rev() {
         let prefix = pairs[i].prefix;
         let found = places.get(&prefix).copied();

@@ -1,5 +1,4 @@
-use Rattle.std.proofs.Common.{arith, ◌≡◌, ◌∙◌, ap}
-use Rattle.std.specs.List.{list_any}
+use Rattle.std.proofs.Common.{◌∙◌, ap}
 use Rattle.fib_resolve.specs.Pairs.{is_address}
 use Rattle.fib_cover.proofs.Sets.{take_whole}
 use Rattle.fib_effective.proofs.Placing.{own_more}

@@ -1,8 +1,8 @@
-use Rattle.std.proofs.Common.{arith, ◌≡◌, ◌-◌, Some, sym, ◌∙◌, ap, subst, Option, ℕ, drop, length, get_or}
+use Rattle.std.proofs.Common.{arith, ◌-◌, Some, sym, ◌∙◌, ap, subst, Option, ℕ, drop, length, get_or}
 use Rattle.std.specs.Prelude.{IfSome, ◌<◌}
 use Rattle.std.specs.HashMap.{get}
 use Rattle.fib_addr.specs.Prefixes.{same_prefix}
-use Rattle.fib_resolve.specs.Pairs.{better, best_pair}
+use Rattle.fib_resolve.specs.Pairs.{better}
 use Rattle.fib_resolve.specs.declared.pairs.Pair.{Pair}
 use Rattle.fib_effective.specs.inner.Places.{pair_at}
 use Rattle.fib_effective.proofs.Backward.{front}
@@ -30,7 +30,7 @@ loop-i-preserved c =
 
 pub loop-i-init : goal.loop-i-init
 loop-i-init c =
-    let empty = c.new-places.ensures.empty in
+    let empty = c.in_ok-places.ensures.empty in
     record {
       inside = λ p. rw empty tt;
       best = λ p. rw empty (none_best c.args.pairs.now p);

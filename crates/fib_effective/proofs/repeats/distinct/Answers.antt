@@ -1,5 +1,5 @@
-use Rattle.std.proofs.Common.{arith, ◌≡◌, ◌-◌, Bool, true, false, not, sym, ◌∙◌, ap, subst}
-use Rattle.std.specs.Set.{is_member, unique_keys}
+use Rattle.std.proofs.Common.{arith, ◌≡◌, true, false, ◌∙◌, subst}
+use Rattle.std.specs.Set.{is_member}
 use Rattle.std.specs.List.Sorted.{IsPermutation}
 use Rattle.fib_effective.proofs.Backward.{front, not_there, there_already, added_keys, added_out, known_keys}
 use Rattle.fib_effective.proofs.repeats.distinct.Goals as goal

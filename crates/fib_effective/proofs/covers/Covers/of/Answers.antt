@@ -1,6 +1,6 @@
-use Rattle.std.proofs.Common.{◌∙◌, ap, subst, List}
-use Rattle.std.specs.Prelude.{Contains, filter, map}
-use Rattle.fib_resolve.specs.Pairs.{short_prefixes, is_short, prefix_of}
+use Rattle.std.proofs.Common.{◌∙◌, ap}
+use Rattle.std.specs.Prelude.{filter, map}
+use Rattle.fib_resolve.specs.Pairs.{is_short, prefix_of}
 use Rattle.fib_effective.proofs.Covering.{short_same}
 use Rattle.fib_effective.proofs.covers.Covers.of.Goals as goal
 

@@ -1,4 +1,4 @@
-use Rattle.std.proofs.Common.{sym, ◌∙◌, ap}
+use Rattle.std.proofs.Common.{◌∙◌, ap}
 use Rattle.fib_effective.specs.Numbers.{number_in}
 use Rattle.fib_effective.proofs.Numbers.{number_of_below}
 use Rattle.fib_effective.proofs.known.Known.number.Goals as goal
