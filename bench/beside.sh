@@ -6,8 +6,14 @@ beside() {
     work=$(mktemp -d)
     trap 'rm -rf "$work"' EXIT
     mkdir -p "$work/crates/measure/src"
-    names=$(for crate in "$@"; do sed -n "s/^$crate\( [^:]*\)\{0,1\}: / $crate /p" "$top/crates.txt"; done)
-    names=$(echo "$names" | tr ' ' '\n' | sort -u | tr '\n' ' ')
+    names=$*
+    fewer=
+    while [ "$names" != "$fewer" ]; do
+        fewer=$names
+        # (a library of the kit has no line)
+        names=$(for crate in $fewer; do echo "$crate"; sed -n "s/^$crate\( [^:]*\)\{0,1\}: //p" "$top/crates.txt"; done)
+        names=$(echo "$names" | tr ' ' '\n' | sort -u | tr '\n' ' ')
+    done
     for crate in $names; do
         if [ -d "$top/crates/$crate" ]; then
             mkdir "$work/crates/$crate"
