@@ -83,11 +83,11 @@ fn lead_of(view: &Snapshot<'_>, entry: Prefix, kind: &PathKind) -> Lead {
     match *kind {
         PathKind::Drop => Lead::End(End::Drop),
         PathKind::Local => Lead::End(End::Receive),
-        PathKind::Attached(interface) => Lead::End(view.attached_end(entry, interface)),
+        PathKind::Attached(interface) => Lead::End(view.meaning().attached_end(entry, interface)),
         PathKind::Hop {
             next_hop,
             interface,
-        } => Lead::End(view.hop_end(interface, next_hop)),
+        } => Lead::End(view.meaning().hop_end(interface, next_hop)),
         PathKind::Recursive(hop) => Lead::Entry(Prefix::host(hop)),
         PathKind::Cover => Lead::Entry(view.cover(entry.bits())),
     }

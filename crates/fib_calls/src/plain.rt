@@ -3,7 +3,7 @@
 ghost use Rattle.fib_resolve.specs.Tables.{IsSound};
 
 use fib_addr::{Addr, Prefix};
-use fib_plain::{Snapshot, ends, resolve, size, touched, usable};
+use fib_plain::{Meaning, Snapshot, ends, resolve, size, touched, usable};
 use fib_resolve::{End, Need, Tables};
 use std::alloc::{AllocError, Global};
 use std::test::Fail;
@@ -69,30 +69,14 @@ fn wants_nothing(alloc: Global, snapshot: &Snapshot) -> Result<bool, AllocError>
 }
 
 fn has_one_unusable_path(snapshot: &Snapshot) -> bool {
-    !snapshot.is_usable(everything(), 0)
-        && !snapshot.is_looped(everything(), 0)
-        && !snapshot.is_up(0)
-        && snapshot.is_met(Need::Host, INSIDE)
-}
-
-fn has_no_adjacency(alloc: Global, snapshot: &Snapshot) -> Result<bool, AllocError> {
-    Ok(snapshot.adjacencies(alloc)?.is_empty())
-}
-
-fn ends_on_links(snapshot: &Snapshot) -> bool {
-    let hop = snapshot.hop_end(0, INSIDE);
-    snapshot.mac_of(0, INSIDE).is_none()
-        && snapshot.attached_end(everything(), 0) == End::Glean(0)
-        && snapshot.attached_end(Prefix::host(INSIDE), 0) == hop
+    !snapshot.is_usable(everything(), 0) && !snapshot.is_looped(everything(), 0)
 }
 
 fn says_what_fresh_tables_say(alloc: Global, snapshot: &Snapshot) -> Result<bool, AllocError> {
     Ok(
         has_fixed_entries(snapshot)
             && has_one_unusable_path(snapshot)
-            && ends_on_links(snapshot)
-            && wants_nothing(alloc, snapshot)?
-            && has_no_adjacency(alloc, snapshot)?,
+            && wants_nothing(alloc, snapshot)?,
     )
 }
 
@@ -109,5 +93,62 @@ fn what_a_snapshot_says(rt: HostRuntime) -> Result<(), Fail> {
     let alloc = rt.alloc();
     let fresh = Tables::fresh(alloc);
     assert!(rt; says_of(alloc, &fresh)?);
+    Ok(())
+}
+
+fn has_fixed_pairs(meaning: &Meaning) -> bool {
+    meaning.best(INSIDE) == everything()
+        && meaning.cover(INSIDE) == everything()
+        && meaning.entries().len() == 5
+        && meaning.pairs().len() == 5
+        && meaning.chosen(everything()).len() == 1
+        && meaning.tables().routes.len() == 0
+}
+
+fn has_no_looped_path(meaning: &Meaning) -> bool {
+    match meaning.chosen(everything()) {
+        [path] => !meaning.is_looped(everything(), path),
+        _ => false,
+    }
+}
+
+fn meets_needs_of_none(meaning: &Meaning) -> bool {
+    !meaning.is_up(0) && meaning.is_met(Need::Host, INSIDE)
+}
+
+fn lists_what_it_has(alloc: Global, meaning: &Meaning) -> Result<bool, AllocError> {
+    Ok(meaning.listed(alloc)?.len() == 5 && meaning.adjacencies(alloc)?.is_empty())
+}
+
+fn ends_on_links(meaning: &Meaning) -> bool {
+    let hop = meaning.hop_end(0, INSIDE);
+    meaning.mac_of(0, INSIDE).is_none()
+        && meaning.attached_end(everything(), 0) == End::Glean(0)
+        && meaning.attached_end(Prefix::host(INSIDE), 0) == hop
+}
+
+fn means_what_fresh_tables_mean(alloc: Global, meaning: &Meaning) -> Result<bool, AllocError> {
+    Ok(
+        has_fixed_pairs(meaning)
+            && has_no_looped_path(meaning)
+            && meets_needs_of_none(meaning)
+            && ends_on_links(meaning)
+            && lists_what_it_has(alloc, meaning)?,
+    )
+}
+
+// The one owner of a meaning.
+fn means(alloc: Global, fresh: &Tables) -> Result<bool, AllocError>
+    requires { IsSound fresh.now }
+{
+    let meaning = Meaning::of(alloc, fresh)?;
+    Ok(means_what_fresh_tables_mean(alloc, &meaning)? && meaning.into_entries().len() == 5)
+}
+
+#[test]
+fn what_a_meaning_says(rt: HostRuntime) -> Result<(), Fail> {
+    let alloc = rt.alloc();
+    let fresh = Tables::fresh(alloc);
+    assert!(rt; means(alloc, &fresh)?);
     Ok(())
 }

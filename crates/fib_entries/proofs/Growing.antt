@@ -51,7 +51,7 @@ no_adjacency e kinds.Cover z h c = false≢true h
 prefix_same : (x y : Prefix) → same_prefix x y ≡ true → x ≡ y
 prefix_same x y = (same_prefix-Decides x y).0
 
-plies_half : (xs ys : List Prefix) → ((e : Prefix) → Contains xs e → Contains ys e) → (z : Prefix) → Contains (plies_list xs) z → Contains (plies_list ys) z
+pub plies_half : (xs ys : List Prefix) → ((e : Prefix) → Contains xs e → Contains ys e) → (z : Prefix) → Contains (plies_list xs) z → Contains (plies_list ys) z
 plies_half xs ys f z c = elim (in_cases everything z (flat_map plies_of xs) c) [
   | inl first ↦ in_front everything z (flat_map plies_of ys) first
   | inr later ↦ (let r = flat_map_from plies_of xs z later in in_rest everything z (flat_map plies_of ys) (Contains-flat_map plies_of ys r.0 z (f r.0 r.1) r.2))
@@ -65,7 +65,7 @@ count_entries : (U : Tables) → length (unique_keys same_prefix (map prefix_of 
 unfolding entries
 count_entries U = refl
 
-count_plies : (U : Tables) → length (unique_keys same_prefix (plies_list (entries U))) ≡ length (plies U)
+pub count_plies : (U : Tables) → length (unique_keys same_prefix (plies_list (entries U))) ≡ length (plies U)
 unfolding plies
 count_plies U = refl
 

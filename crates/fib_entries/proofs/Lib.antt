@@ -42,3 +42,4 @@ pub mod Leaving
 pub mod Arriving
 pub mod Joining
 pub mod Gaps
+pub mod Summing

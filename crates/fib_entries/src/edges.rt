@@ -9,7 +9,7 @@ ghost use Rattle.fib_entries.specs.inner.Edges.{AreEdgesOf, AddsPath, AddsPaths}
 
 use crate::parts::keeps;
 use fib_addr::Prefix;
-use fib_plain::Snapshot;
+use fib_plain::Meaning;
 use fib_resolve::PathKind;
 use std::alloc::{AllocError, Global};
 
@@ -26,12 +26,12 @@ fn place_of(order: &[Prefix], p: Prefix) -> Option<usize>
 }
 
 /// The entry to which a path leads.
-fn target_of(snapshot: &Snapshot<'_>, e: Prefix, kind: PathKind) -> Option<Prefix>
-    ensures { option_to_list result ≡ kind_targets snapshot.now e kind }
+fn target_of(meaning: &Meaning<'_>, e: Prefix, kind: PathKind) -> Option<Prefix>
+    ensures { option_to_list result ≡ kind_targets meaning.now e kind }
 {
     match kind {
         PathKind::Recursive(a) => Some(Prefix::host(a)),
-        PathKind::Cover => Some(snapshot.cover(e.bits())),
+        PathKind::Cover => Some(meaning.cover(e.bits())),
         _ => None,
     }
 }
@@ -39,7 +39,7 @@ fn target_of(snapshot: &Snapshot<'_>, e: Prefix, kind: PathKind) -> Option<Prefi
 /// Appends the edge of a path of the entry at that place.
 fn add_path(
     out: &mut Vec<(u32, u32)>,
-    snapshot: &Snapshot<'_>,
+    meaning: &Meaning<'_>,
     order: &[Prefix],
     from: usize,
     kind: PathKind,
@@ -47,9 +47,9 @@ fn add_path(
     requires ascending { IsAscending order.now }
     requires few { length order.now < 2 ^ 32 }
     requires inside { from < length order.now }
-    ensures { OnOk result ((e : PrefixValue) → slice_get order.now from ≡ Some e → AddsPath snapshot.now order.now from e kind out.old.items out.new.items) }
+    ensures { OnOk result ((e : PrefixValue) → slice_get order.now from ≡ Some e → AddsPath meaning.now order.now from e kind out.old.items out.new.items) }
 {
-    let Some(target) = target_of(snapshot, order[from], kind) else {
+    let Some(target) = target_of(meaning, order[from], kind) else {
         return Ok(());
     };
     let Some(to) = place_of(order, target) else {
@@ -62,17 +62,17 @@ fn add_path(
 /// Appends the edges of the entry at that place.
 fn add_paths(
     out: &mut Vec<(u32, u32)>,
-    snapshot: &Snapshot<'_>,
+    meaning: &Meaning<'_>,
     order: &[Prefix],
     from: usize,
 ) -> Result<(), AllocError>
     requires ascending { IsAscending order.now }
     requires few { length order.now < 2 ^ 32 }
     requires inside { from < length order.now }
-    ensures { OnOk result ((e : PrefixValue) → slice_get order.now from ≡ Some e → AddsPaths snapshot.now order.now from e (chosen snapshot.now e) out.old.items out.new.items) }
+    ensures { OnOk result ((e : PrefixValue) → slice_get order.now from ≡ Some e → AddsPaths meaning.now order.now from e (chosen meaning.now e) out.old.items out.new.items) }
 {
-    for p in snapshot.chosen(order[from]) {
-        add_path(out, snapshot, order, from, p.kind)?;
+    for p in meaning.chosen(order[from]) {
+        add_path(out, meaning, order, from, p.kind)?;
     }
     Ok(())
 }
@@ -80,16 +80,16 @@ fn add_paths(
 /// The edges, looped or not, with repeats.
 pub fn edges_of(
     alloc: Global,
-    snapshot: &Snapshot<'_>,
+    meaning: &Meaning<'_>,
     order: &[Prefix],
 ) -> Result<Vec<(u32, u32)>, AllocError>
     requires ascending { IsAscending order.now }
     requires few { length order.now < 2 ^ 32 }
-    ensures { IfOk result (λ v. AreEdgesOf snapshot.now order.now (length order.now) v.items) }
+    ensures { IfOk result (λ v. AreEdgesOf meaning.now order.now (length order.now) v.items) }
 {
     let mut out = Vec::new(alloc);
     for from in 0..order.len() {
-        add_paths(&mut out, snapshot, order, from)?;
+        add_paths(&mut out, meaning, order, from)?;
     }
     Ok(out)
 }
@@ -106,17 +106,17 @@ fn add_if(out: &mut Vec<(u32, u32)>, test: bool, edge: (u32, u32)) -> Result<(),
 /// Those of the edges that are left without looped paths.
 pub fn kept_of(
     alloc: Global,
-    snapshot: &Snapshot<'_>,
+    meaning: &Meaning<'_>,
     order: &[Prefix],
     edges: &[(u32, u32)],
 ) -> Result<Vec<(u32, u32)>, AllocError>
-    requires edges { AreEdgesOf snapshot.now order.now (length order.now) edges.now }
-    ensures { IfOk result (λ v. AreKeptEdges snapshot.now order.now (length order.now) v.items) }
+    requires edges { AreEdgesOf meaning.now order.now (length order.now) edges.now }
+    ensures { IfOk result (λ v. AreKeptEdges meaning.now order.now (length order.now) v.items) }
 {
     let mut out = Vec::new(alloc);
     for place in 0..edges.len() {
         let edge = edges[place];
-        let kept = keeps(snapshot, order[edge.0 as usize], order[edge.1 as usize]);
+        let kept = keeps(meaning, order[edge.0 as usize], order[edge.1 as usize]);
         add_if(&mut out, kept, edge)?;
     }
     Ok(out)

@@ -29,6 +29,7 @@ use crate::leaf::{ready, top_rank};
 use crate::look::row;
 use crate::plies::{beyond, lowered, own_size, raised};
 use crate::rows::Row;
+use crate::sizes::size_of;
 use crate::{ends, whole};
 use fib_addr::{Addr, Prefix};
 use fib_blocks::Blocks;
@@ -36,7 +37,7 @@ use fib_changes::Change;
 use fib_cover::PrefixSet;
 use fib_list::List;
 use fib_paths::{PathListId, PathLists};
-use fib_plain::Snapshot;
+use fib_plain::Meaning;
 use fib_resolve::{FibSource, Marked, Path, Tables};
 use std::alloc::{AllocError, Global};
 use std::marker::Model;
@@ -92,16 +93,16 @@ impl Entries {
         requires { IsSound tables.now }
         ensures { IfOk result (λ v. StandsFor v tables.now) }
     {
-        let snapshot = Snapshot::new(alloc, tables)?;
-        let order = PrefixSet::of(alloc, snapshot.entries())?;
-        let listed = order.listed(alloc)?;
+        let meaning = Meaning::of(alloc, tables)?;
+        let listed = meaning.listed(alloc)?;
         let mut lists = PathLists::new(alloc);
-        let ids = take_all(alloc, &mut lists, snapshot.pairs())?;
+        let ids = take_all(alloc, &mut lists, meaning.pairs())?;
         let _count = lists.count();
-        let made = whole::rows_anew(alloc, &snapshot, &lists, ids.as_slice(), listed.as_slice())?;
+        let made = whole::rows_anew(alloc, &meaning, &lists, ids.as_slice(), listed.as_slice())?;
         let rows = Blocks::of(alloc, made)?;
         let exits = ends::exits_of(alloc, &rows)?;
-        let objects = snapshot.size(alloc)?;
+        let objects = size_of(alloc, &meaning, listed.as_slice())?;
+        let order = meaning.into_entries();
         Ok(Entries {
             rows,
             lists,

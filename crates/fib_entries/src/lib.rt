@@ -25,6 +25,7 @@ mod plies;
 mod ranks;
 mod replace;
 mod rows;
+mod sizes;
 mod waking;
 mod whole;
 

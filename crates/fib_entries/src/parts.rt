@@ -15,7 +15,7 @@ use fib_addr::Prefix;
 use fib_effective::first_places;
 use fib_list::List;
 use fib_paths::{PathListId, PathLists};
-use fib_plain::Snapshot;
+use fib_plain::Meaning;
 use fib_resolve::{Aim, End, FibSource, Marked, Pair, Path, PathKind};
 use std::alloc::{AllocError, Global};
 use std::collections::HashMap;
@@ -23,7 +23,7 @@ use std::collections::HashMap;
 /// What rows are made from: what the tables mean, and the pairs' lists with their numbers.
 #[derive(Clone, Copy)]
 pub struct Parts<'a> {
-    pub snapshot: &'a Snapshot<'a>,
+    pub meaning: &'a Meaning<'a>,
     pub lists: &'a PathLists,
     /// The number of each pair's list.
     pub ids: &'a [PathListId],
@@ -68,7 +68,7 @@ pub fn places_of(alloc: Global, pairs: &[Pair]) -> Result<HashMap<(Prefix, u8), 
 /// The place of the prefix's pair of that source.
 fn place_of(parts: Parts<'_>, prefix: Prefix, source: FibSource) -> Option<usize>
     requires { AreParts parts }
-    ensures place { result ≡ position (λ x. same_prefix prefix x.prefix && same_source source x.source) (pairs parts.entry.snapshot.now) }
+    ensures place { result ≡ position (λ x. same_prefix prefix x.prefix && same_source source x.source) (pairs parts.entry.meaning.now) }
     ensures inside { IfSome result (λ k. k < length parts.entry.ids.now) }
 {
     parts.places.get(&(prefix, source.rank())).copied()
@@ -81,7 +81,7 @@ pub fn held_of(
     prefix: Prefix,
 ) -> Result<List<(FibSource, PathListId)>, AllocError>
     requires { AreParts parts }
-    ensures { IfOk result (λ v. ArePicked prefix (pairs parts.entry.snapshot.now) parts.entry.ids.now 7 v) }
+    ensures { IfOk result (λ v. ArePicked prefix (pairs parts.entry.meaning.now) parts.entry.ids.now 7 v) }
 {
     let ids = parts.ids;
     let mut out = List::new(alloc);
@@ -94,76 +94,99 @@ pub fn held_of(
     Ok(out)
 }
 
+/// Whether the path, which stands at that place of the chosen list, is looped.
+fn is_looped_at(meaning: &Meaning<'_>, e: Prefix, place: usize, p: &Path) -> bool
+    requires { slice_get (chosen meaning.now e) place ≡ Some p.now }
+    ensures { result ≡ looped_kind meaning.now e p.now.kind }
+{
+    let _place = place;
+    meaning.is_looped(e, p)
+}
+
 /// A mark for each path of the chosen list.
-pub fn marks_of(alloc: Global, snapshot: &Snapshot<'_>, e: Prefix) -> Result<List<bool>, AllocError>
-    ensures { IfOk result (λ v. v ≡ map (λ p. looped_kind snapshot.now e p.kind) (chosen snapshot.now e)) }
+pub fn marks_of(
+    alloc: Global,
+    meaning: &Meaning<'_>,
+    e: Prefix,
+    paths: &[Path],
+) -> Result<List<bool>, AllocError>
+    requires { paths.now ≡ chosen meaning.now e }
+    ensures { IfOk result (λ v. v ≡ map (λ p. looped_kind meaning.now e p.kind) (chosen meaning.now e)) }
 {
     let mut out = List::new(alloc);
-    for place in 0..snapshot.chosen(e).len() {
-        out.push(snapshot.is_looped(e, place))?;
+    for place in 0..paths.len() {
+        out.push(is_looped_at(meaning, e, place, &paths[place]))?;
     }
     Ok(out)
 }
 
-fn is_met_by(snapshot: &Snapshot<'_>, p: &Path) -> bool
-    ensures { result ≡ kind_met snapshot.now p.now.need p.now.kind }
+fn is_met_by(meaning: &Meaning<'_>, p: &Path) -> bool
+    ensures { result ≡ kind_met meaning.now p.now.need p.now.kind }
 {
     match p.kind {
-        PathKind::Recursive(a) => snapshot.is_met(p.need, a),
+        PathKind::Recursive(a) => meaning.is_met(p.need, a),
         _ => true,
     }
 }
 
 /// For each path of the chosen list, whether its need is met.
-pub fn mets_of(alloc: Global, snapshot: &Snapshot<'_>, e: Prefix) -> Result<List<bool>, AllocError>
-    ensures { IfOk result (λ v. v ≡ map (λ p. kind_met snapshot.now p.need p.kind) (chosen snapshot.now e)) }
+pub fn mets_of(
+    alloc: Global,
+    meaning: &Meaning<'_>,
+    e: Prefix,
+    paths: &[Path],
+) -> Result<List<bool>, AllocError>
+    requires { paths.now ≡ chosen meaning.now e }
+    ensures { IfOk result (λ v. v ≡ map (λ p. kind_met meaning.now p.need p.kind) (chosen meaning.now e)) }
 {
+    let _entry = e;
     let mut out = List::new(alloc);
-    for p in snapshot.chosen(e) {
-        out.push(is_met_by(snapshot, p))?;
+    for p in paths {
+        out.push(is_met_by(meaning, p))?;
     }
     Ok(out)
 }
 
 /// What a path is for.
-fn aim_of(snapshot: &Snapshot<'_>, e: Prefix, kind: PathKind) -> Aim
-    ensures { result ≡ kind_aim snapshot.now e kind }
+fn aim_of(meaning: &Meaning<'_>, e: Prefix, kind: PathKind) -> Aim
+    ensures { result ≡ kind_aim meaning.now e kind }
 {
     match kind {
         PathKind::Drop => Aim::Ends(End::Drop),
         PathKind::Local => Aim::Ends(End::Receive),
-        PathKind::Attached(interface) => Aim::Ends(snapshot.attached_end(e, interface)),
+        PathKind::Attached(interface) => Aim::Ends(meaning.attached_end(e, interface)),
         PathKind::Hop {
             next_hop,
             interface,
-        } => Aim::Ends(snapshot.hop_end(interface, next_hop)),
+        } => Aim::Ends(meaning.hop_end(interface, next_hop)),
         PathKind::Recursive(a) => Aim::On(Prefix::host(a)),
-        PathKind::Cover => Aim::On(snapshot.cover(e.bits())),
+        PathKind::Cover => Aim::On(meaning.cover(e.bits())),
     }
 }
 
 /// Whether a path is usable where its aim, if it is an entry, forwards.
-fn does_count(snapshot: &Snapshot<'_>, e: Prefix, place: usize, p: &Path) -> bool
-    requires { slice_get (chosen snapshot.now e) place ≡ Some p.now }
-    ensures { result ≡ kind_counts snapshot.now e p.now.need p.now.kind }
+fn does_count(meaning: &Meaning<'_>, e: Prefix, p: &Path, looped: bool) -> bool
+    requires { looped ≡ looped_kind meaning.now e p.now.kind }
+    ensures { result ≡ kind_counts meaning.now e p.now.need p.now.kind }
 {
+    let _entry = e;
     match p.kind {
         PathKind::Drop => false,
         PathKind::Local => true,
-        PathKind::Attached(interface) => snapshot.is_up(interface),
-        PathKind::Hop { interface, .. } => snapshot.is_up(interface),
-        PathKind::Recursive(a) => !snapshot.is_looped(e, place) && snapshot.is_met(p.need, a),
+        PathKind::Attached(interface) => meaning.is_up(interface),
+        PathKind::Hop { interface, .. } => meaning.is_up(interface),
+        PathKind::Recursive(a) => !looped && meaning.is_met(p.need, a),
         PathKind::Cover => true,
     }
 }
 
-fn marked(snapshot: &Snapshot<'_>, e: Prefix, place: usize, p: &Path) -> Marked
-    requires { slice_get (chosen snapshot.now e) place ≡ Some p.now }
-    ensures { result ≡ marked snapshot.now e p.now }
+fn marked(meaning: &Meaning<'_>, e: Prefix, p: &Path, looped: bool) -> Marked
+    requires { looped ≡ looped_kind meaning.now e p.now.kind }
+    ensures { result ≡ marked meaning.now e p.now }
 {
     Marked {
-        aim: aim_of(snapshot, e, p.kind),
-        counts: does_count(snapshot, e, place, p),
+        aim: aim_of(meaning, e, p.kind),
+        counts: does_count(meaning, e, p, looped),
         weight: p.weight,
         preference: p.preference,
     }
@@ -172,16 +195,19 @@ fn marked(snapshot: &Snapshot<'_>, e: Prefix, place: usize, p: &Path) -> Marked
 /// The marks of the chosen list's paths, each beside whether its need is met: the toolchain proves no `push` of a mark alone.
 fn marks_and_needs(
     alloc: Global,
-    snapshot: &Snapshot<'_>,
+    meaning: &Meaning<'_>,
     e: Prefix,
+    paths: &[Path],
+    looped: &[bool],
 ) -> Result<Vec<(Marked, bool)>, AllocError>
-    ensures { IfOk result (λ v. v.items ≡ map (λ p. (marked snapshot.now e p, kind_met snapshot.now p.need p.kind)) (chosen snapshot.now e)) }
+    requires paths { paths.now ≡ chosen meaning.now e }
+    requires looped { looped.now ≡ map (λ p. looped_kind meaning.now e p.kind) (chosen meaning.now e) }
+    ensures { IfOk result (λ v. v.items ≡ map (λ p. (marked meaning.now e p, kind_met meaning.now p.need p.kind)) (chosen meaning.now e)) }
 {
-    let paths = snapshot.chosen(e);
     let mut out = Vec::new(alloc);
     for place in 0..paths.len() {
         let p = &paths[place];
-        out.push((marked(snapshot, e, place, p), is_met_by(snapshot, p)))?;
+        out.push((marked(meaning, e, p, looped[place]), is_met_by(meaning, p)))?;
     }
     Ok(out)
 }
@@ -196,42 +222,49 @@ fn marks_alone(alloc: Global, marks: &[(Marked, bool)]) -> Result<Vec<Marked>, A
 #[tactic(auto, unfolding(fib_resolve::specs::Aims::marked_list))]
 pub fn marked_of(
     alloc: Global,
-    snapshot: &Snapshot<'_>,
+    meaning: &Meaning<'_>,
     e: Prefix,
+    paths: &[Path],
+    looped: &[bool],
 ) -> Result<List<Marked>, AllocError>
-    ensures { IfOk result (λ v. v ≡ marked_list snapshot.now e) }
+    requires paths { paths.now ≡ chosen meaning.now e }
+    requires looped { looped.now ≡ map (λ p. looped_kind meaning.now e p.kind) (chosen meaning.now e) }
+    ensures { IfOk result (λ v. v ≡ marked_list meaning.now e) }
 {
-    let both = marks_and_needs(alloc, snapshot, e)?;
+    let both = marks_and_needs(alloc, meaning, e, paths, looped)?;
     let marks = marks_alone(alloc, both.as_slice())?;
     Ok(List::from_vec(marks))
 }
 
 /// Whether the path of d leads to e.
-fn leads(snapshot: &Snapshot<'_>, d: Prefix, p: &Path, e: Prefix) -> bool
-    ensures { result ≡ is_member same_prefix (kind_targets snapshot.now d p.now.kind) e }
+fn leads(meaning: &Meaning<'_>, d: Prefix, p: &Path, e: Prefix) -> bool
+    ensures { result ≡ is_member same_prefix (kind_targets meaning.now d p.now.kind) e }
 {
     match p.kind {
         PathKind::Recursive(a) => is_same(e, Prefix::host(a)),
-        PathKind::Cover => is_same(e, snapshot.cover(d.bits())),
+        PathKind::Cover => is_same(e, meaning.cover(d.bits())),
         _ => false,
     }
 }
 
 /// Whether the path at that place of e's list isn't looped and leads to t.
-fn keeps_at(snapshot: &Snapshot<'_>, e: Prefix, t: Prefix, place: usize, p: &Path) -> bool
-    requires { slice_get (chosen snapshot.now e) place ≡ Some p.now }
-    ensures { result ≡ (is_kept snapshot.now e p.now.kind && is_member same_prefix (kind_targets snapshot.now e p.now.kind) t) }
+fn keeps_at(meaning: &Meaning<'_>, e: Prefix, t: Prefix, place: usize, p: &Path) -> bool
+    requires { slice_get (chosen meaning.now e) place ≡ Some p.now }
+    ensures { result ≡ (is_kept meaning.now e p.now.kind && is_member same_prefix (kind_targets meaning.now e p.now.kind) t) }
 {
-    !snapshot.is_looped(e, place) && leads(snapshot, e, p, t)
+    if !leads(meaning, e, p, t) {
+        return false;
+    }
+    !is_looped_at(meaning, e, place, p)
 }
 
 /// Whether e has an edge to t that is left without looped paths.
-pub fn keeps(snapshot: &Snapshot<'_>, e: Prefix, t: Prefix) -> bool
-    ensures { result ≡ wakes snapshot.now e t }
+pub fn keeps(meaning: &Meaning<'_>, e: Prefix, t: Prefix) -> bool
+    ensures { result ≡ wakes meaning.now e t }
 {
-    let paths = snapshot.chosen(e);
+    let paths = meaning.chosen(e);
     for place in 0..paths.len() {
-        if keeps_at(snapshot, e, t, place, &paths[place]) {
+        if keeps_at(meaning, e, t, place, &paths[place]) {
             return true;
         }
     }

@@ -7,47 +7,30 @@ use crate::rows::Row;
 use fib_addr::Prefix;
 use fib_blocks::Blocks;
 
-/// Whether the ply at that depth on the way to the first prefix is on the way to the second too.
-fn is_on_way(p: Prefix, depth: u8, e: Prefix) -> bool
+/// Whether the ply at that depth on the way to the prefix is on the way to the other too, where there is one.
+fn is_on_way(p: Prefix, depth: u8, other: &Option<Prefix>) -> bool
     requires { depth < 8 }
-    ensures { result ≡ is_on_way p depth (Some e) }
+    ensures { result ≡ is_on_way p depth other.now }
 {
-    4 * depth < e.len()
-        && is_same(
-            Prefix::masked(p.bits(), 4 * depth),
-            Prefix::masked(e.bits(), 4 * depth),
-        )
-}
-
-/// The same of the row at that place, if there is one.
-fn is_on_way_to(rows: &Blocks<Row>, place: usize, p: Prefix, depth: u8) -> bool
-    requires { depth < 8 }
-    ensures { result ≡ is_on_way p depth (entry_at rows.now place) }
-{
-    match rows.get(place) {
-        Some(r) => is_on_way(p, depth, r.prefix),
+    match other {
+        Some(e) => {
+            let e = *e;
+            4 * depth < e.len()
+                && is_same(
+                    Prefix::masked(p.bits(), 4 * depth),
+                    Prefix::masked(e.bits(), 4 * depth),
+                )
+        }
         None => false,
     }
 }
 
-/// The same of the row before that place.
-fn is_on_way_before(rows: &Blocks<Row>, place: usize, p: Prefix, depth: u8) -> bool
-    requires { depth < 8 }
-    ensures { result ≡ is_on_way p depth (entry_before rows.now place) }
-{
-    if place == 0 {
-        false
-    } else {
-        is_on_way_to(rows, place - 1, p, depth)
-    }
-}
-
 /// Whether it is on the way to neither of the two, and isn't that of all addresses.
-fn is_own(rows: &Blocks<Row>, before: usize, after: usize, p: Prefix, depth: u8) -> bool
+fn is_own(p: Prefix, before: &Option<Prefix>, after: &Option<Prefix>, depth: u8) -> bool
     requires { depth < 8 }
-    ensures { result ≡ is_own p (entry_before rows.now before) (entry_at rows.now after) depth }
+    ensures { result ≡ is_own p before.now after.now depth }
 {
-    0 < depth && !(is_on_way_before(rows, before, p, depth) || is_on_way_to(rows, after, p, depth))
+    0 < depth && !(is_on_way(p, depth, before) || is_on_way(p, depth, after))
 }
 
 fn unit(is: bool) -> u32
@@ -57,16 +40,37 @@ fn unit(is: bool) -> u32
     if is { 1 } else { 0 }
 }
 
-/// How many plies on the way to the prefix are on the way to neither of the two rows.
-fn own_plies(rows: &Blocks<Row>, before: usize, after: usize, p: Prefix) -> u32
-    ensures plies { result ≡ own_below p (entry_before rows.now before) (entry_at rows.now after) ((p.len + 3) / 4) }
+/// How many plies on the way to the prefix are on the way to neither of the two.
+pub fn own_plies(p: Prefix, before: &Option<Prefix>, after: &Option<Prefix>) -> u32
+    ensures plies { result ≡ own_below p before.now after.now ((p.len + 3) / 4) }
     ensures few { result ≤ 8 }
 {
     let mut plies = 0u32;
     for depth in 0..(p.len() + 3) / 4 {
-        plies += unit(is_own(rows, before, after, p, depth));
+        plies += unit(is_own(p, before, after, depth));
     }
     plies
+}
+
+/// The prefix of the row at that place, if there is one.
+fn entry_at(rows: &Blocks<Row>, place: usize) -> Option<Prefix>
+    ensures { result ≡ entry_at rows.now place }
+{
+    match rows.get(place) {
+        Some(r) => Some(r.prefix),
+        None => None,
+    }
+}
+
+/// That of the row before that place.
+fn entry_before(rows: &Blocks<Row>, place: usize) -> Option<Prefix>
+    ensures { result ≡ entry_before rows.now place }
+{
+    if place == 0 {
+        None
+    } else {
+        entry_at(rows, place - 1)
+    }
 }
 
 /// How many objects the prefix's entry makes: itself, and the plies on the way to it that are on the way neither to the row before the
@@ -75,7 +79,7 @@ pub fn own_size(rows: &Blocks<Row>, before: usize, after: usize, p: Prefix) -> u
     ensures size { result ≡ own_size p (entry_before rows.now before) (entry_at rows.now after) }
     ensures few { result ≤ 9 }
 {
-    own_plies(rows, before, after, p) + 1
+    own_plies(p, &entry_before(rows, before), &entry_at(rows, after)) + 1
 }
 
 /// The objects without those, where they were told exactly and are few enough then.

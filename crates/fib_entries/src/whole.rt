@@ -19,7 +19,7 @@ use crate::rows::{Body, Row};
 use fib_addr::Prefix;
 use fib_list::List;
 use fib_paths::{PathListId, PathLists};
-use fib_plain::Snapshot;
+use fib_plain::Meaning;
 use fib_reach::Graph;
 use std::alloc::{AllocError, Global};
 
@@ -33,19 +33,22 @@ fn row_at(
 ) -> Result<Row, AllocError>
     requires parts { AreParts parts }
     requires once { AllDiffer dependants }
-    requires all { (d : PrefixValue) → Contains dependants d ↔ Contains (targets parts.snapshot.now d) prefix }
-    ensures row { IfOk result (λ r. IsRow parts.entry.lists.now parts.entry.snapshot.now r) }
+    requires all { (d : PrefixValue) → Contains dependants d ↔ Contains (targets parts.meaning.now d) prefix }
+    ensures row { IfOk result (λ r. IsRow parts.entry.lists.now parts.entry.meaning.now r) }
     ensures own { IfOk result (λ r. (r.prefix ≡ prefix) × (r.rank ≡ rank)) }
 {
     let _count = parts.lists.count();
     // Read so that the proof knows that it is a prefix.
     let _len = prefix.len();
     let set = Dependants::of(alloc, dependants.as_slice())?;
+    let paths = parts.meaning.chosen(prefix);
+    let looped = parts::marks_of(alloc, parts.meaning, prefix, paths)?;
+    let marked = parts::marked_of(alloc, parts.meaning, prefix, paths, looped.as_slice())?;
     let body = Body {
         pairs: parts::held_of(alloc, parts, prefix)?,
-        looped: parts::marks_of(alloc, parts.snapshot, prefix)?,
-        met: parts::mets_of(alloc, parts.snapshot, prefix)?,
-        marked: parts::marked_of(alloc, parts.snapshot, prefix)?,
+        looped,
+        met: parts::mets_of(alloc, parts.meaning, prefix, paths)?,
+        marked,
         dependants: set,
         rank,
     };
@@ -66,10 +69,10 @@ fn rows_of(
     requires ascending { IsAscending order.now }
     requires few { length order.now < 2 ^ 32 }
     requires ranks { length ranks.now ≡ length order.now }
-    requires edges { AreEdgesOf parts.snapshot.now order.now (length order.now) edges.now }
+    requires edges { AreEdgesOf parts.meaning.now order.now (length order.now) edges.now }
     requires back { AreSourcesIn (length order.now) edges.now back.now }
-    requires same { (e : PrefixValue) → Contains order.now e ↔ Contains (entries parts.snapshot.now) e }
-    ensures { IfOk result (λ v. AreRows parts.entry.lists.now parts.entry.snapshot.now order.now ranks.now (length order.now) v.items) }
+    requires same { (e : PrefixValue) → Contains order.now e ↔ Contains (entries parts.meaning.now) e }
+    ensures { IfOk result (λ v. AreRows parts.entry.lists.now parts.entry.meaning.now order.now ranks.now (length order.now) v.items) }
 {
     let _edges = edges;
     let mut out = Vec::new(alloc);
@@ -83,28 +86,28 @@ fn rows_of(
 /// The rows of the entries in this order, with ranks that fall along each edge that isn't looped.
 pub fn rows_anew(
     alloc: Global,
-    snapshot: &Snapshot<'_>,
+    meaning: &Meaning<'_>,
     lists: &PathLists,
     ids: &[PathListId],
     order: &[Prefix],
 ) -> Result<Vec<Row>, AllocError>
-    requires sound { IsSound snapshot.now }
-    requires taken { AreTaken lists.now (pairs snapshot.now) ids.now }
+    requires sound { IsSound meaning.now }
+    requires taken { AreTaken lists.now (pairs meaning.now) ids.now }
     requires ascending { IsAscending order.now }
-    requires same { (e : PrefixValue) → Contains order.now e ↔ Contains (entries snapshot.now) e }
-    ensures { IfOk result (λ v. AreAnew lists.now snapshot.now order.now v.items) }
+    requires same { (e : PrefixValue) → Contains order.now e ↔ Contains (entries meaning.now) e }
+    ensures { IfOk result (λ v. AreAnew lists.now meaning.now order.now v.items) }
 {
     let Ok(nodes) = u32::try_from(order.len()) else {
         return Err(AllocError);
     };
-    let edges = edges_of(alloc, snapshot, order)?;
+    let edges = edges_of(alloc, meaning, order)?;
     let edges = edges.as_slice();
-    let kept = kept_of(alloc, snapshot, order, edges)?;
+    let kept = kept_of(alloc, meaning, order, edges)?;
     let ranks = ranks(alloc, nodes, kept.as_slice())?;
     let back = backward(alloc, nodes, edges)?;
-    let places = parts::places_of(alloc, snapshot.pairs())?;
+    let places = parts::places_of(alloc, meaning.pairs())?;
     let parts = Parts {
-        snapshot,
+        meaning,
         lists,
         ids,
         places: &places,

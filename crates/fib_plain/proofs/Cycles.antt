@@ -1,5 +1,5 @@
 -- The edges as a list of pairs, and those of them that lie on cycles.
-use Rattle.std.proofs.Common.{arith, ◌≡◌, ℕ, zero, suc, ◌+◌, ◌-◌, ◌<◌, ◌≤◌, Bool, true, false, ◌==◌, ◌&&◌, ◌||◌, List, [], ◌∷◌, ◌++◌, map, take, length, get_or, Option, Some, None, ◌⊎◌, inl, inr, refl, sym, ◌∙◌, ap, subst, ◌↔◌, cond, append_assoc}
+use Rattle.std.proofs.Common.{arith, ◌≡◌, ℕ, zero, suc, ◌+◌, ◌-◌, ◌<◌, ◌≤◌, Bool, true, false, ◌==◌, ◌&&◌, ◌||◌, List, [], ◌∷◌, ◌++◌, map, take, length, get_or, Some, inl, inr, refl, sym, ◌∙◌, ap, subst, cond, append_assoc}
 use Rattle.std.specs.Prelude.{All, Contains, IsTrue, slice_get, slice_index_or}
 use Rattle.std.proofs.lemmas.Bool.{false≢true, cases_eq}
 use Rattle.std.proofs.lemmas.Bool.Decides.{Decides-eqb}
@@ -10,8 +10,8 @@ use Rattle.std.specs.List.{AllByRecursion}
 use Rattle.fib_list.proofs.Lists.{either, Contains-nil, each-append, each-map, each-weaker}
 use Rattle.fib_resolve.proofs.PairLaws.{each-all}
 use Rattle.fib_list.proofs.Booleans.{and_both}
-use Rattle.fib_reach.specs.Walks.{Walk, Leads, Reaches, Among}
-use Rattle.fib_reach.specs.Graphs.{Edge, next_of}
+use Rattle.fib_reach.specs.Walks.{Walk, Among}
+use Rattle.fib_reach.specs.Graphs.{Edge}
 use Rattle.fib_reach.proofs.Walking.{leads_iff}
 use Rattle.fib_cover.proofs.Sets.{take_whole}
 use Rattle.fib_loops.specs.Loops.{IsLooped, IsMarked, Marked}
@@ -23,9 +23,8 @@ use Rattle.fib_resolve.specs.declared.types.PathKind.TheVariants as kinds
 use Rattle.fib_resolve.specs.declared.types.Tables.{Tables}
 use Rattle.fib_effective.specs.Numbers.{number_in}
 use Rattle.fib_plain.specs.inner.Rows.{goal_number, next_numbers, graph_of, edges_from, edges_of, same_edge, has_edge, AreMarked, AreLooped}
-use Rattle.fib_plain.proofs.Edges.{Led, looped_by, looped_none, row_is, next_below}
+use Rattle.fib_plain.proofs.Edges.{looped_by, row_is, next_below}
 use Rattle.fib_effective.proofs.Members.{in_cases, first_in, later_in, filter_map_in}
-use Rattle.fib_effective.proofs.Numbers.{numbered}
 
 pair_is : (a b c d : ℕ) → ◌≡◌ {A = ℕ × ℕ} (a, b) (c, d) → (a ≡ c) × (b ≡ d)
 pair_is a b c d h = (ap (λ (p : ℕ × ℕ). p.0) h, ap (λ (p : ℕ × ℕ). p.1) h)

@@ -1,18 +1,15 @@
 -- The graph over numbers has the walks of the entries.
-use Rattle.std.proofs.Common.{arith, append_assoc, length-append, ◌≡◌, ℕ, zero, suc, ◌+◌, ◌-◌, ◌<◌, ◌≤◌, Bool, true, false, List, [], ◌∷◌, ◌++◌, map, take, replicate, length, get_or, Option, Some, None, ◌⊎◌, inl, inr, refl, sym, ◌∙◌, ap, subst, ◌↔◌}
-use Rattle.std.proofs.Math.ListN.{set, length-replicate}
-use Rattle.std.proofs.Math.Seq.{set-append_seam, get_or-append_seam}
-use Rattle.std.specs.Prelude.{Contains, filter_map, option_to_list, option_and_then, All, IsTrue}
+use Rattle.std.proofs.Common.{◌≡◌, ℕ, zero, suc, ◌<◌, Bool, true, false, List, [], ◌∷◌, length, Option, Some, None, ◌⊎◌, inl, inr, refl, sym, ◌∙◌, ap, subst, ◌↔◌}
+use Rattle.std.specs.Prelude.{Contains, filter_map, option_to_list, option_and_then, IsTrue}
 use Rattle.std.specs.Set.{is_member}
 use Rattle.std.proofs.lemmas.Bool.{false≢true}
 use Rattle.std.proofs.lemmas.Bool.Decides.{same_from_decides}
-use Rattle.std.proofs.lemmas.List.{set-set, get_or-set_same, take_more, length-take, get_or-map, length-map, map-append}
+use Rattle.std.proofs.lemmas.List.{get_or-map}
 use Rattle.std.specs.List.{AllByRecursion}
-use Rattle.std.proofs.lemmas.List.Elements.{All-from_recursion}
 use Rattle.std.proofs.lemmas.Map.Views.{list_any-from_Contains}
 use Rattle.fib_list.proofs.Lists.{Contains-flat_map, either}
 use Rattle.fib_reach.specs.Walks.{Walk, Reaches, Next}
-use Rattle.fib_reach.specs.Graphs.{Edge, next_of, with_edge}
+use Rattle.fib_reach.specs.Graphs.{Edge, next_of}
 use Rattle.fib_addr.specs.Prefixes.{Prefix, same_prefix, host}
 use Rattle.fib_addr.proofs.PrefixLaws.{same_prefix_equiv}
 use Rattle.fib_resolve.specs.Pairs.{entries, chosen}

@@ -134,13 +134,17 @@ fn row(
 
 /// What is known of the paths of each entry.
 #[tactic(auto, unfolding(crate::specs::inner::Rows::rows_of))]
-pub fn rows(alloc: Global, known: &Known<'_>) -> Result<Vec<List<PathFacts>>, AllocError>
+pub fn rows(
+    alloc: Global,
+    known: &Known<'_>,
+    on_cycles: &HashSet<(u32, u32)>,
+) -> Result<Vec<List<PathFacts>>, AllocError>
+    requires { AreLooped (edges_of known.now) on_cycles.now.keys }
     ensures { IfOk result (λ v. v.items ≡ rows_of known.now) }
 {
-    let on_cycles = loops::looped_edges(alloc, known)?;
     let mut out = Vec::new(alloc);
     for (i, e) in known.entries().iter().enumerate() {
-        out.push(row(alloc, &on_cycles, known, *e, i as u32)?)?;
+        out.push(row(alloc, on_cycles, known, *e, i as u32)?)?;
     }
     Ok(out)
 }

@@ -1,5 +1,5 @@
 // The edges of recursion, by the entries' numbers, and those that lie on cycles.
-ghost use Rattle.std.specs.Prelude.{◌≡◌, ◌<◌, ◌↔◌, ◌++◌, ◌||◌, ◌&&◌, ℕ, Some, IfOk, IfSome, IsTrue, OnOk, Contains, length, map};
+ghost use Rattle.std.specs.Prelude.{◌≡◌, ◌<◌, ◌↔◌, ◌++◌, ◌||◌, ◌&&◌, ℕ, Some, IfOk, IfSome, IsTrue, OnOk, Contains, length, map, option_to_list};
 ghost use Rattle.std.specs.Set.{is_member};
 ghost use Rattle.fib_loops.specs.Loops.{AreEdges, IsLooped};
 ghost use Rattle.fib_resolve.specs.Pairs.{chosen, entries};
@@ -28,24 +28,28 @@ pub fn goal_number(known: &Known<'_>, e: Prefix, kind: PathKind) -> Option<u32>
     Some(number as u32)
 }
 
-/// The numbers of the entries to which an entry has an edge.
-#[tactic(auto, unfolding(crate::specs::inner::Rows::next_numbers))]
-fn next_numbers(alloc: Global, known: &Known<'_>, e: Prefix) -> Result<Vec<u32>, AllocError>
-    ensures { IfOk result (λ v. v.items ≡ next_numbers known.now e) }
+/// Appends the edge of a path, where it leads to an entry.
+fn add_edge(out: &mut Vec<(u32, u32)>, from: u32, to: Option<u32>) -> Result<(), AllocError>
+    ensures { OnOk result (out.new.items ≡ out.old.items ++ map (λ to. (from, to)) (option_to_list to)) }
 {
-    known
-        .chosen(e)
-        .iter()
-        .filter_map(|p| goal_number(known, e, p.kind))
-        .collect(alloc)
+    if let Some(to) = to {
+        out.push((from, to))?;
+    }
+    Ok(())
 }
 
-/// Appends an edge to each of these nodes.
-fn add_row(out: &mut Vec<(u32, u32)>, from: u32, row: &[u32]) -> Result<(), AllocError>
-    ensures { OnOk result (out.new.items ≡ out.old.items ++ map (λ to. (from, to)) row.now) }
+/// Appends the edges of an entry.
+#[tactic(auto, unfolding(crate::specs::inner::Rows::next_numbers))]
+fn add_row(
+    out: &mut Vec<(u32, u32)>,
+    known: &Known<'_>,
+    from: u32,
+    e: Prefix,
+) -> Result<(), AllocError>
+    ensures { OnOk result (out.new.items ≡ out.old.items ++ map (λ to. (from, to)) (next_numbers known.now e)) }
 {
-    for to in row {
-        out.push((from, *to))?;
+    for p in known.chosen(e) {
+        add_edge(out, from, goal_number(known, e, p.kind))?;
     }
     Ok(())
 }
@@ -57,8 +61,7 @@ fn edges(alloc: Global, known: &Known<'_>) -> Result<Vec<(u32, u32)>, AllocError
 {
     let mut out = Vec::new(alloc);
     for (i, e) in known.entries().iter().enumerate() {
-        let row = next_numbers(alloc, known, *e)?;
-        add_row(&mut out, i as u32, row.as_slice())?;
+        add_row(&mut out, known, i as u32, *e)?;
     }
     Ok(out)
 }

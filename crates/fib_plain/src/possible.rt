@@ -6,7 +6,7 @@ ghost use Rattle.fib_resolve.specs.Resolution.{ends};
 ghost use Rattle.fib_plain.specs.inner.Exits.{exit_of, exits_of, exits, end_of, exit_end};
 
 use crate::snapshot::Snapshot;
-use crate::{view, ways};
+use crate::view;
 use fib_addr::Prefix;
 use fib_resolve::{End, Path, PathKind};
 use std::alloc::{AllocError, Global};
@@ -25,11 +25,11 @@ fn exit_end(view: &Snapshot<'_>, exit: &Exit) -> Option<End>
     let e = exit.entry;
     match exit.kind {
         PathKind::Local => Some(End::Receive),
-        PathKind::Attached(i) => Some(ways::attached_end(view, e, i)),
+        PathKind::Attached(i) => Some(view.meaning().attached_end(e, i)),
         PathKind::Hop {
             next_hop,
             interface,
-        } => Some(ways::hop_end(view, interface, next_hop)),
+        } => Some(view.meaning().hop_end(interface, next_hop)),
         _ => None,
     }
 }

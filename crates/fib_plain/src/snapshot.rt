@@ -2,22 +2,21 @@
 ghost use Rattle.std.specs.Prelude.{◌≡◌, ◌^◌, ◌-◌, IfOk, min};
 ghost use Rattle.fib_resolve.specs.Pairs.{pairs, entries, chosen, cover, best};
 ghost use Rattle.fib_resolve.specs.Loops.{looped_at};
-ghost use Rattle.fib_resolve.specs.Forwarding.{is_up, is_met, usable_at};
+ghost use Rattle.fib_resolve.specs.Forwarding.{usable_at};
 ghost use Rattle.fib_resolve.specs.Buckets.{wanted};
-ghost use Rattle.fib_resolve.specs.Resolution.{resolve, mac_of, hop_end, attached_end, ends};
+ghost use Rattle.fib_resolve.specs.Resolution.{resolve, ends};
 ghost use Rattle.fib_resolve.specs.Touched.{touched};
-ghost use Rattle.fib_resolve.specs.Sizes.{adjacencies, size};
+ghost use Rattle.fib_resolve.specs.Sizes.{size};
 ghost use Rattle.fib_resolve.specs.Tables.{IsSound};
 
-use crate::facts::{self, PathFacts};
+use crate::facts::PathFacts;
+use crate::meaning::Meaning;
 use crate::{possible, rounds, touching, view, ways};
-use fib_addr::{Addr, Mac, Prefix};
-use fib_cover::PrefixSet;
+use fib_addr::{Addr, Prefix};
 use fib_effective::Known;
 use fib_list::List;
-use fib_resolve::{Adjacency, End, Need, Pair, Path, Tables};
+use fib_resolve::{End, Pair, Path, Tables};
 use std::alloc::{AllocError, Global};
-use std::collections::HashMap;
 use std::marker::Model;
 
 /// All that tables mean, made once, so that many answers share it. Contracts see the tables.
@@ -25,9 +24,7 @@ use std::marker::Model;
 /// Making it takes a look-up or two for each pair, path and edge, and as many rounds over all paths as the longest chain of recursion
 /// has entries.
 pub struct Snapshot<'a> {
-    known: Known<'a>,
-    pub(crate) order: PrefixSet,
-    pub(crate) macs: HashMap<Adjacency, Mac>,
+    meaning: Meaning<'a>,
     pub(crate) rows: Vec<List<PathFacts>>,
     pub(crate) marks: Vec<bool>,
 }
@@ -36,9 +33,7 @@ pub struct Snapshot<'a> {
 impl Drop for Snapshot<'_> {
     fn drop(self) {
         let Snapshot {
-            known: _,
-            order: _,
-            macs: _,
+            meaning: _,
             rows: _,
             marks: _,
         } = self;
@@ -52,9 +47,9 @@ impl<'a> Model for Snapshot<'a> {
 
     ghost use Rattle.fib_plain.specs.inner.Snapshots.{IsSnapshot};
 
-    ghost view = { λ s. s.known };
+    ghost view = { λ s. s.meaning };
 
-    ghost invariant = { λ s. IsSnapshot s.known s.order s.macs s.rows.items s.marks.items };
+    ghost invariant = { λ s. IsSnapshot s.meaning s.rows.items s.marks.items };
 }
 
 impl<'a> Snapshot<'a> {
@@ -63,25 +58,28 @@ impl<'a> Snapshot<'a> {
         requires { IsSound tables.now }
         ensures { IfOk result (λ s. s ≡ tables.now) }
     {
-        let known = Known::of(alloc, tables)?;
-        let order = PrefixSet::of(alloc, known.entries())?;
-        let macs = ways::macs(alloc, tables)?;
-        let rows = facts::rows(alloc, &known)?;
+        let meaning = Meaning::of(alloc, tables)?;
+        let rows = meaning.rows(alloc)?;
         let marks = rounds::marks(alloc, tables, rows.as_slice())?;
         Ok(Snapshot {
-            known,
-            order,
-            macs,
+            meaning,
             rows,
             marks,
         })
+    }
+
+    /// What the tables mean, but for which entries forward.
+    pub fn meaning(&self) -> &Meaning<'a>
+        ensures { result.now ≡ self.now }
+    {
+        &self.meaning
     }
 
     /// What is known of the entries.
     pub(crate) fn known(&self) -> &Known<'a>
         ensures { result.now ≡ self.now }
     {
-        &self.known
+        self.meaning.known()
     }
 
     /// The tables.
@@ -123,7 +121,7 @@ impl<'a> Snapshot<'a> {
     pub fn best(&self, addr: Addr) -> Prefix
         ensures { result ≡ best self.now addr }
     {
-        ways::best(self, addr)
+        self.meaning.best(addr)
     }
 
     /// Whether the path at that place of the entry's chosen list is there and looped.
@@ -147,41 +145,6 @@ impl<'a> Snapshot<'a> {
         view::wanted(alloc, self, e)
     }
 
-    /// Whether the interface is there and up.
-    pub fn is_up(&self, interface: u32) -> bool
-        ensures { result ≡ is_up self.now interface }
-    {
-        facts::is_up(self.known().tables(), interface)
-    }
-
-    /// Whether the need of a recursive path with that next hop is met.
-    pub fn is_met(&self, need: Need, next_hop: Addr) -> bool
-        ensures { result ≡ is_met self.now need next_hop }
-    {
-        facts::is_met(self.known(), need, next_hop)
-    }
-
-    /// The Hop end over that interface to that next hop.
-    pub fn hop_end(&self, interface: u32, next_hop: Addr) -> End
-        ensures { result ≡ hop_end self.now interface next_hop }
-    {
-        ways::hop_end(self, interface, next_hop)
-    }
-
-    /// The end of an Attached path of the entry: a Hop to the entry's own address where it is a host, else a glean.
-    pub fn attached_end(&self, e: Prefix, interface: u32) -> End
-        ensures { result ≡ attached_end self.now e interface }
-    {
-        ways::attached_end(self, e, interface)
-    }
-
-    /// The MAC of the neighbor with that interface and address, whether or not it has an entry.
-    pub fn mac_of(&self, interface: u32, next_hop: Addr) -> Option<Mac>
-        ensures { result ≡ mac_of self.now interface next_hop }
-    {
-        ways::mac_of(self, interface, next_hop)
-    }
-
     /// Where a packet for the address with that hash ends.
     pub fn resolve(&self, alloc: Global, addr: Addr, hash: u32) -> Result<End, AllocError>
         ensures { IfOk result (λ end. end ≡ resolve self.now addr hash) }
@@ -201,13 +164,6 @@ impl<'a> Snapshot<'a> {
         ensures { IfOk result (λ v. v.items ≡ touched self.now after.now) }
     {
         touching::touched(alloc, self, after)
-    }
-
-    /// The Hop ends of all chosen lists, each once, usable or not.
-    pub fn adjacencies(&self, alloc: Global) -> Result<Vec<Adjacency>, AllocError>
-        ensures { IfOk result (λ v. v.items ≡ adjacencies self.now) }
-    {
-        self.known().adjacencies(alloc)
     }
 
     /// The size of the tables, or 4,294,967,295 where it is greater.

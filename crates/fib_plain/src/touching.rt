@@ -7,7 +7,7 @@ ghost use Rattle.fib_resolve.specs.Pairs.{same_pair, chosen, entries, pairs};
 ghost use Rattle.fib_resolve.specs.Touched.{other_flag, other_mac, kind_changes, same_pairs, pairs_of, is_touched, touched};
 
 use crate::snapshot::Snapshot;
-use crate::{facts, view, ways};
+use crate::{facts, view};
 use fib_addr::{Addr, Prefix};
 use fib_effective::distinct;
 use fib_resolve::{Pair, Path, PathKind, Tables};
@@ -23,8 +23,8 @@ fn other_mac(before: &Snapshot<'_>, after: &Snapshot<'_>, interface: u32, a: Add
     ensures { result ≡ other_mac before.now after.now interface a }
 {
     match (
-        ways::mac_of(before, interface, a),
-        ways::mac_of(after, interface, a),
+        before.meaning().mac_of(interface, a),
+        after.meaning().mac_of(interface, a),
     ) {
         (None, None) => false,
         (Some(m), Some(n)) => m.bits() != n.bits(),
@@ -56,8 +56,7 @@ fn kind_changes(
         } => other_flag(old, new, interface) || other_mac(before, after, interface, next_hop),
         PathKind::Recursive(a) => {
             view::is_looped(before, e, place) != view::is_looped(after, e, place)
-                || facts::is_met(before.known(), p.need, a)
-                    != facts::is_met(after.known(), p.need, a)
+                || before.meaning().is_met(p.need, a) != after.meaning().is_met(p.need, a)
         }
         PathKind::Cover => before.known().cover(e.bits()) != after.known().cover(e.bits()),
     }

@@ -3,7 +3,7 @@ ghost use Rattle.std.specs.Prelude.{◌≡◌, ◌+◌, ◌-◌, ◌/◌, ◌%�
 ghost use Rattle.fib_resolve.specs.Pairs.{entries, best, cover};
 ghost use Rattle.fib_resolve.specs.Forwarding.{limit};
 ghost use Rattle.fib_resolve.specs.Buckets.{wanted};
-ghost use Rattle.fib_resolve.specs.Resolution.{mac_of, hop_end, attached_end, follow, resolve, way};
+ghost use Rattle.fib_resolve.specs.Resolution.{follow, resolve, way};
 ghost use Rattle.fib_plain.specs.inner.Snapshots.{AreMacs};
 ghost use Rattle.fib_plain.specs.inner.Steps.{Steps, EndsOrGoesOn};
 
@@ -38,39 +38,6 @@ pub fn macs(alloc: Global, tables: &Tables) -> Result<HashMap<Adjacency, Mac>, A
     Ok(macs)
 }
 
-/// The MAC of the neighbor with that interface and address.
-pub fn mac_of(view: &Snapshot<'_>, interface: u32, next_hop: Addr) -> Option<Mac>
-    ensures { result ≡ mac_of view.now interface next_hop }
-{
-    let link = Adjacency {
-        interface,
-        next_hop,
-    };
-    view.macs.get(&link).copied()
-}
-
-/// The Hop end over that interface to that next hop.
-pub fn hop_end(view: &Snapshot<'_>, interface: u32, next_hop: Addr) -> End
-    ensures { result ≡ hop_end view.now interface next_hop }
-{
-    End::Hop {
-        interface,
-        next_hop,
-        mac: mac_of(view, interface, next_hop),
-    }
-}
-
-/// The end of an Attached path of the entry.
-pub fn attached_end(view: &Snapshot<'_>, e: Prefix, i: u32) -> End
-    ensures { result ≡ attached_end view.now e i }
-{
-    if e.len() == 32 {
-        hop_end(view, i, e.bits())
-    } else {
-        End::Glean(i)
-    }
-}
-
 /// What comes where a path of that kind is taken at an entry.
 fn take(view: &Snapshot<'_>, e: Prefix, kind: PathKind) -> NextStep
     ensures { EndsOrGoesOn view.now e kind result }
@@ -78,11 +45,11 @@ fn take(view: &Snapshot<'_>, e: Prefix, kind: PathKind) -> NextStep
     match kind {
         PathKind::Drop => NextStep::Ends(End::Drop),
         PathKind::Local => NextStep::Ends(End::Receive),
-        PathKind::Attached(i) => NextStep::Ends(attached_end(view, e, i)),
+        PathKind::Attached(i) => NextStep::Ends(view.meaning().attached_end(e, i)),
         PathKind::Hop {
             next_hop,
             interface,
-        } => NextStep::Ends(hop_end(view, interface, next_hop)),
+        } => NextStep::Ends(view.meaning().hop_end(interface, next_hop)),
         PathKind::Recursive(a) => NextStep::GoesOn(Prefix::host(a)),
         PathKind::Cover => NextStep::GoesOn(view.known().cover(e.bits())),
     }
@@ -99,25 +66,11 @@ fn step(alloc: Global, view: &Snapshot<'_>, e: Prefix, hash: u32) -> Result<Next
     }
 }
 
-/// The longest effective prefix that contains the address.
-#[tactic(auto, unfolding(fib_resolve::specs::Pairs::best))]
-pub fn best(view: &Snapshot<'_>, addr: Addr) -> Prefix
-    ensures { result ≡ best view.now addr }
-{
-    // Read so that the proof knows the address's range, and that members are prefixes.
-    let _number = addr.0;
-    let _count = view.order.len();
-    match view.order.best(addr) {
-        Some(prefix) => prefix,
-        None => Prefix::masked(Addr(0), 0),
-    }
-}
-
 /// Where a packet for the address with that hash ends.
 pub fn resolve(alloc: Global, view: &Snapshot<'_>, addr: Addr, hash: u32) -> Result<End, AllocError>
     ensures { IfOk result (λ end. end ≡ resolve view.now addr hash) }
 {
-    let mut e = best(view, addr);
+    let mut e = view.best(addr);
     let mut left = hash;
     for _n in 0..view.known().entries().len() + 1 {
         match step(alloc, view, e, left)? {

@@ -37,9 +37,9 @@ AreByKey xs places =
 
 -- the tables are sound, and all else is what they mean
 pub record AreParts (parts : Parts) : Type 0 where
-  pub sound : IsSound parts.snapshot.now
-  pub taken : AreTaken parts.lists.now (pairs parts.snapshot.now) parts.ids.now
-  pub places : AreByKey (pairs parts.snapshot.now) parts.places.now
+  pub sound : IsSound parts.meaning.now
+  pub taken : AreTaken parts.lists.now (pairs parts.meaning.now) parts.ids.now
+  pub places : AreByKey (pairs parts.meaning.now) parts.places.now
 
 -- the first has an edge to the second
 abbrev pub has_edge : Tables → Prefix → Prefix → Bool

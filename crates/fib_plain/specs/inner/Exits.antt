@@ -1,5 +1,5 @@
 -- The usable paths of all entries, and their ends.
-use Rattle.std.specs.Prelude.{ℕ, List, map, filter, flat_map, Option, Some, None}
+use Rattle.std.specs.Prelude.{List, map, filter, flat_map, Option, Some, None}
 use Rattle.fib_addr.specs.Prefixes.{Prefix}
 use Rattle.fib_resolve.specs.Pairs.{entries, chosen}
 use Rattle.fib_resolve.specs.Forwarding.{usable}

@@ -1,8 +1,8 @@
 -- What is known of the entries by their numbers.
-use Rattle.std.specs.Prelude.{◌↔◌, ◌+◌, ◌++◌, ◌&&◌, ◌==◌, ℕ, Bool, true, false, List, [], ◌∷◌, map, filter_map, position, slice_get, slice_index_or, Contains, IsTrue, ◌≡◌, ◌<◌, Option, Some, None, option_and_then}
+use Rattle.std.specs.Prelude.{◌↔◌, ◌+◌, ◌++◌, ◌&&◌, ◌==◌, ℕ, Bool, true, false, List, [], ◌∷◌, map, filter_map, slice_get, slice_index_or, Contains, IsTrue, ◌≡◌, ◌<◌, Option, Some, None, option_and_then}
 use Rattle.std.specs.Set.{is_member}
 use Rattle.std.specs.List.{list_any}
-use Rattle.fib_addr.specs.Prefixes.{Prefix, host, same_prefix}
+use Rattle.fib_addr.specs.Prefixes.{Prefix, same_prefix}
 use Rattle.fib_resolve.specs.Pairs.{entries, chosen}
 use Rattle.fib_effective.specs.Numbers.{number_in, goal_of}
 use Rattle.fib_loops.specs.Loops.{IsLooped}
@@ -10,7 +10,6 @@ use Rattle.fib_resolve.specs.Loops.{looped_kind}
 use Rattle.fib_resolve.specs.Forwarding.{usable_by}
 use Rattle.fib_resolve.specs.declared.types.Path.{Path}
 use Rattle.fib_resolve.specs.declared.types.PathKind.{PathKind}
-use Rattle.fib_resolve.specs.declared.types.PathKind.TheVariants as kinds
 use Rattle.fib_resolve.specs.declared.types.Tables.{Tables}
 use Rattle.fib_plain.specs.declared.facts.PathFacts.{PathFacts}
 

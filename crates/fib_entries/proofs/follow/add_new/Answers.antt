@@ -1,6 +1,5 @@
-use Rattle.std.proofs.Common.{◌≡◌, true, Bool, List, ◌++◌, ◌∷◌, [], ◌&&◌, Option, Some, if◌then◌else◌, sym, ap, ◌∙◌}
+use Rattle.std.proofs.Common.{◌≡◌, true, Bool, ◌++◌, ◌∷◌, [], ◌&&◌, Option, Some, if◌then◌else◌, sym, ap, ◌∙◌}
 use Rattle.std.specs.Prelude.{is_none}
-use Rattle.fib_addr.specs.Prefixes.{Prefix}
 use Rattle.fib_loops.proofs.Frames.{on_ok_two}
 use Rattle.fib_resolve.specs.Touched.{is_touched}
 use Rattle.fib_entries.specs.Known.{row_of}

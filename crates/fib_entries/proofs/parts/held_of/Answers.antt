@@ -9,9 +9,9 @@ use Rattle.fib_entries.proofs.parts.held_of.Goals as goal
 pub loop-rank-preserved : goal.loop-rank-preserved
 loop-rank-preserved c = elim c.match-place_of.branch [
   | in-Some+in_ok-push w ↦ (let inside = w.in-Some.ensures.inside in
-      subst (ArePicked c.args.prefix (pairs c.args.parts.snapshot.now) c.args.parts.ids.now (c.loop-rank.rank + 1)) (sym (w.out-is ∙ w.in_ok-push.ensures.ok))
-      (one_more c.args.prefix (pairs c.args.parts.snapshot.now) c.args.parts.ids.now c.loop-rank.rank c.loop-rank.out c.source_at-source.result w.in-Some.place w.index-ids-place.result c.loop-rank.invariant c.source_at-source.ensures
+      subst (ArePicked c.args.prefix (pairs c.args.parts.meaning.now) c.args.parts.ids.now (c.loop-rank.rank + 1)) (sym (w.out-is ∙ w.in_ok-push.ensures.ok))
+      (one_more c.args.prefix (pairs c.args.parts.meaning.now) c.args.parts.ids.now c.loop-rank.rank c.loop-rank.out c.source_at-source.result w.in-Some.place w.index-ids-place.result c.loop-rank.invariant c.source_at-source.ensures
       (sym w.in-Some.ensures.place) (slice_get_read c.args.parts.ids.now _ w.in-Some.place w.index-ids-place.result refl inside w.index-ids-place.is)))
-  | in_default w ↦ subst (ArePicked c.args.prefix (pairs c.args.parts.snapshot.now) c.args.parts.ids.now (c.loop-rank.rank + 1)) (sym w.out-is)
-      (none_more c.args.prefix (pairs c.args.parts.snapshot.now) c.args.parts.ids.now c.loop-rank.rank c.loop-rank.out c.source_at-source.result c.loop-rank.invariant c.source_at-source.ensures (sym w.in_default.ensures.place))
+  | in_default w ↦ subst (ArePicked c.args.prefix (pairs c.args.parts.meaning.now) c.args.parts.ids.now (c.loop-rank.rank + 1)) (sym w.out-is)
+      (none_more c.args.prefix (pairs c.args.parts.meaning.now) c.args.parts.ids.now c.loop-rank.rank c.loop-rank.out c.source_at-source.result c.loop-rank.invariant c.source_at-source.ensures (sym w.in_default.ensures.place))
 ]

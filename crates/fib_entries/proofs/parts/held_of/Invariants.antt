@@ -3,4 +3,4 @@ use Rattle.fib_entries.specs.inner.Building.{ArePicked}
 use Rattle.fib_entries.proofs.parts.held_of.Given as goal
 
 abbrev pub invariant-loop-rank : goal.invariant-loop-rank
-invariant-loop-rank l = ArePicked l.prefix (pairs l.parts.snapshot.now) l.parts.ids.now l.rank l.out
+invariant-loop-rank l = ArePicked l.prefix (pairs l.parts.meaning.now) l.parts.ids.now l.rank l.out

@@ -7,4 +7,4 @@ use Rattle.fib_resolve.specs.Loops.{kind_targets, is_kept}
 use Rattle.fib_entries.proofs.parts.keeps.Given as goal
 
 abbrev pub invariant-loop-place : goal.invariant-loop-place
-invariant-loop-place l = (l.paths ≡ chosen l.snapshot l.e) × (list_any (λ p. is_kept l.snapshot l.e p.kind && is_member same_prefix (kind_targets l.snapshot l.e p.kind) l.t) (take l.place l.paths) ≡ false)
+invariant-loop-place l = (l.paths ≡ chosen l.meaning l.e) × (list_any (λ p. is_kept l.meaning l.e p.kind && is_member same_prefix (kind_targets l.meaning l.e p.kind) l.t) (take l.place l.paths) ≡ false)

@@ -14,4 +14,4 @@ pub returns : goal.returns
 unfolding marked_list
 returns c =
     c.from_vec.ensures ∙ (c.in_ok-marks.ensures ∙ (ap (map (λ (x : Marked × Bool). x.0)) (c.as_slice.ensures.value ∙ c.in_ok-both.ensures)
-    ∙ first_of (marked c.args.snapshot.now c.args.e) (λ p. kind_met c.args.snapshot.now p.need p.kind) (chosen c.args.snapshot.now c.args.e)))
+    ∙ first_of (marked c.args.meaning.now c.args.e) (λ p. kind_met c.args.meaning.now p.need p.kind) (chosen c.args.meaning.now c.args.e)))

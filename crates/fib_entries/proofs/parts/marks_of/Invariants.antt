@@ -1,7 +1,6 @@
 use Rattle.std.proofs.Common.{◌≡◌, map, take}
-use Rattle.fib_resolve.specs.Pairs.{chosen}
 use Rattle.fib_resolve.specs.Loops.{looped_kind}
 use Rattle.fib_entries.proofs.parts.marks_of.Given as goal
 
 abbrev pub invariant-loop-place : goal.invariant-loop-place
-invariant-loop-place l = l.out ≡ map (λ p. looped_kind l.snapshot l.e p.kind) (take l.place (chosen l.snapshot l.e))
+invariant-loop-place l = l.out ≡ map (λ p. looped_kind l.meaning l.e p.kind) (take l.place l.paths)

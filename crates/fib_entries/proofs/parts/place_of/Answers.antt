@@ -18,6 +18,6 @@ pub returns-clause-inside : goal.returns-clause-inside
 returns-clause-inside c =
     let at = ap (λ (n : ℕ). get same_key c.args.parts.places.now (c.args.prefix, n)) c.rank.ensures.value ∙ c.requires.places c.args.prefix c.args.source in
     let ids = c.args.parts.ids.now in
-    let many = zip_length c.args.parts.lists.now (pairs c.args.parts.snapshot.now) ids c.requires.taken.each in
+    let many = zip_length c.args.parts.lists.now (pairs c.args.parts.meaning.now) ids c.requires.taken.each in
     subst (λ (n : ℕ). IfSome c.copied.result (λ k. k < n)) (sym many)
-    (position_below (λ x. same_prefix c.args.prefix x.prefix && same_source c.args.source x.source) (pairs c.args.parts.snapshot.now) c.copied.result (c.copied.ensures ∙ (c.get.ensures.value ∙ at)))
+    (position_below (λ x. same_prefix c.args.prefix x.prefix && same_source c.args.source x.source) (pairs c.args.parts.meaning.now) c.copied.result (c.copied.ensures ∙ (c.get.ensures.value ∙ at)))

@@ -1,9 +1,9 @@
 use Rattle.std.proofs.Common.{◌≡◌, ◌≤◌}
-use Rattle.fib_entries.specs.inner.Plies.{own_below, entry_at, entry_before}
+use Rattle.fib_entries.specs.inner.Plies.{own_below}
 use Rattle.fib_entries.proofs.plies.own_plies.Given as goal
 
 abbrev pub invariant-loop-depth : goal.invariant-loop-depth
 invariant-loop-depth l = record {
-  plies : l.plies ≡ own_below l.p (entry_before l.rows l.before) (entry_at l.rows l.after) l.depth;
+  plies : l.plies ≡ own_below l.p l.before l.after l.depth;
   few : l.plies ≤ l.depth;
 }

@@ -11,32 +11,32 @@ use Rattle.fib_entries.proofs.whole.rows_anew.Goals as goal
 
 pub kept_of-requires : goal.kept_of-requires
 kept_of-requires c = record {
-  edges = subst (λ (l : List (ℕ × ℕ)). AreEdgesOf c.args.snapshot.now c.args.order.now (length c.args.order.now) l) (sym c.as_slice-edges.ensures.value) c.in_ok-edges.ensures;
+  edges = subst (λ (l : List (ℕ × ℕ)). AreEdgesOf c.args.meaning.now c.args.order.now (length c.args.order.now) l) (sym c.as_slice-edges.ensures.value) c.in_ok-edges.ensures;
 }
 
 pub ranks-requires-clause-edges : goal.ranks-requires-clause-edges
 ranks-requires-clause-edges c =
-    let join = edges_join c.args.snapshot.now c.args.order.now c.in_ok-kept.kept.items c.in_ok-kept.ensures in
+    let join = edges_join c.args.meaning.now c.args.order.now c.in_ok-kept.kept.items c.in_ok-kept.ensures in
     subst (λ l. AreEdges c.in-Ok.nodes l) (sym c.as_slice.ensures.value) (subst (λ n. AreEdges n c.in_ok-kept.kept.items) (sym c.in-Ok.ensures.1) join)
 
 pub ranks-requires-clause-open : goal.ranks-requires-clause-open
 ranks-requires-clause-open c =
     subst (λ (l : List (ℕ × ℕ)). (d : ℕ × ℕ) → Contains l d → IsLooped l d → ⊥) (sym c.as_slice.ensures.value)
-    (none_looped c.args.snapshot.now c.args.order.now c.in_ok-kept.kept.items c.requires.sound c.in_ok-kept.ensures)
+    (none_looped c.args.meaning.now c.args.order.now c.in_ok-kept.kept.items c.requires.sound c.in_ok-kept.ensures)
 
 pub backward-requires : goal.backward-requires
 backward-requires c =
     let edges = c.in_ok-edges.edges.items in
-    let join = places_join c.args.order.now edges (edge_places c.args.snapshot.now c.args.order.now (length c.args.order.now) edges c.in_ok-edges.ensures) in
+    let join = places_join c.args.order.now edges (edge_places c.args.meaning.now c.args.order.now (length c.args.order.now) edges c.in_ok-edges.ensures) in
     subst (λ l. AreEdges c.in-Ok.nodes l) (sym c.as_slice-edges.ensures.value) (subst (λ n. AreEdges n edges) (sym c.in-Ok.ensures.1) join)
 
 pub rows_of-requires-clause-edges : goal.rows_of-requires-clause-edges
 rows_of-requires-clause-edges c =
-    subst (λ (l : List (ℕ × ℕ)). AreEdgesOf c.args.snapshot.now c.args.order.now (length c.args.order.now) l) (sym c.as_slice-edges.ensures.value) c.in_ok-edges.ensures
+    subst (λ (l : List (ℕ × ℕ)). AreEdgesOf c.args.meaning.now c.args.order.now (length c.args.order.now) l) (sym c.as_slice-edges.ensures.value) c.in_ok-edges.ensures
 
 pub returns : goal.returns
 returns c =
-    let S = c.args.snapshot.now in
+    let S = c.args.meaning.now in
     let order = c.args.order.now in
     let lists = c.args.lists.now in
     let ranks = c.as_slice-2.result.now in

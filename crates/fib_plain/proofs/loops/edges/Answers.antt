@@ -1,16 +1,14 @@
-use Rattle.std.proofs.Common.{◌≡◌, ℕ, ◌∙◌, ap, List, ◌++◌, map, take}
-use Rattle.fib_plain.specs.inner.Rows.{next_numbers, edges_from, edges_of}
+use Rattle.std.proofs.Common.{ℕ, ◌∙◌, ap, List, ◌++◌, map}
+use Rattle.fib_plain.specs.inner.Rows.{next_numbers}
 use Rattle.fib_plain.proofs.Cycles.{edges_more, edges_whole}
 use Rattle.fib_plain.proofs.loops.edges.Goals as goal
 
 pub loop-i-preserved : goal.loop-i-preserved
 loop-i-preserved c =
     let f = next_numbers c.args.known.now in
-    let row = c.as_slice.ensures.value ∙ c.in_ok-row.ensures in
     c.in_ok-add_row.ensures
-    ∙ (ap (λ (es : List (ℕ × ℕ)). es ++ map (λ to. (c.loop-i.i, to)) c.as_slice.result.now) c.loop-i.invariant
-    ∙ (ap (λ (r : List ℕ). edges_from 0 (map f (take c.loop-i.i c.entries-e-items.result.now)) ++ map (λ to. (c.loop-i.i, to)) r) row
-    ∙ edges_more f c.entries-e-items.result.now c.loop-i.i c.e-item.result c.loop-i-test.true c.e-item.is))
+    ∙ (ap (λ (es : List (ℕ × ℕ)). es ++ map (λ to. (c.loop-i.i, to)) (f c.e-item.result)) c.loop-i.invariant
+    ∙ edges_more f c.entries-e-items.result.now c.loop-i.i c.e-item.result c.loop-i-test.true c.e-item.is)
 
 pub returns : goal.returns
 returns c = edges_whole c.args.known.now c.entries-e-items.result.now c.loop-i.out.items c.loop-i.i c.entries-e-items.ensures.entries c.loop-i-test.false c.loop-i.invariant

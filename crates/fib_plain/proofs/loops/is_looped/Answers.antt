@@ -1,5 +1,4 @@
 use Rattle.std.proofs.Common.{◌∙◌, sym, ap}
-use Rattle.fib_addr.specs.Prefixes.{host}
 use Rattle.fib_effective.specs.Numbers.{number_in}
 use Rattle.fib_plain.proofs.Cycles.{looped_found}
 use Rattle.fib_plain.proofs.Edges.{looped_none}

@@ -1,6 +1,5 @@
-use Rattle.std.proofs.Common.{◌≡◌, ◌∙◌, ap, sym, subst, List, ℕ, ◌<◌, length}
+use Rattle.std.proofs.Common.{◌∙◌, ap, sym, subst, List, ℕ, ◌<◌, length}
 use Rattle.std.specs.Prelude.{IfOk, All}
-use Rattle.fib_resolve.specs.Pairs.{entries}
 use Rattle.fib_plain.specs.inner.Rows.{edges_of, AreLooped}
 use Rattle.fib_plain.proofs.Cycles.{edges_inside}
 use Rattle.fib_plain.proofs.loops.looped_edges.Goals as goal

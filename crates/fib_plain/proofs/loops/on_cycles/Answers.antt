@@ -1,4 +1,4 @@
-use Rattle.std.proofs.Common.{arith, ◌≡◌, sym, subst, ℕ, length}
+use Rattle.std.proofs.Common.{arith, ◌≡◌, subst, ℕ, length}
 use Rattle.std.specs.Prelude.{IfOk}
 use Rattle.std.proofs.lemmas.Result.{IfOk-weaker}
 use Rattle.fib_plain.specs.inner.Rows.{AreMarked, AreLooped}
