@@ -106,10 +106,9 @@ fn has_fixed_pairs(meaning: &Meaning) -> bool {
 }
 
 fn has_no_looped_path(meaning: &Meaning) -> bool {
-    match meaning.chosen(everything()) {
-        [path] => !meaning.is_looped(everything(), path),
-        _ => false,
-    }
+    let all = everything();
+    let paths = meaning.chosen(all);
+    !paths.is_empty() && !meaning.is_looped(all, &paths[0])
 }
 
 fn meets_needs_of_none(meaning: &Meaning) -> bool {
