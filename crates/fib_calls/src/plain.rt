@@ -100,6 +100,7 @@ fn has_fixed_pairs(meaning: &Meaning) -> bool {
     meaning.best(INSIDE) == everything()
         && meaning.cover(INSIDE) == everything()
         && meaning.entries().len() == 5
+        && meaning.number(everything()).is_some()
         && meaning.pairs().len() == 5
         && meaning.chosen(everything()).len() == 1
         && meaning.tables().routes.len() == 0

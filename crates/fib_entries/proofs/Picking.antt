@@ -19,6 +19,9 @@ use Rattle.fib_resolve.specs.declared.types.FibSource.{FibSource}
 use Rattle.fib_resolve.specs.declared.types.FibSource.TheVariants as sources
 use Rattle.fib_resolve.specs.declared.types.Tables.{Tables}
 use Rattle.fib_resolve.proofs.OneList.{one_list, source_by_rank}
+use Rattle.fib_resolve.proofs.Entries.{is_entry}
+use Rattle.fib_effective.specs.Numbers.{number_in}
+use Rattle.fib_effective.proofs.Numbers.{unnumbered}
 use Rattle.fib_changes.proofs.Edits.{in_cases, any_in}
 use Rattle.fib_interned.proofs.Finding.{contains_at, none_some}
 use Rattle.fib_entries.specs.Known.{PathKept, content_of, AreBestFirst, ArePairs}
@@ -59,6 +62,15 @@ none_picked e xs ids = record {
   best_first = tt;
   below = λ p c. absurd (Contains-nil p c);
   found = λ x c own low. absurd (omega (arith, low));
+  real = λ p c. absurd (Contains-nil p c);
+}
+
+-- what is no entry has no pair
+pub none_at_all : (S : Tables) (e : Prefix) (ids : List ℕ) → number_in S e ≡ None → ArePicked e (pairs S) ids 7 []
+none_at_all S e ids none = record {
+  best_first = tt;
+  below = λ p c. absurd (Contains-nil p c);
+  found = λ x c own low. absurd (false≢true (sym (sym (is_entry S e) ∙ unnumbered S e none) ∙ any_in (λ y. same_prefix e y.prefix) (pairs S) x c ((same_prefix-Decides e x.prefix).1 own)));
   real = λ p c. absurd (Contains-nil p c);
 }
 
@@ -132,7 +144,7 @@ zip_length lists [] (i ∷ is) h = absurd h
 zip_length lists (y ∷ ys) [] h = absurd h
 zip_length lists (y ∷ ys) (i ∷ is) h = ap suc (zip_length lists ys is h.1)
 
-rank_low : (s : FibSource) → source_rank s < 7
+pub rank_low : (s : FibSource) → source_rank s < 7
 rank_low s = by s
   where
     by : (s : FibSource) → source_rank s < 7

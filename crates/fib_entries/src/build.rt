@@ -19,7 +19,7 @@ pub fn take_all(
     if pairs.len() >= u32::MAX as usize {
         return Err(AllocError);
     }
-    let mut out = Vec::new(alloc);
+    let mut out = Vec::with_capacity(alloc, pairs.len())?;
     for x in pairs {
         let id = lists.take(x.paths.as_slice())?;
         let _count = lists.count();

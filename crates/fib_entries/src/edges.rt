@@ -87,7 +87,7 @@ pub fn edges_of(
     requires few { length order.now < 2 ^ 32 }
     ensures { IfOk result (λ v. AreEdgesOf meaning.now order.now (length order.now) v.items) }
 {
-    let mut out = Vec::new(alloc);
+    let mut out = Vec::with_capacity(alloc, order.len())?;
     for from in 0..order.len() {
         add_paths(&mut out, meaning, order, from)?;
     }
@@ -113,7 +113,7 @@ pub fn kept_of(
     requires edges { AreEdgesOf meaning.now order.now (length order.now) edges.now }
     ensures { IfOk result (λ v. AreKeptEdges meaning.now order.now (length order.now) v.items) }
 {
-    let mut out = Vec::new(alloc);
+    let mut out = Vec::with_capacity(alloc, edges.len())?;
     for place in 0..edges.len() {
         let edge = edges[place];
         let kept = keeps(meaning, order[edge.0 as usize], order[edge.1 as usize]);

@@ -1,24 +1,23 @@
 // The parts of a row, from what the tables mean.
-ghost use Rattle.std.specs.Prelude.{◌≡◌, ◌<◌, ◌&&◌, IfOk, IfSome, Some, slice_get, map, length, position};
+ghost use Rattle.std.specs.Prelude.{◌≡◌, ◌<◌, ◌*◌, ◌^◌, ◌&&◌, IfOk, IfSome, Some, None, slice_get, slice_index_or, map, length, position};
 ghost use Rattle.std.specs.Set.{is_member};
 ghost use Rattle.fib_addr.specs.Prefixes.{same_prefix};
 ghost use Rattle.fib_resolve.specs.Keys.{same_source, source_rank};
-ghost use Rattle.fib_resolve.specs.Pairs.{chosen, pairs};
+ghost use Rattle.fib_resolve.specs.Pairs.{chosen, entries, pairs};
 ghost use Rattle.fib_resolve.specs.Loops.{kind_targets, looped_kind, is_kept};
 ghost use Rattle.fib_resolve.specs.Aims.{kind_aim, kind_counts, marked, marked_list};
 ghost use Rattle.fib_changes.specs.Ranks.{wakes};
+ghost use Rattle.fib_effective.specs.Numbers.{number_in};
 ghost use Rattle.fib_entries.specs.Known.{kind_met};
-ghost use Rattle.fib_entries.specs.inner.Building.{ArePicked, AreByKey, AreParts};
+ghost use Rattle.fib_entries.specs.inner.Building.{ArePicked, ArePlaced, AreParts, slot_of, kept_in};
 
 use crate::look::is_same;
-use fib_addr::Prefix;
-use fib_effective::first_places;
+use fib_addr::{Mac, Prefix};
 use fib_list::List;
 use fib_paths::{PathListId, PathLists};
 use fib_plain::Meaning;
-use fib_resolve::{Aim, End, FibSource, Marked, Pair, Path, PathKind};
+use fib_resolve::{Aim, End, FibSource, Marked, Path, PathKind};
 use std::alloc::{AllocError, Global};
-use std::collections::HashMap;
 
 /// What rows are made from: what the tables mean, and the pairs' lists with their numbers.
 #[derive(Clone, Copy)]
@@ -27,8 +26,8 @@ pub struct Parts<'a> {
     pub lists: &'a PathLists,
     /// The number of each pair's list.
     pub ids: &'a [PathListId],
-    /// The place of each pair by its prefix and its source's rank.
-    pub places: &'a HashMap<(Prefix, u8), usize>,
+    /// The places of the pairs, by their entries' numbers and their sources' ranks.
+    pub places: &'a [Option<usize>],
 }
 
 /// The source of that rank.
@@ -47,31 +46,62 @@ pub fn source_at(rank: usize) -> FibSource
     }
 }
 
-/// The prefixes of the pairs, each with its source's rank.
-fn keys_of(alloc: Global, pairs: &[Pair]) -> Result<Vec<(Prefix, u8)>, AllocError>
-    ensures { IfOk result (λ v. v.items ≡ map (λ x. (x.prefix, source_rank x.source)) pairs.now) }
+/// Where the place of a pair is kept.
+fn slot_of(meaning: &Meaning<'_>, prefix: Prefix, source: FibSource) -> Option<usize>
+    ensures slot { result ≡ slot_of meaning.now prefix source }
+    ensures below { IfSome result (λ k. k < 7 * length (entries meaning.now)) }
 {
-    pairs
-        .iter()
-        .map(|x| (x.prefix, x.source.rank()))
-        .collect(alloc)
+    let number = meaning.number(prefix)?;
+    Some(7 * number + usize::from(source.rank()))
 }
 
-/// The place of each pair by its prefix and its source's rank.
-pub fn places_of(alloc: Global, pairs: &[Pair]) -> Result<HashMap<(Prefix, u8), usize>, AllocError>
-    ensures { IfOk result (λ m. AreByKey pairs.now m) }
+/// Keeps a place in the slot, if there is one.
+fn keep(places: &mut Vec<Option<usize>>, slot: Option<usize>, place: usize)
+    requires { IfSome slot (λ k. k < length places.old.items) }
+    ensures { places.new.items ≡ kept_in slot place places.old.items }
 {
-    let keys = keys_of(alloc, pairs)?;
-    first_places(alloc, keys.as_slice())
+    if let Some(slot) = slot {
+        places[slot] = Some(place);
+    }
 }
 
-/// The place of the prefix's pair of that source.
-fn place_of(parts: Parts<'_>, prefix: Prefix, source: FibSource) -> Option<usize>
-    requires { AreParts parts }
+/// The places of the pairs, by their entries' numbers and their sources' ranks.
+pub fn places_of(alloc: Global, meaning: &Meaning<'_>) -> Result<Vec<Option<usize>>, AllocError>
+    ensures { IfOk result (λ v. ArePlaced meaning.now (pairs meaning.now) v.items) }
+{
+    let pairs = meaning.pairs();
+    let Some(slots) = meaning.entries().len().checked_mul(7) else {
+        return Err(AllocError);
+    };
+    let mut places = Vec::from_elem(alloc, None, slots)?;
+    for i in (0..pairs.len()).rev() {
+        let x = &pairs[i];
+        let slot = slot_of(meaning, x.prefix, x.source);
+        keep(&mut places, slot, i);
+    }
+    Ok(places)
+}
+
+/// What the slot has.
+fn read_slot(places: &[Option<usize>], slot: usize) -> Option<usize>
+    ensures { result ≡ slice_index_or places.now slot None }
+{
+    match places.get(slot) {
+        Some(place) => *place,
+        None => None,
+    }
+}
+
+/// The place of the pair of that source, where the prefix is the entry with that number.
+fn place_of(parts: Parts<'_>, prefix: Prefix, number: usize, source: FibSource) -> Option<usize>
+    requires parts { AreParts parts }
+    requires number { number_in parts.meaning.now prefix ≡ Some number }
+    requires few { number < 2 ^ 32 }
     ensures place { result ≡ position (λ x. same_prefix prefix x.prefix && same_source source x.source) (pairs parts.entry.meaning.now) }
     ensures inside { IfSome result (λ k. k < length parts.entry.ids.now) }
 {
-    parts.places.get(&(prefix, source.rank())).copied()
+    let _prefix = prefix;
+    read_slot(parts.places, 7 * number + usize::from(source.rank()))
 }
 
 /// The prefix's sources with the numbers of their lists, the best first.
@@ -85,9 +115,12 @@ pub fn held_of(
 {
     let ids = parts.ids;
     let mut out = List::new(alloc);
+    let Some(number) = parts.meaning.number(prefix) else {
+        return Ok(out);
+    };
     for rank in 0..7usize {
         let source = source_at(rank);
-        if let Some(place) = place_of(parts, prefix, source) {
+        if let Some(place) = place_of(parts, prefix, number, source) {
             out.push((source, ids[place]))?;
         }
     }
@@ -113,11 +146,11 @@ pub fn marks_of(
     requires { paths.now ≡ chosen meaning.now e }
     ensures { IfOk result (λ v. v ≡ map (λ p. looped_kind meaning.now e p.kind) (chosen meaning.now e)) }
 {
-    let mut out = List::new(alloc);
+    let mut out = Vec::with_capacity(alloc, paths.len())?;
     for place in 0..paths.len() {
         out.push(is_looped_at(meaning, e, place, &paths[place]))?;
     }
-    Ok(out)
+    Ok(List::from_vec(out))
 }
 
 fn is_met_by(meaning: &Meaning<'_>, p: &Path) -> bool
@@ -140,11 +173,11 @@ pub fn mets_of(
     ensures { IfOk result (λ v. v ≡ map (λ p. kind_met meaning.now p.need p.kind) (chosen meaning.now e)) }
 {
     let _entry = e;
-    let mut out = List::new(alloc);
+    let mut out = Vec::with_capacity(alloc, paths.len())?;
     for p in paths {
         out.push(is_met_by(meaning, p))?;
     }
-    Ok(out)
+    Ok(List::from_vec(out))
 }
 
 /// What a path is for.
@@ -192,32 +225,6 @@ fn marked(meaning: &Meaning<'_>, e: Prefix, p: &Path, looped: bool) -> Marked
     }
 }
 
-/// The marks of the chosen list's paths, each beside whether its need is met: the toolchain proves no `push` of a mark alone.
-fn marks_and_needs(
-    alloc: Global,
-    meaning: &Meaning<'_>,
-    e: Prefix,
-    paths: &[Path],
-    looped: &[bool],
-) -> Result<Vec<(Marked, bool)>, AllocError>
-    requires paths { paths.now ≡ chosen meaning.now e }
-    requires looped { looped.now ≡ map (λ p. looped_kind meaning.now e p.kind) (chosen meaning.now e) }
-    ensures { IfOk result (λ v. v.items ≡ map (λ p. (marked meaning.now e p, kind_met meaning.now p.need p.kind)) (chosen meaning.now e)) }
-{
-    let mut out = Vec::new(alloc);
-    for place in 0..paths.len() {
-        let p = &paths[place];
-        out.push((marked(meaning, e, p, looped[place]), is_met_by(meaning, p)))?;
-    }
-    Ok(out)
-}
-
-fn marks_alone(alloc: Global, marks: &[(Marked, bool)]) -> Result<Vec<Marked>, AllocError>
-    ensures { IfOk result (λ v. v.items ≡ map (λ x. x.0) marks.now) }
-{
-    marks.iter().map(|x| x.0).collect(alloc)
-}
-
 /// For each path of the chosen list, what it is for and whether it counts.
 #[tactic(auto, unfolding(fib_resolve::specs::Aims::marked_list))]
 pub fn marked_of(
@@ -231,9 +238,14 @@ pub fn marked_of(
     requires looped { looped.now ≡ map (λ p. looped_kind meaning.now e p.kind) (chosen meaning.now e) }
     ensures { IfOk result (λ v. v ≡ marked_list meaning.now e) }
 {
-    let both = marks_and_needs(alloc, meaning, e, paths, looped)?;
-    let marks = marks_alone(alloc, both.as_slice())?;
-    Ok(List::from_vec(marks))
+    // Named so that the proof knows the types that a mark may hold.
+    let _mac: Option<Mac> = None;
+    let _aim = Aim::Ends(End::Drop);
+    let mut out = Vec::with_capacity(alloc, paths.len())?;
+    for place in 0..paths.len() {
+        out.push(marked(meaning, e, &paths[place], looped[place]))?;
+    }
+    Ok(List::from_vec(out))
 }
 
 /// Whether the path of d leads to e.

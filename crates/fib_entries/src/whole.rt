@@ -75,7 +75,7 @@ fn rows_of(
     ensures { IfOk result (λ v. AreRows parts.entry.lists.now parts.entry.meaning.now order.now ranks.now (length order.now) v.items) }
 {
     let _edges = edges;
-    let mut out = Vec::new(alloc);
+    let mut out = Vec::with_capacity(alloc, order.len())?;
     for place in 0..order.len() {
         let dependants = dependants_of(alloc, order, back, edges, place)?;
         out.push(row_at(alloc, parts, order[place], ranks[place], dependants)?)?;
@@ -105,12 +105,12 @@ pub fn rows_anew(
     let kept = kept_of(alloc, meaning, order, edges)?;
     let ranks = ranks(alloc, nodes, kept.as_slice())?;
     let back = backward(alloc, nodes, edges)?;
-    let places = parts::places_of(alloc, meaning.pairs())?;
+    let places = parts::places_of(alloc, meaning)?;
     let parts = Parts {
         meaning,
         lists,
         ids,
-        places: &places,
+        places: places.as_slice(),
     };
     rows_of(alloc, parts, order, &back, edges, ranks.as_slice())
 }

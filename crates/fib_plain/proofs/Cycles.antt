@@ -1,13 +1,15 @@
 -- The edges as a list of pairs, and those of them that lie on cycles.
 use Rattle.std.proofs.Common.{arith, ◌≡◌, ℕ, zero, suc, ◌+◌, ◌-◌, ◌<◌, ◌≤◌, Bool, true, false, ◌==◌, ◌&&◌, ◌||◌, List, [], ◌∷◌, ◌++◌, map, take, length, get_or, Some, inl, inr, refl, sym, ◌∙◌, ap, subst, cond, append_assoc}
-use Rattle.std.specs.Prelude.{All, Contains, IsTrue, slice_get, slice_index_or}
+use Rattle.std.specs.Prelude.{All, Contains, IsTrue, slice_get, slice_index_or, slice_set}
 use Rattle.std.proofs.lemmas.Bool.{false≢true, cases_eq}
 use Rattle.std.proofs.lemmas.Bool.Decides.{Decides-eqb}
 use Rattle.std.proofs.lemmas.Option.{slice_get-get_or}
-use Rattle.std.proofs.lemmas.List.{take_more, length-take, length-map, map-append, append-nil}
+use Rattle.std.proofs.lemmas.Grind.{get_or-set_at}
+use Rattle.std.proofs.lemmas.List.{take_more, length-take, length-map, map-append, append-nil, get_or-set_other}
 use Rattle.std.proofs.lemmas.List.Elements.{All-from_recursion, Contains-append_left, Contains-append_right, Contains-append_cases}
 use Rattle.std.specs.List.{AllByRecursion}
 use Rattle.fib_list.proofs.Lists.{either, Contains-nil, each-append, each-map, each-weaker}
+use Rattle.std.proofs.lemmas.List.Elements.{All-contains}
 use Rattle.fib_resolve.proofs.PairLaws.{each-all}
 use Rattle.fib_list.proofs.Booleans.{and_both}
 use Rattle.fib_reach.specs.Walks.{Walk, Among}
@@ -22,9 +24,9 @@ use Rattle.fib_resolve.specs.declared.types.Path.{Path}
 use Rattle.fib_resolve.specs.declared.types.PathKind.TheVariants as kinds
 use Rattle.fib_resolve.specs.declared.types.Tables.{Tables}
 use Rattle.fib_effective.specs.Numbers.{number_in}
-use Rattle.fib_plain.specs.inner.Rows.{goal_number, next_numbers, graph_of, edges_from, edges_of, same_edge, has_edge, AreMarked, AreLooped}
-use Rattle.fib_plain.proofs.Edges.{looped_by, row_is, next_below}
-use Rattle.fib_effective.proofs.Members.{in_cases, first_in, later_in, filter_map_in}
+use Rattle.fib_plain.specs.inner.Rows.{goal_number, next_numbers, graph_of, edges_from, edges_of, same_edge, has_edge, AreMarked, AreLooped, AreStarts}
+use Rattle.fib_plain.proofs.Edges.{looped_by, looped_none, row_is, next_below}
+use Rattle.fib_effective.proofs.Members.{in_cases, first_in, later_in, filter_map_in, some_or_none}
 
 pair_is : (a b c d : ℕ) → ◌≡◌ {A = ℕ × ℕ} (a, b) (c, d) → (a ≡ c) × (b ≡ d)
 pair_is a b c d h = (ap (λ (p : ℕ × ℕ). p.0) h, ap (λ (p : ℕ × ℕ). p.1) h)
@@ -208,3 +210,42 @@ none_marked edges marks found none d = (
   λ t. absurd (false≢true (sym (ap (λ (es : List (ℕ × ℕ)). has_edge es d) none) ∙ t)),
   λ r. absurd (omega (arith, r.1)),
 )
+
+-- each edge on a cycle starts at an entry
+each_start : (S : Tables) (found xs : List (ℕ × ℕ)) → AreLooped (edges_of S) found → ((d : ℕ × ℕ) → IsTrue (has_edge xs d) → IsTrue (has_edge found d)) → AllByRecursion (λ d. d.0 < length (entries S)) xs
+each_start S found [] are part = tt
+each_start S found (x ∷ xs) are part =
+    let N = length (entries S) in
+    let here : IsTrue (has_edge (x ∷ xs) x) = rw (edge_self x) refl in
+    ((All-contains (λ d. (d.0 < N) × (d.1 < N)) (edges_of S) x (edges_inside S) ((are x).0 (part x here)).0).0, each_start S found xs are (λ d h. part d (later d h)))
+  where
+    later : (d : ℕ × ℕ) → IsTrue (has_edge xs d) → IsTrue (has_edge (x ∷ xs) d)
+    later d h = elim (either (same_edge d x)) [ inl is ↦ rw is refl | inr isnt ↦ rw isnt h ]
+
+pub starts_inside : (S : Tables) (found : List (ℕ × ℕ)) → AreLooped (edges_of S) found → AllByRecursion (λ d. d.0 < length (entries S)) found
+starts_inside S found are = each_start S found found are (λ d h. h)
+
+-- one start more
+pub start_more : (keys old new : List (ℕ × ℕ)) (x : ℕ × ℕ) (starts : List Bool) → old ≡ x ∷ new → x.0 < length starts →
+    ((d : ℕ × ℕ) → IsTrue (has_edge keys d) → has_edge old d ≡ false → IsTrue (slice_index_or starts d.0 false)) →
+    (d : ℕ × ℕ) → IsTrue (has_edge keys d) → has_edge new d ≡ false → IsTrue (slice_index_or (slice_set starts x.0 true) d.0 false)
+start_more keys old new x starts steps lt was d h none =
+    elim (cases_eq d.0 x.0) [
+      | inl is ↦ get_or-set_at starts x.0 d.0 true false is lt
+      | inr isnt ↦ get_or-set_other starts x.0 d.0 true false isnt ∙ was d h (ap (λ (es : List (ℕ × ℕ)). has_edge es d) steps ∙ apart isnt)
+    ]
+  where
+    apart : (d.0 ≡ x.0 → ⊥) → has_edge (x ∷ new) d ≡ false
+    apart isnt = elim (either (same_edge d x)) [ inl is ↦ absurd (isnt (ap (λ (e : ℕ × ℕ). e.0) (edge_is d x is))) | inr other ↦ rw other none ]
+
+-- where no edge on a cycle starts, nothing is looped
+pub looped_start : (S : Tables) (e : Prefix) (a k : ℕ) (found : List (ℕ × ℕ)) (starts : List Bool) → AreLooped (edges_of S) found → AreStarts found starts → number_in S e ≡ Some k →
+    ((p : Path) × Contains (chosen S e) p × (p.kind ≡ kinds.Recursive a)) → slice_index_or starts k false ≡ false → false ≡ looped S e a
+looped_start S e a k found starts are begin n p none =
+    elim (some_or_none (number_in S (host a))) [
+      | inl lacks ↦ sym (looped_none S e a k lacks n)
+      | inr has ↦ elim (either (has_edge found (k, has.0))) [
+        | inl is ↦ absurd (false≢true (sym none ∙ begin (k, has.0) is))
+        | inr isnt ↦ sym isnt ∙ looped_found S e a has.0 k found are has.1 n p
+      ]
+    ]

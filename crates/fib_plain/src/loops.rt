@@ -1,5 +1,5 @@
 // The edges of recursion, by the entries' numbers, and those that lie on cycles.
-ghost use Rattle.std.specs.Prelude.{◌≡◌, ◌<◌, ◌↔◌, ◌++◌, ◌||◌, ◌&&◌, ℕ, Some, IfOk, IfSome, IsTrue, OnOk, Contains, length, map, option_to_list};
+ghost use Rattle.std.specs.Prelude.{◌≡◌, ◌<◌, ◌↔◌, ◌++◌, ◌||◌, ◌&&◌, ℕ, Some, IfOk, IfSome, IsTrue, OnOk, Contains, false, length, map, option_to_list, slice_index_or};
 ghost use Rattle.std.specs.Set.{is_member};
 ghost use Rattle.fib_loops.specs.Loops.{AreEdges, IsLooped};
 ghost use Rattle.fib_resolve.specs.Pairs.{chosen, entries};
@@ -7,7 +7,7 @@ ghost use Rattle.fib_resolve.specs.Loops.{looped};
 ghost use Rattle.fib_resolve.specs.declared.types.Path.{Path as PathValue};
 ghost use Rattle.fib_resolve.specs.declared.types.PathKind.TheVariants as kinds;
 ghost use Rattle.fib_effective.specs.Numbers.{number_in};
-ghost use Rattle.fib_plain.specs.inner.Rows.{goal_number, next_numbers, edges_from, edges_of, same_edge, has_edge, AreLooped, AreMarked};
+ghost use Rattle.fib_plain.specs.inner.Rows.{goal_number, next_numbers, edges_from, edges_of, same_edge, has_edge, AreLooped, AreMarked, AreStarts};
 
 use fib_addr::{Addr, Prefix};
 use fib_effective::Known;
@@ -118,6 +118,32 @@ pub fn looped_edges(alloc: Global, known: &Known<'_>) -> Result<HashSet<(u32, u3
     let nodes = known.entries().len() as u32;
     let edges = edges(alloc, known)?;
     on_cycles(alloc, nodes, edges.as_slice())
+}
+
+/// For each entry by its number, whether one of these edges starts there.
+pub fn starts(
+    alloc: Global,
+    known: &Known<'_>,
+    on_cycles: &HashSet<(u32, u32)>,
+) -> Result<Vec<bool>, AllocError>
+    requires { AreLooped (edges_of known.now) on_cycles.now.keys }
+    ensures { IfOk result (λ v. AreStarts on_cycles.now.keys v.items) }
+{
+    let mut starts = Vec::from_elem(alloc, false, known.entries().len())?;
+    for edge in on_cycles.iter() {
+        starts[edge.0 as usize] = true;
+    }
+    Ok(starts)
+}
+
+/// Whether the number is marked.
+pub fn is_start(starts: &[bool], number: usize) -> bool
+    ensures { result ≡ slice_index_or starts.now number false }
+{
+    match starts.get(number) {
+        Some(start) => *start,
+        None => false,
+    }
 }
 
 /// Whether a recursive path of the entry's chosen list to that next hop is looped.

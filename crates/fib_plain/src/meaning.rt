@@ -1,9 +1,12 @@
 // What tables mean, but for which entries forward.
-ghost use Rattle.std.specs.Prelude.{◌≡◌, ◌↔◌, IfOk, Contains};
+ghost use Rattle.std.specs.Prelude.{◌≡◌, ◌<◌, ◌^◌, ◌↔◌, IfOk, IfSome, Some, Contains, length};
 ghost use Rattle.fib_addr.specs.Prefixes.{Prefix as PrefixValue};
 ghost use Rattle.fib_cover.specs.Covers.{IsAscending, ArePrefixes};
 ghost use Rattle.fib_resolve.specs.Pairs.{pairs, entries, chosen, cover, best};
-ghost use Rattle.fib_resolve.specs.Loops.{looped_kind};
+ghost use Rattle.fib_resolve.specs.Loops.{looped, looped_kind};
+ghost use Rattle.fib_resolve.specs.declared.types.Path.{Path as PathValue};
+ghost use Rattle.fib_resolve.specs.declared.types.PathKind.TheVariants as kinds;
+ghost use Rattle.fib_effective.specs.Numbers.{number_in};
 ghost use Rattle.fib_resolve.specs.Forwarding.{is_up, is_met};
 ghost use Rattle.fib_resolve.specs.Resolution.{mac_of, hop_end, attached_end};
 ghost use Rattle.fib_resolve.specs.Sizes.{adjacencies};
@@ -30,6 +33,8 @@ pub struct Meaning<'a> {
     macs: HashMap<Adjacency, Mac>,
     /// The edges that lie on cycles, by the entries' numbers.
     on_cycles: HashSet<(u32, u32)>,
+    /// For each entry by its number, whether such an edge starts there: of the other entries nothing else is asked.
+    starts: Vec<bool>,
 }
 
 // The prover follows what a drop does here, once, and not at every way out past an owner.
@@ -40,6 +45,7 @@ impl Drop for Meaning<'_> {
             order: _,
             macs: _,
             on_cycles: _,
+            starts: _,
         } = self;
     }
 }
@@ -53,7 +59,7 @@ impl<'a> Model for Meaning<'a> {
 
     ghost view = { λ s. s.known };
 
-    ghost invariant = { λ s. IsMeaning s.known s.order s.macs s.on_cycles.keys };
+    ghost invariant = { λ s. IsMeaning s.known s.order s.macs s.on_cycles.keys s.starts.items };
 }
 
 impl<'a> Meaning<'a> {
@@ -68,11 +74,13 @@ impl<'a> Meaning<'a> {
         let _count = order.len();
         let macs = ways::macs(alloc, tables)?;
         let on_cycles = loops::looped_edges(alloc, &known)?;
+        let starts = loops::starts(alloc, &known, &on_cycles)?;
         Ok(Meaning {
             known,
             order,
             macs,
             on_cycles,
+            starts,
         })
     }
 
@@ -134,6 +142,7 @@ impl<'a> Meaning<'a> {
             order,
             macs: _,
             on_cycles: _,
+            starts: _,
         } = self;
         order
     }
@@ -175,12 +184,34 @@ impl<'a> Meaning<'a> {
             PathKind::Recursive(a) => match self.known.number(e) {
                 Some(number) => {
                     let _few = self.known.entries();
-                    loops::is_looped(&self.on_cycles, &self.known, e, number as u32, a)
+                    self.is_looped_from(e, number as u32, a)
                 }
                 None => false,
             },
             _ => false,
         }
+    }
+
+    /// Whether a recursive path to that next hop, which is one of the chosen list of the entry with that number, is looped.
+    fn is_looped_from(&self, e: Prefix, number: u32, a: Addr) -> bool
+        requires number { number_in self.now e ≡ Some number }
+        requires there { (p : PathValue) × Contains (chosen self.now e) p × (p.kind ≡ kinds.Recursive a) }
+        ensures { result ≡ looped self.now e a }
+    {
+        if !loops::is_start(self.starts.as_slice(), number as usize) {
+            return false;
+        }
+        loops::is_looped(&self.on_cycles, &self.known, e, number, a)
+    }
+
+    /// The number of an entry: its place among the entries.
+    pub fn number(&self, prefix: Prefix) -> Option<usize>
+        ensures value { result ≡ number_in self.now prefix }
+        ensures below { IfSome result (λ k. k < length (entries self.now)) }
+        ensures few { length (entries self.now) < 2 ^ 32 }
+    {
+        let _few = self.known.entries();
+        self.known.number(prefix)
     }
 
     /// Whether the interface is there and up.

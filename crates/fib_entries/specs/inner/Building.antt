@@ -1,10 +1,10 @@
 -- What stands while entries are made anew. No contract of a public call rests on this.
-use Rattle.std.specs.Prelude.{◌≡◌, ◌↔◌, ◌⊎◌, true, ◌<◌, ℕ, Bool, List, length, count_by, Contains, Some, IsSome, slice_get, slice_index, position, ◌&&◌, ◌==◌}
-use Rattle.std.specs.HashMap.{HashMap, get}
-use Rattle.std.specs.List.{AllZip, list_any}
+use Rattle.std.specs.Prelude.{◌≡◌, ◌↔◌, ◌⊎◌, true, ◌<◌, ℕ, Bool, List, length, count_by, Contains, Option, Some, None, IsSome, slice_get, slice_index, slice_index_or, slice_set, option_map, position, ◌&&◌, ◌+◌, ◌*◌}
+use Rattle.std.specs.List.{AllZip, list_any, position_from}
 use Rattle.std.specs.Set.{is_member}
 use Rattle.std.specs.Cmp.Lexicographic.{pointwise}
 use Rattle.fib_addr.specs.Prefixes.{Prefix, same_prefix}
+use Rattle.fib_effective.specs.Numbers.{number_in}
 use Rattle.fib_resolve.specs.Keys.{source_rank, same_path, same_source}
 use Rattle.fib_resolve.specs.Pairs.{chosen, pairs}
 use Rattle.fib_resolve.specs.Tables.{IsSound}
@@ -27,19 +27,30 @@ pub record AreTaken (lists : List PathKept) (xs : List Pair) (ids : List ℕ) : 
   pub each : AllZip (λ x id. content_of lists id ≡ Some x.paths) xs ids
   pub users : (k : PathKept) → Contains lists k → k.users ≡ count_by (λ x. pointwise same_path x.paths k.content) xs
 
-abbrev pub same_key : Prefix × ℕ → Prefix × ℕ → Bool
-same_key a b = same_prefix a.0 b.0 && (a.1 == b.1)
+-- where the place of a pair is kept: each entry has seven slots, one a source
+abbrev pub slot_of : Tables → Prefix → FibSource → Option ℕ
+slot_of S p s = option_map (λ n. 7 * n + source_rank s) (number_in S p)
 
--- the place of each pair by its prefix and its source's rank
-abbrev pub AreByKey : {H : Type 0} → List Pair → HashMap (Prefix × ℕ) ℕ H → Type 0
-AreByKey xs places =
-    (p : Prefix) (s : FibSource) → get same_key places (p, source_rank s) ≡ position (λ x. same_prefix p x.prefix && same_source s x.source) xs
+abbrev pub kept_in : Option ℕ → ℕ → List (Option ℕ) → List (Option ℕ)
+kept_in None place places = places
+kept_in (Some slot) place places = slice_set places slot (Some place)
+
+abbrev pub is_pair_of : Prefix → FibSource → Pair → Bool
+is_pair_of p s x = same_prefix p x.prefix && same_source s x.source
+
+-- the slots have the first places of the entries' pairs, where the first of these stands at the place n
+abbrev pub AreSlots : Tables → ℕ → List Pair → List (Option ℕ) → Type 0
+AreSlots S n xs places = (p : Prefix) (s : FibSource) (k : ℕ) → number_in S p ≡ Some k → slice_index_or places (7 * k + source_rank s) None ≡ position_from (is_pair_of p s) n xs
+
+abbrev pub ArePlaced : Tables → List Pair → List (Option ℕ) → Type 0
+ArePlaced S xs places =
+    (p : Prefix) (s : FibSource) (k : ℕ) → number_in S p ≡ Some k → slice_index_or places (7 * k + source_rank s) None ≡ position (λ x. same_prefix p x.prefix && same_source s x.source) xs
 
 -- the tables are sound, and all else is what they mean
 pub record AreParts (parts : Parts) : Type 0 where
   pub sound : IsSound parts.meaning.now
   pub taken : AreTaken parts.lists.now (pairs parts.meaning.now) parts.ids.now
-  pub places : AreByKey (pairs parts.meaning.now) parts.places.now
+  pub places : ArePlaced parts.meaning.now (pairs parts.meaning.now) parts.places.now
 
 -- the first has an edge to the second
 abbrev pub has_edge : Tables → Prefix → Prefix → Bool

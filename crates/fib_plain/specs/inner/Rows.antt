@@ -70,6 +70,10 @@ abbrev pub AreMarked : List (ℕ × ℕ) → List Bool → ℕ → List (ℕ × 
 AreMarked edges marks count found =
     (d : ℕ × ℕ) → IsTrue (has_edge found d) ↔ ((k : ℕ) × (k < count) × (slice_get edges k ≡ Some d) × IsTrue (slice_index_or marks k false))
 
+-- the numbers at which one of the edges starts are marked
+abbrev pub AreStarts : List (ℕ × ℕ) → List Bool → Type 0
+AreStarts found starts = (d : ℕ × ℕ) → IsTrue (has_edge found d) → IsTrue (slice_index_or starts d.0 false)
+
 -- those of the edges that lie on cycles
 abbrev pub AreLooped : List (ℕ × ℕ) → List (ℕ × ℕ) → Type 0
 AreLooped edges found = (d : ℕ × ℕ) → IsTrue (has_edge found d) ↔ (Contains edges d × IsLooped edges d)

@@ -10,7 +10,7 @@ use Rattle.fib_resolve.specs.Sizes.{same_adjacency}
 use Rattle.fib_resolve.specs.declared.pairs.Adjacency.{Adjacency}
 use Rattle.fib_resolve.specs.declared.types.Neighbor.{Neighbor}
 use Rattle.fib_resolve.specs.declared.types.Tables.{Tables}
-use Rattle.fib_plain.specs.inner.Rows.{rows_of, edges_of, AreLooped}
+use Rattle.fib_plain.specs.inner.Rows.{rows_of, edges_of, AreLooped, AreStarts}
 use Rattle.fib_plain.specs.declared.facts.PathFacts.{PathFacts}
 
 -- for each interface and address, the MAC of its first neighbor
@@ -18,11 +18,12 @@ abbrev pub AreMacs : {H : Type 0} → List Neighbor → HashMap Adjacency ℕ H 
 AreMacs neighbors macs =
     (i a : ℕ) → get same_adjacency macs (record { interface = i; next_hop = a }) ≡ option_map (λ n. n.mac) (find (is_neighbor i a) neighbors)
 
-pub record IsMeaning {H : Type 0} (S : Tables) (order : List Prefix) (macs : HashMap Adjacency ℕ H) (on_cycles : List (ℕ × ℕ)) : Type 0 where
+pub record IsMeaning {H : Type 0} (S : Tables) (order : List Prefix) (macs : HashMap Adjacency ℕ H) (on_cycles : List (ℕ × ℕ)) (starts : List Bool) : Type 0 where
   pub order_is : (p : Prefix) → Contains order p ↔ Contains (entries S) p
   pub ordered : IsAscending order
   pub macs_are : AreMacs S.neighbors macs
   pub loops_are : AreLooped (edges_of S) on_cycles
+  pub starts_are : AreStarts on_cycles starts
 
 pub record IsSnapshot (S : Tables) (row_list : List (List PathFacts)) (mark_list : List Bool) : Type 0 where
   pub rows_are : row_list ≡ rows_of S

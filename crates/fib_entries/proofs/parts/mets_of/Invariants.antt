@@ -3,4 +3,4 @@ use Rattle.fib_entries.specs.Known.{kind_met}
 use Rattle.fib_entries.proofs.parts.mets_of.Given as goal
 
 abbrev pub invariant-loop-p : goal.invariant-loop-p
-invariant-loop-p l = l.out ≡ map (λ p. kind_met l.meaning p.need p.kind) (take l.p-index l.paths)
+invariant-loop-p l = l.out.items ≡ map (λ p. kind_met l.meaning p.need p.kind) (take l.p-index l.paths)

@@ -39,9 +39,9 @@ returns c =
     let S = c.args.meaning.now in
     let order = c.args.order.now in
     let lists = c.args.lists.now in
-    let ranks = c.as_slice-2.result.now in
+    let ranks = c.as_slice-3.result.now in
     let kept = c.in_ok-kept.kept.items in
     let fall : (d : ℕ × ℕ) → Contains kept d → slice_index ranks d.1 < slice_index ranks d.0 = λ d k.
-    subst (λ (q : List ℕ). slice_index q d.1 < slice_index q d.0) (sym c.as_slice-2.ensures.value) (c.in_ok-ranks.ensures.1 d (subst (λ (l : List (ℕ × ℕ)). Contains l d) (sym c.as_slice.ensures.value) k)) in
+    subst (λ (q : List ℕ). slice_index q d.1 < slice_index q d.0) (sym c.as_slice-3.ensures.value) (c.in_ok-ranks.ensures.1 d (subst (λ (l : List (ℕ × ℕ)). Contains l d) (sym c.as_slice.ensures.value) k)) in
     IfOk-weaker c.rows_of.result (λ v. AreRows lists S order ranks (length order) v.items) (λ v. AreAnew lists S order v.items)
     (λ v h. record { ranks = ranks; made = h; falls = falls_by lists S order ranks kept v.items h c.requires.same c.in_ok-kept.ensures fall }) c.rows_of.ensures

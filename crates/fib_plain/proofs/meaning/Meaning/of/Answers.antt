@@ -12,4 +12,5 @@ invariant_of-result c =
       ordered = c.len-count.ensures.ordered;
       macs_are = subst (λ T. AreMacs T.neighbors c.in_ok-macs.macs) is c.in_ok-macs.ensures;
       loops_are = c.in_ok-on_cycles.ensures;
+      starts_are = c.in_ok-starts.ensures;
     }
