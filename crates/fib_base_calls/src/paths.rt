@@ -24,6 +24,7 @@ fn equal_lists_are_one(rt: HostRuntime) -> Result<(), Fail> {
     assert!(rt; lists.has_room(&one));
     let again = lists.take(&one)?;
     assert_eq!(rt; first, again);
+    assert_eq!(rt; lists.find(&two), Some(second));
     assert_ne!(rt; first, second);
     assert_eq!(rt; lists.count(), 2);
     Ok(())
@@ -35,7 +36,9 @@ fn a_list_goes_with_its_last_user(rt: HostRuntime) -> Result<(), Fail> {
     let one = [via(1)];
     let id = lists.take(&one)?;
     assert_eq!(rt; lists.content(id).len(), 1);
-    assert_eq!(rt; lists.users(id), 1);
+    lists.hold(id);
+    assert_eq!(rt; lists.users(id), 2);
+    lists.give(id);
     lists.give(id);
     assert_eq!(rt; lists.count(), 0);
     Ok(())

@@ -198,9 +198,14 @@ used_less rows paths id most k kept apart at is low = record {
       subst (λ z. z.users < most) r.2 (subst (λ (z : Kept (Vec Path Global)). z.users < most) (some_is k r.0 (sym at ∙ ap (kept_of rows) (sym one) ∙ found)) (subst (λ n. n < most) (ap users_in at) low)));
 }
 
+-- what is new isn't listed
+pub not_listed : (rows : Rows) (paths : List Path) → IsNew rows paths → (l : Kept (List Path)) → Contains (map listed rows) l → l.content ≢ paths
+unfolding IsNew
+not_listed rows paths fresh l c same = (let r = listed_contains rows l c in fresh r.0 r.1 (sym same ∙ ap (λ z. z.content) (sym r.2)))
+
 pub used_none : (rows : Rows) (paths : List Path) (most : ℕ) → IsNew rows paths → IsUsedLess (map listed rows) paths most
 unfolding IsNew
-used_none rows paths most fresh = record { less = λ l c same. (let r = listed_contains rows l c in absurd (fresh r.0 r.1 (sym same ∙ ap (λ z. z.content) (sym r.2)))) }
+used_none rows paths most fresh = record { less = λ l c same. absurd (not_listed rows paths fresh l c same) }
 
 -- numbers and contents are apart
 pub interned_listed : (rows : Rows) → AreInterned rows → AreApart rows → AreInterned (map listed rows)

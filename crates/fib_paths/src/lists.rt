@@ -1,7 +1,7 @@
 // Kept path-lists.
-ghost use Rattle.std.specs.Prelude.{◌≡◌, ◌<◌, ◌-◌, ◌^◌, [], length, Some, IsSome, IsTrue, ◌↔◌, IfOk, OnErr, slice_get, option_map};
+ghost use Rattle.std.specs.Prelude.{◌≡◌, ◌≢◌, ◌<◌, ◌-◌, ◌^◌, [], length, Some, IsSome, IsTrue, ◌↔◌, IfOk, IfSome, IfNone, OnErr, Contains, slice_get, option_map};
 ghost use Rattle.fib_interned.specs.Interned.{kept_of, users_of, AreInterned, Takes, Gives};
-ghost use Rattle.fib_paths.specs.PathLists.{IsUsedLess};
+ghost use Rattle.fib_paths.specs.PathLists.{IsUsedLess, KeptList};
 
 use fib_interned::Numbered;
 use fib_resolve::Path;
@@ -86,6 +86,17 @@ impl PathLists {
         self.rows.users(id.0)
     }
 
+    /// The number of the list with that content; None exactly where none is kept.
+    pub fn find(&self, content: &[Path]) -> Option<PathListId>
+        ensures found { IfSome result (λ id. option_map (λ k. k.content) (kept_of self.now id) ≡ Some content.now) }
+        ensures absent { IfNone result ((k : KeptList) → Contains self.now k → k.content ≢ content.now) }
+    {
+        match self.rows.find(content) {
+            Some(id) => Some(PathListId(id)),
+            None => None,
+        }
+    }
+
     /// Whether the list with that content, if there is one, may have a user more.
     pub fn has_room(&self, content: &[Path]) -> bool
         ensures { IsTrue result ↔ IsUsedLess self.now content.now (2 ^ 32 - 1) }
@@ -113,6 +124,16 @@ impl PathLists {
         let copied = content.to_vec(self.alloc)?;
         let id = self.rows.add(copied)?;
         Ok(PathListId(id))
+    }
+
+    /// One user more of a kept list. Takes no memory.
+    pub fn hold(&mut self, id: PathListId)
+        requires kept { IsSome (kept_of self.old id) }
+        requires room { users_of self.old id < 2 ^ 32 - 1 }
+        ensures held { (k : KeptList) → kept_of self.old id ≡ Some k → Takes self.old self.new k.content id }
+        ensures interned { AreInterned self.new }
+    {
+        self.rows.hold(id.0);
     }
 
     /// One user less: the list is forgotten with its last one. Takes no memory.
