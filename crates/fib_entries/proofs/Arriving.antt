@@ -10,7 +10,6 @@ use Rattle.fib_resolve.specs.declared.pairs.Pair.{Pair}
 use Rattle.fib_resolve.specs.declared.types.FibSource.{FibSource}
 use Rattle.fib_resolve.specs.declared.types.Path.{Path}
 use Rattle.fib_changes.proofs.Edits.{in_cases, in_front, in_rest}
-use Rattle.fib_interned.proofs.Finding.{contains_at, get_set_there}
 use Rattle.fib_entries.specs.Known.{PathKept, content_of, prefix_of, IsHeld}
 use Rattle.fib_entries.specs.inner.Coming.{IsPlaced, blank_row, with_pairs}
 use Rattle.fib_entries.specs.inner.Ends.{is_exit, exits_of}
@@ -20,12 +19,12 @@ use Rattle.fib_entries.specs.inner.Plies.{IsGap}
 use Rattle.fib_entries.specs.declared.replace.Own.{Own}
 use Rattle.fib_entries.specs.Rows.{Row}
 use Rattle.fib_entries.proofs.Exits.{exits_came}
-use Rattle.fib_entries.proofs.Linking.{zip_at, zip_from, attached_names, set_names}
+use Rattle.fib_entries.proofs.Linking.{zip_at}
 use Rattle.fib_entries.proofs.Listing.{pair_of}
-use Rattle.fib_entries.proofs.Looking.{one_place}
 use Rattle.fib_entries.proofs.Naming.{named_held, once_more}
-use Rattle.fib_entries.proofs.Placing.{inserted_from, inserted_old, inserted_at, inserted_map, inserted_ascending, length_map, same_order}
-use Rattle.fib_entries.proofs.Replacing.{set_from}
+use Rattle.fib_entries.proofs.Placing.{inserted_at, inserted_map, inserted_ascending, length_map, same_order}
+use Rattle.fib_entries.proofs.Orders.{inserted_members}
+use Rattle.fib_entries.proofs.Putting.{put_row, put_names, put_ordered, put_from, paired_names, paired_ordered, paired_there, paired_from}
 use Rattle.fib_entries.proofs.Using.{once, recounted, counted_taken, taken_stays, content_taken}
 
 -- what belongs among the prefixes belongs among the rows
@@ -40,52 +39,35 @@ pub came_inside : (p : Prefix) (goals : List Prefix) (rows mid : List Row) (plac
 came_inside p goals rows mid place row le a = (let s = zip_at _ (insert rows place row) mid place row a (inserted_at rows place row le) in slice_get_within mid place s.0 s.1)
 
 module _ (old new : List Row) (lists later : List PathKept) (place : ℕ) (p : Prefix) (after : List Path) (own : Own) (r : IsPlaced old new lists later place p after own) (asc : IsAscending (map prefix_of old)) (gap : IsGap (map prefix_of old) place p) where
-  le : place ≤ length old
-  le = gap_inside old place p gap
-
   pub mid_own : (s : Row) × (slice_get r.mid place ≡ Some s) × (IsButFor p (blank_row p own) s × (Contains s.dependants p ↔ Contains {X = Prefix} [] p ⊎ Contains (goals_of after) p))
-  mid_own = zip_at _ (insert old place (blank_row p own)) r.mid place (blank_row p own) r.attached (inserted_at old place (blank_row p own) le)
+  mid_own = put_row old r.mid place p (goals_of after) own r.attached asc gap
 
   set : new ≡ slice_set r.mid place (with_pairs ((own.source, r.new_id) ∷ []) mid_own.0)
   set = r.set mid_own.0 mid_own.1
 
-  mid_names : map prefix_of r.mid ≡ insert (map prefix_of old) place p
-  mid_names = attached_names p (goals_of after) (insert old place (blank_row p own)) r.mid r.attached ∙ inserted_map prefix_of old place (blank_row p own) le
-
   mid_ordered : IsAscending (map prefix_of r.mid)
-  mid_ordered = subst IsAscending (sym mid_names) (inserted_ascending (map prefix_of old) place p gap asc)
+  mid_ordered = put_ordered old r.mid place p (goals_of after) own r.attached asc gap
 
   pub names_came : map prefix_of new ≡ insert (map prefix_of old) place p
-  names_came = ap (map prefix_of) set ∙ (set_names r.mid place mid_own.0 (with_pairs ((own.source, r.new_id) ∷ []) mid_own.0) mid_own.1 refl ∙ mid_names)
+  names_came = paired_names r.mid new place ((own.source, r.new_id) ∷ []) mid_own.0 mid_own.1 set mid_ordered ∙ put_names old r.mid place p (goals_of after) own r.attached asc gap
 
   pub ordered_came : IsAscending (map prefix_of new)
-  ordered_came = subst IsAscending (sym names_came) (inserted_ascending (map prefix_of old) place p gap asc)
+  ordered_came = paired_ordered r.mid new place ((own.source, r.new_id) ∷ []) mid_own.0 mid_own.1 set mid_ordered
 
   -- the prefix alone is one more
   pub with_it : (e : Prefix) → Contains (map prefix_of new) e ↔ Contains (map prefix_of old) e ⊎ (p ≡ e)
-  with_it e = (
-    λ c. elim (inserted_from (map prefix_of old) place p e gap.inside (subst (λ l. Contains l e) names_came c)) [ inl is ↦ inr is | inr was ↦ inl was ],
-    λ d. subst (λ l. Contains l e) (sym names_came) (elim d [
-      | inl was ↦ inserted_old (map prefix_of old) place p e gap.inside was
-      | inr is ↦ subst (Contains (insert (map prefix_of old) place p)) is (contains_at (insert (map prefix_of old) place p) place p (inserted_at (map prefix_of old) place p gap.inside))
-    ]),
-  )
+  with_it e = subst (λ l. Contains l e ↔ Contains (map prefix_of old) e ⊎ (p ≡ e)) (sym names_came) (inserted_members (map prefix_of old) place p gap.inside e)
 
   pub there_came : Contains new (with_pairs ((own.source, r.new_id) ∷ []) mid_own.0)
-  there_came = subst (λ l. Contains l (with_pairs ((own.source, r.new_id) ∷ []) mid_own.0)) (sym set)
-      (contains_at (slice_set r.mid place (with_pairs ((own.source, r.new_id) ∷ []) mid_own.0)) place (with_pairs ((own.source, r.new_id) ∷ []) mid_own.0) (get_set_there r.mid place (with_pairs ((own.source, r.new_id) ∷ []) mid_own.0) mid_own.0 mid_own.1))
+  there_came = paired_there r.mid new place ((own.source, r.new_id) ∷ []) mid_own.0 mid_own.1 set mid_ordered
 
   -- each row is that one or one of the others
   pub row_from : (s : Row) → Contains new s → (with_pairs ((own.source, r.new_id) ∷ []) mid_own.0 ≡ s)
       ⊎ ((p ≢ s.prefix) × (q : Row) × Contains old q × (IsButFor p q s × (Contains s.dependants p ↔ Contains q.dependants p ⊎ Contains (goals_of after) q.prefix)))
-  row_from s c = elim (set_from r.mid place (with_pairs ((own.source, r.new_id) ∷ []) mid_own.0) s (subst (λ l. Contains l s) set c)) [
+  unfolding mid_own
+  row_from s c = elim (paired_from r.mid new place ((own.source, r.new_id) ∷ []) mid_own.0 mid_own.1 set mid_ordered s c) [
     | inl is ↦ inl is
-    | inr (j, off, at) ↦ (let x = zip_from _ (insert old place (blank_row p own)) r.mid r.attached s (contains_at r.mid j s at) in
-        let away : p ≢ s.prefix = λ is. off (one_place prefix_of r.mid mid_ordered j place s mid_own.0 at mid_own.1 (sym is ∙ sym mid_own.2.0.prefix)) in
-        elim (inserted_from old place (blank_row p own) x.0 le x.1) [
-          | inl blank ↦ absurd (away (ap (λ z. z.prefix) blank ∙ sym x.2.0.prefix))
-          | inr was ↦ inr (away, x.0, was, x.2)
-        ])
+    | inr (off, was) ↦ elim (put_from old r.mid place p (goals_of after) own r.attached asc gap s was) [ inl is ↦ absurd (off (ap (λ z. z.prefix) is)) | inr other ↦ inr other ]
   ]
 
   module _ (n : AreNamed old lists) where
@@ -107,7 +89,7 @@ module _ (old new : List Row) (lists later : List PathKept) (place : ℕ) (p : P
           (w.0, in_rest (pair_of p own.source after) w.0 n.pairs w.1, but.0.prefix ∙ w.2, (w.3.0, taken_stays lists later after r.new_id r.taken r.apart (count_in n.pairs) n.counted q.1 w.0.paths w.3.1)))
     ]
 
-    named_came : AreNamed new later
+    pub named_came : AreNamed new later
     named_came = record { pairs = pair_of p own.source after ∷ n.pairs; counted = counted; each = named_each }
 
     -- the fields still fit together
@@ -120,7 +102,7 @@ module _ (old new : List Row) (lists later : List PathKept) (place : ℕ) (p : P
         λ c. elim ((members e).0 c) [ inl was ↦ (with_it e).1 (inl was) | inr is ↦ (with_it e).1 (inr (sym is)) ],
         λ c. elim ((with_it e).0 c) [ inl was ↦ (members e).1 (inl was) | inr is ↦ (members e).1 (inr (sym is)) ],
       ));
-      out = out ∙ sym (exits_came old new lists later place p after own r le inside);
+      out = out ∙ sym (exits_came old new lists later place p after own r (gap_inside old place p gap) inside);
     }
 
 -- what came and went again is as it was

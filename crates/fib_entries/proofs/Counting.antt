@@ -1,9 +1,12 @@
 -- How many pairs have a list: only the pairs of changed prefixes count.
-use Rattle.std.proofs.Common.{arith, ◌≡◌, ◌≢◌, ℕ, ◌+◌, ◌<◌, Bool, true, false, cond, not, List, [], ◌∷◌, inl, inr, refl, sym, ◌∙◌, ap, subst, ◌↔◌, filter, count_by}
+use Rattle.std.proofs.Common.{arith, ◌≡◌, ◌≢◌, ℕ, ◌+◌, ◌<◌, Bool, true, false, cond, not, ◌||◌, if◌then◌else◌, List, [], ◌∷◌, inl, inr, refl, sym, ◌∙◌, ap, subst, ◌↔◌, filter, count_by}
 use Rattle.std.specs.Prelude.{Contains}
 use Rattle.std.specs.List.{AllByRecursion, IsDistinct}
 use Rattle.std.proofs.lemmas.Bool.{false≢true}
 use Rattle.fib_list.proofs.Lists.{either, Contains-nil}
+use Rattle.fib_list.proofs.Booleans.{unit_of, count_by-cons}
+use Rattle.fib_addr.specs.Prefixes.{Prefix, same_prefix}
+use Rattle.fib_addr.proofs.PrefixLaws.{same_prefix-Decides}
 use Rattle.std.specs.Cmp.Lexicographic.{pointwise}
 use Rattle.std.proofs.lemmas.List.Sums.{sum_by-append}
 use Rattle.fib_resolve.specs.Keys.{same_path}
@@ -127,6 +130,38 @@ split_count f test (x ∷ xs) =
     right : (a b c : ℕ) → a + (b + c) ≡ b + (a + c)
     right a b c = omega arith
 
+-- what passes one of two tests that none passes both
+tally_parts : (f whole s t : Pair → Bool) → ((x : Pair) → whole x ≡ (s x || t x)) → ((x : Pair) → s x ≡ true → t x ≡ false) → (xs : List Pair) → tally f (filter whole xs) ≡ tally f (filter s xs) + tally f (filter t xs)
+unfolding tally
+tally_parts f whole s t either_is apart [] = refl
+tally_parts f whole s t either_is apart (x ∷ xs) =
+    let rest = tally_parts f whole s t either_is apart xs in
+    elim (either (s x)) [
+      | inl is ↦ rw (either_is x, is, apart x is) (ap (λ n. cond (f x) 1 0 + n) rest ∙ left (cond (f x) 1 0) _ _)
+      | inr isnt ↦ elim (either (t x)) [
+        | inl that ↦ rw (either_is x, isnt, that) (ap (λ n. cond (f x) 1 0 + n) rest ∙ right (cond (f x) 1 0) _ _)
+        | inr neither ↦ rw (either_is x, isnt, neither) rest
+      ]
+    ]
+  where
+    left : (a b c : ℕ) → a + (b + c) ≡ a + b + c
+    left a b c = omega arith
+
+    right : (a b c : ℕ) → a + (b + c) ≡ b + (a + c)
+    right a b c = omega arith
+
+pub count_parts : (f whole s t : Pair → Bool) → ((x : Pair) → whole x ≡ (s x || t x)) → ((x : Pair) → s x ≡ true → t x ≡ false) → (xs : List Pair)
+    → count_by f (filter whole xs) ≡ count_by f (filter s xs) + count_by f (filter t xs)
+count_parts f whole s t either_is apart xs =
+    let a = count_is f (filter whole xs) in
+    let b = count_is f (filter s xs) in
+    let c = count_is f (filter t xs) in
+    let d = tally_parts f whole s t either_is apart xs in
+    sums _ _ _ _ _ _ a b c d
+  where
+    sums : (cw cs ct tw ts tt : ℕ) → cw ≡ tw → cs ≡ ts → ct ≡ tt → tw ≡ ts + tt → cw ≡ cs + ct
+    sums cw cs ct tw ts tt a b c d = omega (arith, a, b, c, d)
+
 -- lists without repeats and with the same members count the same
 pub counts_same : (f : Pair → Bool) (xs ys : List Pair) → IsDistinct same_pair xs → IsDistinct same_pair ys → ((z : Pair) → Contains xs z ↔ Contains ys z) → count_by f xs ≡ count_by f ys
 counts_same f xs ys d e same = count_is f xs ∙ tally_same f xs ys d e same ∙ sym (count_is f ys)
@@ -190,3 +225,32 @@ counted_in paths x ys c =
   where
     sums : (a b c d u : ℕ) → a ≡ c → b ≡ d → c ≡ u + d → a ≡ b + u
     sums a b c d u e f g = omega (arith, e, f, g)
+
+-- a prefix that has one pair counts its list alone
+pub one_counted : (U : Tables) (p : Prefix) (paths : List Path) (x : Pair) → p ≡ x.prefix → Contains (pairs U) x → ((y : Pair) → Contains (pairs U) y → p ≡ y.prefix → x ≡ y)
+    → count_by (λ y. pointwise same_path y.paths paths) (filter (λ y. same_prefix p y.prefix) (pairs U)) ≡ once x.paths paths
+unfolding once IsDistinct
+one_counted U p paths x at c only =
+    counts_same (λ y. pointwise same_path y.paths paths) (filter (λ y. same_prefix p y.prefix) (pairs U)) (x ∷ []) (apart-filter same_pair (λ y. same_prefix p y.prefix) (pairs U) (pairs_apart U)) (tt, tt)
+    (λ z. (
+      λ d. (let r = filter_from (λ y. same_prefix p y.prefix) (pairs U) z d in in_front x z [] (only z r.0 ((same_prefix-Decides p z.prefix).0 r.1))),
+      λ d. elim (in_cases x z [] d) [
+        | inl is ↦ subst (Contains (filter (λ y. same_prefix p y.prefix) (pairs U))) is (filter_in (λ y. same_prefix p y.prefix) (pairs U) x c ((same_prefix-Decides p x.prefix).1 at))
+        | inr none ↦ absurd (Contains-nil z none)
+      ],
+    ))
+    ∙ (count_by-cons (λ y. pointwise same_path y.paths paths) x [] ∙ one (pointwise same_path x.paths paths))
+  where
+    one : (b : Bool) → unit_of b + 0 ≡ (if b then 1 else 0)
+    one true = refl
+    one false = refl
+
+-- and one that has none counts nothing
+pub none_counted : (U : Tables) (p : Prefix) (paths : List Path) → ((y : Pair) → Contains (pairs U) y → p ≡ y.prefix → ⊥) → count_by (λ y. pointwise same_path y.paths paths) (filter (λ y. same_prefix p y.prefix) (pairs U)) ≡ 0
+unfolding IsDistinct
+none_counted U p paths none =
+    counts_same (λ y. pointwise same_path y.paths paths) (filter (λ y. same_prefix p y.prefix) (pairs U)) [] (apart-filter same_pair (λ y. same_prefix p y.prefix) (pairs U) (pairs_apart U)) tt
+    (λ z. (
+      λ d. (let r = filter_from (λ y. same_prefix p y.prefix) (pairs U) z d in absurd (none z r.0 ((same_prefix-Decides p z.prefix).0 r.1))),
+      λ d. absurd (Contains-nil z d),
+    ))

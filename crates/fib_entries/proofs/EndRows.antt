@@ -21,7 +21,7 @@ use Rattle.fib_entries.specs.declared.ends.News.TheVariants as news
 use Rattle.fib_entries.specs.Rows.{Row}
 use Rattle.fib_entries.specs.inner.Ends.{aim_over, aim_at, has_flag, has_mac, with_counts, with_aim, is_exit, has_exit, exits_of, renewed, is_old, is_old_row, is_old_in, renewed_row, AreRenewing}
 use Rattle.fib_entries.proofs.Exits.{over_exits, at_exits}
-use Rattle.fib_entries.proofs.LeafRows.{row_by}
+use Rattle.fib_entries.proofs.PartRows.{row_by}
 use Rattle.fib_entries.proofs.Linking.{set_names}
 use Rattle.fib_entries.proofs.Looking.{one_place}
 use Rattle.fib_entries.proofs.PlyOrder.{index_of}

@@ -1,22 +1,19 @@
 -- What stays the same where flags and MACs alone differ.
-use Rattle.std.proofs.Common.{arith, ◌≡◌, ◌≢◌, ℕ, ◌+◌, ◌-◌, ◌*◌, ◌/◌, ◌<◌, ◌≤◌, ◌^◌, false, not, List, [], ◌∷◌, length, inl, inr, refl, sym, ◌∙◌, ap, subst, ◌↔◌}
-use Rattle.std.specs.Prelude.{Contains, flat_map}
+use Rattle.std.proofs.Common.{arith, ◌≡◌, ◌≢◌, ℕ, ◌+◌, ◌-◌, ◌*◌, ◌/◌, ◌<◌, ◌≤◌, ◌^◌, false, not, List, [], ◌∷◌, inl, inr, refl, sym, ◌∙◌, ap, subst, ◌↔◌}
+use Rattle.std.specs.Prelude.{Contains}
 use Rattle.std.proofs.lemmas.Bool.{false≢true, cases_lt}
 use Rattle.std.proofs.Math.Pow.{shr_lt, shr_mono, shl-shr, pow-add}
 use Rattle.std.proofs.lemmas.Bool.Decides.{Decides-eqb}
-use Rattle.std.proofs.lemmas.Map.Made.{length-from_same_keys}
 use Rattle.std.specs.Cmp.Lexicographic.{pointwise}
 use Rattle.fib_list.proofs.Lists.{either, Contains-flat_map}
-use Rattle.fib_addr.specs.Prefixes.{Prefix, IsPrefix, same_prefix, contains, host, size_of}
+use Rattle.fib_addr.specs.Prefixes.{Prefix, IsPrefix, contains, host, size_of}
 use Rattle.fib_addr.specs.Longest.{everything, longest, longer}
-use Rattle.fib_addr.proofs.PrefixLaws.{same_prefix-Decides, same_prefix_equiv}
 use Rattle.fib_resolve.specs.Keys.{same_path}
 use Rattle.fib_resolve.specs.Pairs.{base_pairs, pairs, entries, chosen, cover, attached_by, attached_of, best_pair, paths_of, recursive_hops, short_prefixes}
 use Rattle.fib_resolve.specs.Loops.{targets, kind_targets, looped, looped_kind, Kept}
 use Rattle.fib_resolve.specs.Forwarding.{is_met}
-use Rattle.fib_resolve.specs.Sizes.{plies, plies_of, size, kind_adjacency, adjacencies_of, adjacencies, same_adjacency}
+use Rattle.fib_resolve.specs.Sizes.{size}
 use Rattle.fib_resolve.specs.Touched.{differ}
-use Rattle.fib_resolve.specs.declared.pairs.Adjacency.{Adjacency}
 use Rattle.fib_resolve.specs.declared.pairs.Pair.{Pair}
 use Rattle.fib_resolve.specs.declared.types.Need.{Need}
 use Rattle.fib_resolve.specs.declared.types.Path.{Path}
@@ -24,7 +21,7 @@ use Rattle.fib_resolve.specs.declared.types.PathKind.{PathKind}
 use Rattle.fib_resolve.specs.declared.types.PathKind.TheVariants as kinds
 use Rattle.fib_resolve.specs.declared.types.Route.{Route}
 use Rattle.fib_resolve.specs.declared.types.Tables.{Tables}
-use Rattle.fib_resolve.proofs.Covering.{entries_apart, pairs_apart}
+use Rattle.fib_resolve.proofs.Covering.{pairs_apart}
 use Rattle.fib_resolve.proofs.OneList.{one_list}
 use Rattle.fib_resolve.proofs.Touching.{best_of, best_paths_same}
 use Rattle.fib_changes.specs.Sources.{all_hops, BaseCaught, ArePrefixes, SameEntry}
@@ -38,9 +35,8 @@ use Rattle.fib_entries.specs.Known.{holders, kind_met}
 use Rattle.fib_entries.specs.inner.Ends.{IsEndEdit}
 use Rattle.fib_entries.proofs.Comparing.{same_bits}
 use Rattle.fib_entries.proofs.Counting.{counts_same}
-use Rattle.fib_entries.proofs.Leafing.{front_half, base_cases, from_front, from_route, entry_of_pair}
-use Rattle.fib_entries.proofs.LeafRows.{pair_at}
-use Rattle.fib_entries.proofs.LeafSizes.{lengths_same, member_same, adjacency_equiv, adjacency_is, plies_half}
+use Rattle.fib_entries.proofs.Leafing.{front_half, base_cases, from_front, from_route, entry_of_pair, pair_at}
+use Rattle.fib_entries.proofs.LeafSizes.{size_alike, adjacencies_same}
 
 -- no prefix contains a number that is no address
 
@@ -202,29 +198,6 @@ module _ (S T : Tables) (h : IsEndEdit S T) where
   holders_same paths = counts_same (λ x. pointwise same_path x.paths paths) (pairs S) (pairs T) (pairs_apart S) (pairs_apart T) pairs_same
 
   -- and the size is the same
-  ends_half : (z : Adjacency) → Contains (flat_map (adjacencies_of S) (entries S)) z → Contains (flat_map (adjacencies_of T) (entries T)) z
-  ends_half z c =
-      let r = flat_map_from (adjacencies_of S) (entries S) z c in
-      Contains-flat_map (adjacencies_of T) (entries T) r.0 z ((entry_same r.0).0 r.1) (subst (λ l. Contains (flat_map (λ q. kind_adjacency r.0 q.kind) l) z) (chosen_same r.0) r.2)
-
-  ends_back : (z : Adjacency) → Contains (flat_map (adjacencies_of T) (entries T)) z → Contains (flat_map (adjacencies_of S) (entries S)) z
-  ends_back z c =
-      let r = flat_map_from (adjacencies_of T) (entries T) z c in
-      Contains-flat_map (adjacencies_of S) (entries S) r.0 z ((entry_same r.0).1 r.1) (subst (λ l. Contains (flat_map (λ q. kind_adjacency r.0 q.kind) l) z) (sym (chosen_same r.0)) r.2)
-
-  ends_same : length (adjacencies S) ≡ length (adjacencies T)
-  unfolding adjacencies
-  ends_same = lengths_same same_adjacency adjacency_equiv adjacency_is (flat_map (adjacencies_of S) (entries S)) (flat_map (adjacencies_of T) (entries T)) (λ z. (ends_half z, ends_back z))
-
-  plies_same : length (plies S) ≡ length (plies T)
-  unfolding plies
-  plies_same = lengths_same same_prefix same_prefix_equiv (λ x y. (same_prefix-Decides x y).0) (everything ∷ flat_map plies_of (entries S)) (everything ∷ flat_map plies_of (entries T))
-      (λ z. (plies_half S T (λ e. (entry_same e).0) z, plies_half T S (λ e. (entry_same e).1) z))
-
-  entries_count : length (entries S) ≡ length (entries T)
-  entries_count = length-from_same_keys same_prefix_equiv (entries S) (entries T) (entries_apart S) (entries_apart T) (member_same same_prefix same_prefix_equiv (λ x y. (same_prefix-Decides x y).0) (entries S) (entries T) entry_same)
-
   pub size_same : size S ≡ size T
-  unfolding size
-  size_same = (let a = plies_same in let b = entries_count in let c = ends_same in
-      ap (λ n. n + length (entries S) + length (adjacencies S)) a ∙ (ap (λ n. length (plies T) + n + length (adjacencies S)) b ∙ ap (λ n. length (plies T) + length (entries T) + n) c))
+  size_same = size_alike S T entry_same
+      (adjacencies_same S T (λ e. false) (λ e out. entry_same e) (λ e out. chosen_same e) (λ e within. absurd (false≢true within)) (λ e within. absurd (false≢true within)))

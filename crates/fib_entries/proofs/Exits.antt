@@ -64,12 +64,18 @@ exits_set [] k r s at was is = absurd (none_some r at)
 exits_set (q ∷ qs) zero r s at was is = exits_skip s qs is ∙ sym (exits_skip q qs (ap has_exit (some_is q r at) ∙ was))
 exits_set (q ∷ qs) (suc k) r s at was is = exits_next q q (slice_set qs k s) qs refl refl (exits_set qs k r s at was is)
 
+-- a row in its place that agrees with it
+pub exits_alike : (rows : List Row) (k : ℕ) (r s : Row) → slice_get rows k ≡ Some r → has_exit s ≡ has_exit r → s.prefix ≡ r.prefix → exits_of (slice_set rows k s) ≡ exits_of rows
+exits_alike [] k r s at same name = absurd (none_some r at)
+exits_alike (q ∷ qs) zero r s at same name = (let e = some_is q r at in exits_next s q qs qs (same ∙ ap has_exit (sym e)) (name ∙ ap prefix_of (sym e)) refl)
+exits_alike (q ∷ qs) (suc k) r s at same name = exits_next q q (slice_set qs k s) qs refl refl (exits_alike qs k r s at same name)
+
 exits_remove : (rows : List Row) (k : ℕ) (r : Row) → slice_get rows k ≡ Some r → has_exit r ≡ false → exits_of (remove rows k) ≡ exits_of rows
 exits_remove [] k r at was = absurd (none_some r at)
 exits_remove (q ∷ qs) zero r at was = sym (exits_skip q qs (ap has_exit (some_is q r at) ∙ was))
 exits_remove (q ∷ qs) (suc k) r at was = exits_next q q (remove qs k) qs refl refl (exits_remove qs k r at was)
 
-exits_insert : (rows : List Row) (k : ℕ) (s : Row) → k ≤ length rows → has_exit s ≡ false → exits_of (insert rows k s) ≡ exits_of rows
+pub exits_insert : (rows : List Row) (k : ℕ) (s : Row) → k ≤ length rows → has_exit s ≡ false → exits_of (insert rows k s) ≡ exits_of rows
 exits_insert [] zero s le is = exits_skip s [] is
 exits_insert [] (suc k) s le is = absurd (omega (arith, le))
 exits_insert (q ∷ qs) zero s le is = exits_skip s (q ∷ qs) is
@@ -105,10 +111,10 @@ exits_replaced old new lists later place p id before after own r row at was is =
     ap exits_of (r.set b.0 b.1) ∙ (exits_set r.low place b.0 (settled r.new_id own b.0) b.1 (ap (list_any is_exit) (b.2.0.marked ∙ a.2.0.marked) ∙ was) is
     ∙ (exits_zip _ (λ x y z. (z.0.prefix, z.0.marked)) r.mid r.low r.detached ∙ exits_zip _ (λ x y z. (z.0.prefix, z.0.marked)) old r.mid r.attached))
 
-pub exits_gone : (old new : List Row) (lists later : List PathKept) (place : ℕ) (p : Prefix) (id : ℕ) (before after : List Path) → IsWithdrawn old new lists later place p id before after
+pub exits_gone : (old new : List Row) (lists later : List PathKept) (place : ℕ) (p : Prefix) (id : ℕ) (goals kept : List Prefix) → IsWithdrawn old new lists later place p id goals kept
     → (row : Row) → slice_get old place ≡ Some row → has_exit row ≡ false → exits_of new ≡ exits_of old
 unfolding has_exit
-exits_gone old new lists later place p id before after r row at was =
+exits_gone old new lists later place p id goals kept r row at was =
     let a = zip_at _ old r.low place row r.detached at in
     ap exits_of r.set ∙ (exits_remove r.low place a.0 a.1 (ap (list_any is_exit) a.2.0.marked ∙ was) ∙ exits_zip _ (λ x y z. (z.0.prefix, z.0.marked)) old r.low r.detached)
 

@@ -24,7 +24,8 @@ use Rattle.fib_entries.specs.inner.Leaf.{IsReady, IsReplaced, AreReplaced, IsCha
 use Rattle.fib_entries.specs.Rows.{Row}
 use Rattle.fib_entries.specs.declared.changes.Followed.{Followed}
 use Rattle.fib_entries.proofs.Exits.{exits_replaced, plain_inside}
-use Rattle.fib_entries.proofs.LeafRows.{row_by, stands_leaf, touched_leaf, moved_leaf, still_leaf}
+use Rattle.fib_entries.proofs.LeafRows.{stands_leaf, touched_leaf, moved_leaf, still_leaf}
+use Rattle.fib_entries.proofs.PartRows.{row_by}
 use Rattle.fib_entries.proofs.LeafSizes.{size_same}
 use Rattle.fib_entries.proofs.Linking.{zip_at}
 use Rattle.fib_entries.proofs.Ready.{ready_edit, list_before, some_before}

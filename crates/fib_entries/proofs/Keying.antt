@@ -1,5 +1,5 @@
 -- Pairs by their slots.
-use Rattle.std.proofs.Common.{arith, ◌≡◌, ℕ, zero, suc, replicate, ◌+◌, ◌*◌, ◌-◌, ◌<◌, Bool, true, false, List, [], ◌∷◌, drop, length, Option, Some, None, inl, inr, refl, sym, ◌∙◌, ap, subst, slice_index_or, slice_set}
+use Rattle.std.proofs.Common.{arith, ◌≡◌, ℕ, zero, suc, replicate, ◌+◌, ◌*◌, ◌-◌, ◌<◌, Bool, true, false, List, [], ◌∷◌, drop, length, Option, Some, None, inl, inr, refl, sym, ◌∙◌, ap, subst, slice_index_or}
 use Rattle.std.specs.Prelude.{IfSome, position, option_map}
 use Rattle.std.specs.List.{position_from}
 use Rattle.std.proofs.lemmas.Bool.{false≢true}

@@ -1,7 +1,7 @@
--- The size stays where a leaf's list is replaced by another over no interface.
-use Rattle.std.proofs.Common.{◌≡◌, ◌≢◌, ℕ, ◌+◌, Bool, true, ◌==◌, List, [], ◌∷◌, ◌++◌, length, inl, inr, refl, sym, ◌∙◌, ap, subst, ◌↔◌}
+-- When the size stays: the same entries and Hop ends, as where a leaf's list is replaced by another over no interface.
+use Rattle.std.proofs.Common.{arith, ◌≡◌, ◌≢◌, ℕ, ◌+◌, Bool, true, false, ◌==◌, List, [], ◌∷◌, ◌++◌, length, inl, inr, refl, sym, ◌∙◌, ap, subst, ◌↔◌}
 use Rattle.std.specs.Prelude.{Contains, flat_map}
-use Rattle.std.specs.List.{list_all}
+use Rattle.std.specs.List.{list_all, IsDistinct}
 use Rattle.std.specs.Set.{is_member, unique_keys}
 use Rattle.std.specs.Cmp.{IsEquivalence}
 use Rattle.std.proofs.lemmas.Bool.{false≢true}
@@ -28,7 +28,7 @@ use Rattle.fib_resolve.proofs.Covering.{distinct_keys, unique_in, entries_apart}
 use Rattle.fib_changes.proofs.SamePairs.{flat_map_from}
 use Rattle.fib_changes.proofs.Edits.{in_cases, in_front, in_rest}
 use Rattle.fib_entries.specs.inner.Leaf.{IsLeafEdit, is_plain, plain_kind, goal_of, goals_of}
-use Rattle.fib_entries.proofs.Leafing.{chosen_same, is_not}
+use Rattle.fib_entries.proofs.Leafing.{chosen_same, is_not, outside}
 use Rattle.fib_entries.proofs.LeafRows.{entry_same, entry_own, entry_was}
 use Rattle.fib_entries.proofs.Listing.{chosen_before, chosen_after}
 
@@ -44,7 +44,7 @@ adjacency_is x y h = let both = and_both (x.interface == y.interface) (x.next_ho
     ap (λ i. adjacency_with i x.next_hop) ((Decides-eqb x.interface y.interface).0 both.0) ∙ ap (adjacency_with y.interface) ((Decides-eqb x.next_hop y.next_hop).0 both.1)
 
 module _ {X : Type 0} (eq : X → X → Bool) (laws : IsEquivalence eq) (exact : (x y : X) → eq x y ≡ true → x ≡ y) where
-  pub member_same : (xs ys : List X) → ((z : X) → Contains xs z ↔ Contains ys z) → (q : X) → is_member eq xs q ≡ is_member eq ys q
+  member_same : (xs ys : List X) → ((z : X) → Contains xs z ↔ Contains ys z) → (q : X) → is_member eq xs q ≡ is_member eq ys q
   member_same xs ys same q = elim (either (is_member eq xs q)) [
     | inl is ↦ is ∙ sym (list_any-from_Contains laws q ys ((same q).0 (Contains-from_any exact q xs is)))
     | inr isnt ↦ elim (either (is_member eq ys q)) [
@@ -62,11 +62,38 @@ module _ {X : Type 0} (eq : X → X → Bool) (laws : IsEquivalence eq) (exact :
         λ c. (unique_in eq laws exact xs z).0 ((same z).1 ((unique_in eq laws exact ys z).1 c)),
       )))
 
-pub plies_half : (U V : Tables) → ((e : Prefix) → Contains (entries U) e → Contains (entries V) e) → (z : Prefix) → Contains (everything ∷ flat_map plies_of (entries U)) z → Contains (everything ∷ flat_map plies_of (entries V)) z
-plies_half U V f z c = elim (in_cases everything z (flat_map plies_of (entries U)) c) [
-  | inl first ↦ in_front everything z (flat_map plies_of (entries V)) first
-  | inr later ↦ (let r = flat_map_from plies_of (entries U) z later in in_rest everything z (flat_map plies_of (entries V)) (Contains-flat_map plies_of (entries V) r.0 z (f r.0 r.1) r.2))
+-- the plies on the way to prefixes, and that of all addresses
+abbrev pub plies_list : List Prefix → List Prefix
+plies_list xs = everything ∷ flat_map plies_of xs
+
+-- how many they are, each once
+abbrev pub ply_count : List Prefix → ℕ
+ply_count xs = length (unique_keys same_prefix (plies_list xs))
+
+plies_half : (xs ys : List Prefix) → ((e : Prefix) → Contains xs e → Contains ys e) → (z : Prefix) → Contains (plies_list xs) z → Contains (plies_list ys) z
+plies_half xs ys f z c = elim (in_cases everything z (flat_map plies_of xs) c) [
+  | inl first ↦ in_front everything z (flat_map plies_of ys) first
+  | inr later ↦ (let r = flat_map_from plies_of xs z later in in_rest everything z (flat_map plies_of ys) (Contains-flat_map plies_of ys r.0 z (f r.0 r.1) r.2))
 ]
+
+pub plies_alike : (xs ys : List Prefix) → ((e : Prefix) → Contains xs e ↔ Contains ys e) → ply_count xs ≡ ply_count ys
+plies_alike xs ys same =
+    lengths_same same_prefix same_prefix_equiv (λ x y. (same_prefix-Decides x y).0) (plies_list xs) (plies_list ys) (λ z. (plies_half xs ys (λ e. (same e).0) z, plies_half ys xs (λ e. (same e).1) z))
+
+-- prefixes without repeats, in whatever order
+pub as_many : (xs ys : List Prefix) → IsDistinct same_prefix xs → IsDistinct same_prefix ys → ((e : Prefix) → Contains xs e ↔ Contains ys e) → length xs ≡ length ys
+as_many xs ys d e same = length-from_same_keys same_prefix_equiv xs ys d e (member_same same_prefix same_prefix_equiv (λ x y. (same_prefix-Decides x y).0) xs ys same)
+
+-- tables with the same entries and as many Hop ends have one size
+pub size_alike : (S T : Tables) → ((e : Prefix) → Contains (entries S) e ↔ Contains (entries T) e) → length (adjacencies S) ≡ length (adjacencies T) → size S ≡ size T
+unfolding size plies
+size_alike S T same ends =
+    let a = plies_alike (entries S) (entries T) same in
+    let b = as_many (entries S) (entries T) (entries_apart S) (entries_apart T) same in
+    sums _ _ _ _ _ _ a b ends
+  where
+    sums : (ps pt es et cs ct : ℕ) → ps ≡ pt → es ≡ et → cs ≡ ct → ps + es + cs ≡ pt + et + ct
+    sums ps pt es et cs ct a b c = omega (arith, a, b, c)
 
 pub each_plain : (paths : List Path) (q : Path) → list_all is_plain paths ≡ true → Contains paths q → is_plain q ≡ true
 each_plain [] q h c = absurd (Contains-nil q c)
@@ -83,6 +110,39 @@ no_adjacency e (kinds.Attached i) z h c = false≢true h
 no_adjacency e (kinds.Hop a i) z h c = false≢true h
 no_adjacency e (kinds.Recursive a) z h c = Contains-nil z c
 no_adjacency e kinds.Cover z h c = false≢true h
+
+-- plain paths have no Hop end
+pub none_plain : (U : Tables) (p : Prefix) → list_all is_plain (chosen U p) ≡ true → (z : Adjacency) → Contains (adjacencies_of U p) z → ⊥
+none_plain U p plain z c =
+    let r = flat_map_from (λ q. kind_adjacency p q.kind) (chosen U p) z c in
+    no_adjacency p r.0.kind z (plain_by r.0 (each_plain (chosen U p) r.0 plain r.1)) r.2
+
+ends_half : (S T : Tables) (part : Prefix → Bool) → ((e : Prefix) → part e ≡ false → Contains (entries S) e → Contains (entries T) e) → ((e : Prefix) → part e ≡ false → chosen S e ≡ chosen T e)
+    → ((e : Prefix) → part e ≡ true → (z : Adjacency) → Contains (adjacencies_of S e) z → ⊥) → (z : Adjacency) → Contains (flat_map (adjacencies_of S) (entries S)) z → Contains (flat_map (adjacencies_of T) (entries T)) z
+ends_half S T part kept lists none z c =
+    let r = flat_map_from (adjacencies_of S) (entries S) z c in
+    elim (either (part r.0)) [
+      | inl within ↦ absurd (none r.0 within z r.2)
+      | inr out ↦ Contains-flat_map (adjacencies_of T) (entries T) r.0 z (kept r.0 out r.1) (subst (λ l. Contains (flat_map (λ q. kind_adjacency r.0 q.kind) l) z) (lists r.0 out) r.2)
+    ]
+
+-- as many Hop ends where a part alone changes, which has none before and none after
+pub adjacencies_same : (S T : Tables) (part : Prefix → Bool) → ((e : Prefix) → part e ≡ false → Contains (entries S) e ↔ Contains (entries T) e) → ((e : Prefix) → part e ≡ false → chosen S e ≡ chosen T e)
+    → ((e : Prefix) → part e ≡ true → (z : Adjacency) → Contains (adjacencies_of S e) z → ⊥) → ((e : Prefix) → part e ≡ true → (z : Adjacency) → Contains (adjacencies_of T e) z → ⊥) → length (adjacencies S) ≡ length (adjacencies T)
+unfolding adjacencies
+adjacencies_same S T part same lists before after =
+    lengths_same same_adjacency adjacency_equiv adjacency_is (flat_map (adjacencies_of S) (entries S)) (flat_map (adjacencies_of T) (entries T)) (λ z. (
+      ends_half S T part (λ e out. (same e out).0) lists before z,
+      ends_half T S part (λ e out. (same e out).1) (λ e out. sym (lists e out)) after z,
+    ))
+
+-- the same where one prefix alone changes, whose paths are plain before and after
+pub plain_ends : (S T : Tables) (p : Prefix) → ((e : Prefix) → p ≢ e → Contains (entries S) e ↔ Contains (entries T) e) → ((e : Prefix) → p ≢ e → chosen S e ≡ chosen T e)
+    → list_all is_plain (chosen S p) ≡ true → list_all is_plain (chosen T p) ≡ true → length (adjacencies S) ≡ length (adjacencies T)
+plain_ends S T p same lists before after = adjacencies_same S T (same_prefix p) (λ e off. same e (is_not p e off)) (λ e off. lists e (is_not p e off)) (none S before) (none T after)
+  where
+    none : (U : Tables) → list_all is_plain (chosen U p) ≡ true → (e : Prefix) → same_prefix p e ≡ true → (z : Adjacency) → Contains (adjacencies_of U e) z → ⊥
+    none U plain e own z c = none_plain U p plain z (subst (λ q. Contains (adjacencies_of U q) z) (sym ((same_prefix-Decides p e).0 own)) c)
 
 goal_kind : (U : Tables) (e : Prefix) (k : PathKind) → plain_kind k ≡ true → kind_targets U e k ≡ goal_of k
 goal_kind U e kinds.Drop h = refl
@@ -102,49 +162,15 @@ pub plain_targets : (U : Tables) (e : Prefix) (paths : List Path) → chosen U e
 unfolding targets
 plain_targets U e paths is h = ap (flat_map (λ q. kind_targets U e q.kind)) is ∙ plain_goals U e paths h
 
-module _ (S T : Tables) (p : Prefix) (source : FibSource) (h : IsLeafEdit S T p source) (was : paths_at p source S.routes ≢ []) (is : paths_at p source T.routes ≢ [])
+module _ (S T : Tables) (p : Prefix) (source : FibSource) (h : IsLeafEdit S T p source []) (was : paths_at p source S.routes ≢ []) (is : paths_at p source T.routes ≢ [])
     (plain_before : list_all is_plain (paths_at p source S.routes) ≡ true) (plain_after : list_all is_plain (paths_at p source T.routes) ≡ true) where
   same_entries : (e : Prefix) → Contains (entries S) e ↔ Contains (entries T) e
   same_entries e = elim (either (same_prefix p e)) [
     | inl own ↦ subst (λ z. Contains (entries S) z ↔ Contains (entries T) z) ((same_prefix-Decides p e).0 own)
-        (λ c. (entry_own S T p source h).1 is, λ c. entry_was S T p source h was)
+        (λ c. (entry_own S T p source [] h).1 is, λ c. entry_was S T p source [] h was)
     | inr off ↦ entry_same S T p source h e (is_not p e off)
   ]
 
-  none_at : (U : Tables) → chosen U p ≡ paths_at p source U.routes → list_all is_plain (paths_at p source U.routes) ≡ true → (z : Adjacency) → Contains (adjacencies_of U p) z → ⊥
-  none_at U chose plain z c =
-      let r = flat_map_from (λ q. kind_adjacency p q.kind) (chosen U p) z c in
-      no_adjacency p r.0.kind z (plain_by r.0 (each_plain (paths_at p source U.routes) r.0 plain (subst (λ l. Contains l r.0) chose r.1))) r.2
-
-  ends_half : (z : Adjacency) → Contains (flat_map (adjacencies_of S) (entries S)) z → Contains (flat_map (adjacencies_of T) (entries T)) z
-  ends_half z c =
-      let r = flat_map_from (adjacencies_of S) (entries S) z c in
-      elim (either (same_prefix p r.0)) [
-        | inl own ↦ absurd (none_at S (chosen_before S T p source h) plain_before z (subst (λ e. Contains (adjacencies_of S e) z) (sym ((same_prefix-Decides p r.0).0 own)) r.2))
-        | inr off ↦ Contains-flat_map (adjacencies_of T) (entries T) r.0 z ((same_entries r.0).0 r.1) (subst (λ l. Contains (flat_map (λ q. kind_adjacency r.0 q.kind) l) z) (chosen_same S T p source h r.0 (is_not p r.0 off)) r.2)
-      ]
-
-  ends_back : (z : Adjacency) → Contains (flat_map (adjacencies_of T) (entries T)) z → Contains (flat_map (adjacencies_of S) (entries S)) z
-  ends_back z c =
-      let r = flat_map_from (adjacencies_of T) (entries T) z c in
-      elim (either (same_prefix p r.0)) [
-        | inl own ↦ absurd (none_at T (chosen_after S T p source h) plain_after z (subst (λ e. Contains (adjacencies_of T e) z) (sym ((same_prefix-Decides p r.0).0 own)) r.2))
-        | inr off ↦ Contains-flat_map (adjacencies_of S) (entries S) r.0 z ((same_entries r.0).1 r.1) (subst (λ l. Contains (flat_map (λ q. kind_adjacency r.0 q.kind) l) z) (sym (chosen_same S T p source h r.0 (is_not p r.0 off))) r.2)
-      ]
-
-  ends_same : length (adjacencies S) ≡ length (adjacencies T)
-  unfolding adjacencies
-  ends_same = lengths_same same_adjacency adjacency_equiv adjacency_is (flat_map (adjacencies_of S) (entries S)) (flat_map (adjacencies_of T) (entries T)) (λ z. (ends_half z, ends_back z))
-
-  plies_same : length (plies S) ≡ length (plies T)
-  unfolding plies
-  plies_same = lengths_same same_prefix same_prefix_equiv (λ x y. (same_prefix-Decides x y).0) (everything ∷ flat_map plies_of (entries S)) (everything ∷ flat_map plies_of (entries T))
-      (λ z. (plies_half S T (λ e. (same_entries e).0) z, plies_half T S (λ e. (same_entries e).1) z))
-
-  entries_count : length (entries S) ≡ length (entries T)
-  entries_count = length-from_same_keys same_prefix_equiv (entries S) (entries T) (entries_apart S) (entries_apart T) (member_same same_prefix same_prefix_equiv (λ x y. (same_prefix-Decides x y).0) (entries S) (entries T) same_entries)
-
   pub size_same : size S ≡ size T
-  unfolding size
-  size_same = (let a = plies_same in let b = entries_count in let c = ends_same in
-      ap (λ n. n + length (entries S) + length (adjacencies S)) a ∙ (ap (λ n. length (plies T) + n + length (adjacencies S)) b ∙ ap (λ n. length (plies T) + length (entries T) + n) c))
+  size_same = size_alike S T same_entries (plain_ends S T p (entry_same S T p source h) (λ e off. chosen_same S T p source [] h e (outside p e off))
+      (ap (list_all is_plain) (chosen_before S T p source [] h) ∙ plain_before) (ap (list_all is_plain) (chosen_after S T p source [] h) ∙ plain_after))

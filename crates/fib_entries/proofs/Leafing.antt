@@ -1,7 +1,8 @@
--- What a change of a route makes another where nothing leads to its prefix and nothing lies in it.
+-- What a change of a route makes another where nothing leads to its prefix and nothing lies in it: its own entry, and the hosts of late
+-- next hops, which no other route has.
 use Rattle.std.proofs.Common.{arith, ◌≡◌, ◌≢◌, ℕ, zero, suc, ◌<◌, ◌^◌, Bool, true, false, not, ◌||◌, ◌&&◌, ◌==◌, List, [], ◌∷◌, ◌++◌, map, Option, Some, None, ◌⊎◌, inl, inr, refl, sym, ◌∙◌, ap, subst, ◌↔◌}
 use Rattle.std.specs.Prelude.{Contains, flat_map, nat_lt, find, option_map, filter_map, IfSome, is_some}
-use Rattle.std.specs.List.{AllByRecursion}
+use Rattle.std.specs.List.{AllByRecursion, list_any}
 use Rattle.std.specs.Set.{is_member}
 use Rattle.std.proofs.lemmas.Bool.{false≢true, ltb-true, lt-ltb}
 use Rattle.std.proofs.lemmas.Map.Views.{Contains-from_any}
@@ -9,7 +10,7 @@ use Rattle.std.proofs.lemmas.Bool.Decides.{Decides-eqb}
 use Rattle.std.proofs.lemmas.List.Elements.{Contains-append_left, Contains-append_right, Contains-append_cases}
 use Rattle.fib_list.proofs.Lists.{either, Contains-flat_map, Contains-nil, each-flat_map, each-append}
 use Rattle.fib_reach.specs.Walks.{Walk, Next}
-use Rattle.fib_list.proofs.Booleans.{and_both, or_cases}
+use Rattle.fib_list.proofs.Booleans.{and_both, or_cases, or_left, or_right}
 use Rattle.fib_addr.specs.Prefixes.{masked}
 use Rattle.fib_addr.specs.Longest.{everything}
 use Rattle.fib_addr.proofs.LongestLaws.{longest_is_longest}
@@ -37,8 +38,9 @@ use Rattle.fib_resolve.specs.declared.types.Neighbor.{Neighbor}
 use Rattle.fib_resolve.specs.declared.types.Route.{Route}
 use Rattle.fib_resolve.specs.declared.types.Tables.{Tables}
 use Rattle.fib_changes.specs.Sources.{all_hops, BaseCaught, NeighborsCaught, HasNeighbor, ArePrefixes, SameEntry, affected}
+use Rattle.fib_changes.specs.Differ.{Differ}
 use Rattle.fib_changes.specs.Causes.{IsCaught, IsThrough, means_else, Cause, own, ends, needing, loops}
-use Rattle.fib_changes.proofs.Covers.{short_from, affected_catch}
+use Rattle.fib_changes.proofs.Covers.{short_from, affected_catch, covers_agree, attached_agrees}
 use Rattle.fib_changes.proofs.CauseLaws.{touched_causes, differ_self}
 use Rattle.fib_changes.proofs.Cycles.{path_edge, through_cycle, no_dependant, last_edge}
 use Rattle.fib_changes.proofs.Targets.{pair_entry}
@@ -49,6 +51,7 @@ use Rattle.fib_changes.proofs.Edits.{any_in, in_cases}
 use Rattle.fib_changes.proofs.CauseLaws.{any_from}
 use Rattle.fib_interned.proofs.Finding.{find_place, contains_at, none_some, some_is}
 use Rattle.fib_entries.specs.inner.Leaf.{IsLeafEdit}
+use Rattle.fib_entries.specs.inner.Part.{in_part, IsPartEdit}
 
 route_is : (p q : Prefix) (s t : FibSource) → changes.Route p s ≡ changes.Route q t → (p ≡ q) × (s ≡ t)
 route_is p q s t e = ((cc), (cc))
@@ -238,7 +241,7 @@ hop_in (x ∷ xs) q a c is = by (hop_in xs q a) (recursive_kind x.kind) refl
       | inr later ↦ (let r = more later is in (suc r.0, omega (arith, r.1), r.2))
     ])
 
-host_is : (a b : ℕ) → host a ≡ host b → a ≡ b
+pub host_is : (a b : ℕ) → host a ≡ host b → a ≡ b
 host_is a b e = ap (λ z. z.bits) e
 
 -- who leads to a host has a route with that next hop
@@ -275,17 +278,65 @@ other_route p s r off = rw (not_it r.prefix p off) refl
 pub entry_of_pair : (S : Tables) (x : Pair) (e : Prefix) → Contains (pairs S) x → x.prefix ≡ e → Contains (entries S) e
 entry_of_pair S x e c is = Contains-from_any (λ a b. (same_prefix-Decides a b).0) e (entries S) (pair_entry S x e c is)
 
+pub pair_at : (U : Tables) (e : Prefix) → Contains (entries U) e → (x : Pair) × Contains (pairs U) x × (x.prefix ≡ e)
+pair_at U e c =
+    let r = any_from (λ x. same_prefix e x.prefix) (pairs U) (sym (is_entry U e) ∙ any_in (same_prefix e) (entries U) e c ((same_prefix-Decides e e).1 refl)) in
+    (r.0, r.1, sym ((same_prefix-Decides e r.0.prefix).0 r.2))
+
 far_mac : (o : Option ℕ) → not (same_mac o o) ≡ true → ⊥
 far_mac None h = false≢true h
 far_mac (Some n) h = false≢true (sym (ap not ((Decides-eqb n n).1 refl)) ∙ h)
 
-module _ (S T : Tables) (p : Prefix) (source : FibSource) (h : IsLeafEdit S T p source) where
+or_neither : (x y : Bool) → (x || y) ≡ false → y ≡ false
+or_neither true y h = absurd (false≢true (sym h))
+or_neither false y h = h
+
+-- in the part is the prefix, or the host of a late next hop
+pub part_cases : (p : Prefix) (late : List ℕ) (e : Prefix) → in_part p late e ≡ true → (p ≡ e) ⊎ ((a : ℕ) × Contains late a × (host a ≡ e))
+part_cases p late e is = elim (or_cases (same_prefix p e) _ is) [
+  | inl same ↦ inl ((same_prefix-Decides p e).0 same)
+  | inr late_one ↦ (let both = and_both (e.len == 32) _ late_one in
+      let r = any_from (λ b. b == e.bits) late both.1 in
+      inr (r.0, r.1, ap host ((Decides-eqb r.0 e.bits).0 r.2) ∙ ap (at_length e.bits) (sym ((Decides-eqb e.len 32).0 both.0))))
+]
+  where
+    at_length : ℕ → ℕ → Prefix
+    at_length bits len = record { bits = bits; len = len }
+
+pub part_own : (p : Prefix) (late : List ℕ) → in_part p late p ≡ true
+part_own p late = or_left (same_prefix p p) _ ((same_prefix-Decides p p).1 refl)
+
+pub part_host : (p : Prefix) (late : List ℕ) (a : ℕ) → Contains late a → in_part p late (host a) ≡ true
+part_host p late a c = or_right (same_prefix p (host a)) _ (any_in (λ b. b == a) late a c ((Decides-eqb a a).1 refl))
+
+pub part_not : (p : Prefix) (late : List ℕ) (e : Prefix) → in_part p late e ≡ false → p ≢ e
+part_not p late e off is = false≢true (sym off ∙ subst (λ z. in_part p late z ≡ true) is (part_own p late))
+
+-- where no next hop is late, the prefix is the part
+pub outside : (p e : Prefix) → p ≢ e → in_part p [] e ≡ false
+outside p e off = rw (not_it p e off) (by (e.len == 32))
+  where
+    by : (b : Bool) → (b && false) ≡ false
+    by true = refl
+    by false = refl
+
+-- a walk by its last edge
+last_step : {A : Type 0} (E : A → A → Type 0) (n : ℕ) (x y : A) → Walk E (suc n) x y → (z : A) × Walk E n x z × E z y
+last_step E zero x y w = (x, refl, subst (E x) w.2 w.1)
+last_step E (suc n) x y w = let r = last_step E n w.0 y w.2 in (r.0, (w.0, w.1, r.1), r.2)
+
+pub routes_beside : (S T : Tables) (p : Prefix) (source : FibSource) → Differ (changes.Route p source ∷ []) S T → (r : Route) → is_route p source r ≡ false → Contains S.routes r ↔ Contains T.routes r
+routes_beside S T p source differ r off = differ.routes r (λ k. (let is = route_is p r.prefix source r.source (only_one (changes.Route p source) (changes.Route r.prefix r.source) k) in false≢true (sym off ∙ is_it p source r (sym is.0) (sym is.1))))
+
+module _ (S T : Tables) (p : Prefix) (source : FibSource) (late : List ℕ) (h : IsLeafEdit S T p source late) where
+  no_late : (a : ℕ) → list_any (λ b. b == a) late ≡ false → Contains late a → ⊥
+  no_late a off c = false≢true (sym off ∙ any_in (λ b. b == a) late a c ((Decides-eqb a a).1 refl))
+
   elsewhere : (c : Change) → (changes.Route p source ≡ c → ⊥) → Contains (changes.Route p source ∷ []) c → ⊥
   elsewhere c off k = off (only_one (changes.Route p source) c k)
 
   pub routes_same : (r : Route) → is_route p source r ≡ false → Contains S.routes r ↔ Contains T.routes r
-  routes_same r off = h.differ.routes r (elsewhere (changes.Route r.prefix r.source) (λ e.
-      let is = route_is p r.prefix source r.source e in false≢true (sym off ∙ is_it p source r (sym is.0) (sym is.1))))
+  routes_same = routes_beside S T p source h.differ
 
   addresses_same : (a : Address) → Contains S.addresses a ↔ Contains T.addresses a
   addresses_same a = h.differ.addresses a (elsewhere (changes.Address a) (λ e. address_not p source a e))
@@ -317,7 +368,7 @@ module _ (S T : Tables) (p : Prefix) (source : FibSource) (h : IsLeafEdit S T p 
     ]
   ]
 
-  own_prefix : (r : Route) → is_route p source r ≡ true → r.prefix ≡ p
+  pub own_prefix : (r : Route) → is_route p source r ≡ true → r.prefix ≡ p
   own_prefix r it = (same_prefix-Decides r.prefix p).0 (and_both (same_prefix r.prefix p) _ it).0
 
   base_caught : BaseCaught S T (same_prefix p)
@@ -326,21 +377,22 @@ module _ (S T : Tables) (p : Prefix) (source : FibSource) (h : IsLeafEdit S T p 
     λ c. elim (base_came x c) [ inl there ↦ there | inr (r, k, it, is) ↦ absurd (is_not p x.prefix quiet (sym (own_prefix r it) ∙ ap (λ z. z.prefix) is)) ],
   )
 
-  -- each next hop is another route's too
-  still : (r : Route) (a : ℕ) → is_route p source r ≡ true → Contains S.routes r ⊎ Contains T.routes r → Contains (recursive_hops r) a → (q : Route) × Contains S.routes q × Contains T.routes q × Contains (recursive_hops q) a
-  still r a it c m =
-      let d = h.hops r a it c m in
-      let q = hop_route S d.0 a d.2 in
-      (q.0, q.1, (routes_same q.0 (other_route p source q.0 (λ e. d.1 (sym q.2 ∙ e)))).0 q.1, q.3)
+  -- each next hop that isn't late is another route's too
+  still : (r : Route) (a : ℕ) → list_any (λ b. b == a) late ≡ false → is_route p source r ≡ true → Contains S.routes r ⊎ Contains T.routes r → Contains (recursive_hops r) a
+      → (q : Route) × Contains S.routes q × Contains T.routes q × Contains (recursive_hops q) a
+  still r a off it c m = elim (h.hops r a it c m) [
+    | inl is ↦ absurd (no_late a off is)
+    | inr d ↦ (let q = hop_route S d.0 a d.2 in (q.0, q.1, (routes_same q.0 (other_route p source q.0 (λ e. d.1 (sym q.2 ∙ e)))).0 q.1, q.3))
+  ]
 
-  pub hops_same : (a : ℕ) → Contains (all_hops S) a ↔ Contains (all_hops T) a
-  hops_same a = (
+  pub hops_same : (a : ℕ) → list_any (λ b. b == a) late ≡ false → Contains (all_hops S) a ↔ Contains (all_hops T) a
+  hops_same a early = (
     λ c. (let r = flat_map_from recursive_hops S.routes a c in elim (either (is_route p source r.0)) [
-      | inl it ↦ (let q = still r.0 a it (inl r.1) r.2 in Contains-flat_map recursive_hops T.routes q.0 a q.2 q.3)
+      | inl it ↦ (let q = still r.0 a early it (inl r.1) r.2 in Contains-flat_map recursive_hops T.routes q.0 a q.2 q.3)
       | inr off ↦ Contains-flat_map recursive_hops T.routes r.0 a ((routes_same r.0 off).0 r.1) r.2
     ]),
     λ c. (let r = flat_map_from recursive_hops T.routes a c in elim (either (is_route p source r.0)) [
-      | inl it ↦ (let q = still r.0 a it (inr r.1) r.2 in Contains-flat_map recursive_hops S.routes q.0 a q.1 q.3)
+      | inl it ↦ (let q = still r.0 a early it (inr r.1) r.2 in Contains-flat_map recursive_hops S.routes q.0 a q.1 q.3)
       | inr off ↦ Contains-flat_map recursive_hops S.routes r.0 a ((routes_same r.0 off).1 r.1) r.2
     ]),
   )
@@ -351,6 +403,15 @@ module _ (S T : Tables) (p : Prefix) (source : FibSource) (h : IsLeafEdit S T p 
 
   pub host_other : (a : ℕ) → p ≢ host a
   host_other a is = (let l = ap (λ z. z.len) is in let s = h.short in omega (arith, l, s))
+
+  away_early : (a : ℕ) → IsAway a → list_any (λ b. b == a) late ≡ false
+  unfolding IsAway
+  away_early a away = elim (either (list_any (λ b. b == a) late)) [
+    | inr isnt ↦ isnt
+    | inl is ↦ (let r = any_from (λ b. b == a) late is in
+        let out = h.late_out a (subst (Contains late) ((Decides-eqb r.0 a).0 r.2) r.1) in
+        elim away [ inl inside ↦ absurd (false≢true (sym out.1 ∙ inside)) | inr beyond ↦ absurd (beyond out.0) ])
+  ]
 
   none_before : (a : ℕ) → IsAway a → (x : Pair) → Contains (pairs S) x → x.prefix ≡ host a → ⊥
   unfolding IsAway
@@ -375,7 +436,7 @@ module _ (S T : Tables) (p : Prefix) (source : FibSource) (h : IsLeafEdit S T p 
             | inr beyond ↦ beyond (subst (λ z. z < 2 ^ 32) at far.0)
           ])
       by (derived b k e) = (let at : b ≡ a = host_is b a (sym (derived_host T b) ∙ ap (λ z. z.prefix) e ∙ is) in
-          none_before a away (derived_pair S b) (from_origin S (derived_pair S b) (derived b ((hops_same b).1 k) refl)) (derived_host S b ∙ ap host at))
+          none_before a away (derived_pair S b) (from_origin S (derived_pair S b) (derived b ((hops_same b (subst (λ z. list_any (λ c. c == z) late ≡ false) (sym at) (away_early a away))).1 k) refl)) (derived_host S b ∙ ap host at))
 
   none_same : (a : ℕ) → IsAway a → SameEntry S T (host a)
   none_same a away = record {
@@ -400,14 +461,16 @@ module _ (S T : Tables) (p : Prefix) (source : FibSource) (h : IsLeafEdit S T p 
   unfolding cover
   not_cover U a small out = not_it p (cover U a) (λ is. false≢true (sym out ∙ ap (λ z. contains z a) is ∙ (longest_is_longest a (short_prefixes U) small).matches))
 
-  quiet : (e : Prefix) → p ≢ e → (e.len ≡ 32 → (e.bits < 2 ^ 32) × (contains p e.bits ≡ false)) → affected S T (same_prefix p) (λ _. false || false) e ≡ false
-  quiet e off out = rw (not_it p e off) (by (e.len == 32) (λ is. out ((Decides-eqb e.len 32).0 is)))
+  quiet : (e : Prefix) → in_part p late e ≡ false → (e.len ≡ 32 → (e.bits < 2 ^ 32) × (contains p e.bits ≡ false)) → affected S T (same_prefix p) (λ a. list_any (λ b. b == a) late || false) e ≡ false
+  quiet e off out = rw (not_it p e (part_not p late e off)) (by (e.len == 32) (list_any (λ b. b == e.bits) late) ((Decides-eqb e.len 32).0) (or_neither (same_prefix p e) _ off))
     where
-      by : (b : Bool) → (b ≡ true → (e.bits < 2 ^ 32) × (contains p e.bits ≡ false)) → (b && (same_prefix p (cover S e.bits) || (same_prefix p (cover T e.bits) || ((false || false) || not (nat_lt e.bits (2 ^ 32)))))) ≡ false
-      by false f = refl
-      by true f = (let o = f refl in rw (not_cover S e.bits o.0 o.1, not_cover T e.bits o.0 o.1, lt-ltb e.bits (2 ^ 32) o.0) refl)
+      by : (b l : Bool) → (b ≡ true → e.len ≡ 32) → (b && l) ≡ false
+          → (b && (same_prefix p (cover S e.bits) || (same_prefix p (cover T e.bits) || ((l || false) || not (nat_lt e.bits (2 ^ 32)))))) ≡ false
+      by false l f early = refl
+      by true true f early = absurd (false≢true (sym early))
+      by true false f early = (let o = out (f refl) in rw (not_cover S e.bits o.0 o.1, not_cover T e.bits o.0 o.1, lt-ltb e.bits (2 ^ 32) o.0) refl)
 
-  pub same_entry : (e : Prefix) → p ≢ e → SameEntry S T e
+  pub same_entry : (e : Prefix) → in_part p late e ≡ false → SameEntry S T e
   unfolding IsAway
   same_entry e off = elim (either (e.len == 32)) [
     | inr shorter ↦ caught e (quiet e off (λ is. absurd (false≢true (sym shorter ∙ (Decides-eqb e.len 32).1 is))))
@@ -423,36 +486,52 @@ module _ (S T : Tables) (p : Prefix) (source : FibSource) (h : IsLeafEdit S T p 
       prefix_with : ℕ → ℕ → Prefix
       prefix_with bits len = record { bits = bits; len = len }
 
-      caught : IsCaught S T (affected S T (same_prefix p) (λ _. false || false))
-      caught = affected_catch S T (same_prefix p) (λ _. false) (λ _. false) h.before h.after good base_caught (λ a _. hops_same a) near
+      caught : IsCaught S T (affected S T (same_prefix p) (λ a. list_any (λ b. b == a) late || false))
+      caught = affected_catch S T (same_prefix p) (λ a. list_any (λ b. b == a) late) (λ _. false) h.before h.after good base_caught hops_same near
 
-  pub is_caught : IsCaught S T (same_prefix p)
-  is_caught e off = same_entry e (is_not p e off)
-
-  pub targets_same : (d : Prefix) → p ≢ d → targets S d ≡ targets T d
+  pub targets_same : (d : Prefix) → in_part p late d ≡ false → targets S d ≡ targets T d
   targets_same d off = same_targets S T d h.after (same_entry d off)
 
-  pub chosen_same : (d : Prefix) → p ≢ d → chosen S d ≡ chosen T d
+  pub chosen_same : (d : Prefix) → in_part p late d ≡ false → chosen S d ≡ chosen T d
   chosen_same d off = same_chosen S T d h.after (same_entry d off).pairs
+
+  -- the cover of a late next hop is another prefix
+  pub late_covered : (U : Tables) (a : ℕ) → Contains late a → p ≢ cover U a
+  late_covered U a c = (let out = h.late_out a c in is_not p (cover U a) (not_cover U a out.0 out.1))
 
   -- nothing leads to the prefix afterwards
   pub leaf_after : (d : Prefix) → Contains (targets T d) p → ⊥
   unfolding targets
-  leaf_after d c = elim (either (same_prefix p d)) [
-    | inl is ↦ own_target (subst (λ z. Contains (targets T z) p) (sym ((same_prefix-Decides p d).0 is)) c)
-    | inr off ↦ h.leaf d (subst (λ l. Contains l p) (sym (targets_same d (is_not p d off))) c)
+  leaf_after d c = elim (either (in_part p late d)) [
+    | inl is ↦ (let t = flat_map_from (λ q. kind_targets T d q.kind) (chosen T d) p c in by is t.0 t.1 t.0.kind refl t.2)
+    | inr off ↦ h.leaf d (subst (λ l. Contains l p) (sym (targets_same d off)) c)
   ]
     where
-      own_target : Contains (targets T p) p → ⊥
-      own_target c = (let t = flat_map_from (λ q. kind_targets T p q.kind) (chosen T p) p c in by t.0 t.1 t.0.kind refl t.2)
-        where
-          by : (q : Path) → Contains (chosen T p) q → (k : PathKind) → q.kind ≡ k → Contains (kind_targets T p k) p → ⊥
-          by q c kinds.Drop is t = Contains-nil p t
-          by q c kinds.Local is t = Contains-nil p t
-          by q c (kinds.Attached i) is t = Contains-nil p t
-          by q c (kinds.Hop b i) is t = Contains-nil p t
-          by q c (kinds.Recursive b) is t = host_other b (sym (only_one (host b) p t))
-          by q c kinds.Cover is t = (let long = cover_at_host T h.after p q c is in let s = h.short in omega (arith, long, s))
+      by : in_part p late d ≡ true → (q : Path) → Contains (chosen T d) q → (k : PathKind) → q.kind ≡ k → Contains (kind_targets T d k) p → ⊥
+      by inside q c kinds.Drop is t = Contains-nil p t
+      by inside q c kinds.Local is t = Contains-nil p t
+      by inside q c (kinds.Attached i) is t = Contains-nil p t
+      by inside q c (kinds.Hop b i) is t = Contains-nil p t
+      by inside q c (kinds.Recursive b) is t = host_other b (sym (only_one (host b) p t))
+      by inside q c kinds.Cover is t = elim (part_cases p late d inside) [
+        | inl same ↦ (let long : p.len ≡ 32 = ap (λ z. z.len) same ∙ cover_at_host T h.after d q c is in let s = h.short in omega (arith, long, s))
+        | inr (a, m, at) ↦ late_covered T a m (sym (ap (λ z. cover T z.bits) at ∙ only_one (cover T d.bits) p t))
+      ]
+
+  -- whoever leads to the host of a late next hop is the prefix
+  led_by_route : (U : Tables) → ((r : Route) → is_route p source r ≡ false → Contains U.routes r → Contains S.routes r) → (d : Prefix) (a : ℕ) → Contains late a → Contains (targets U d) (host a) → d ≡ p
+  led_by_route U carried d a c t =
+      let r = hop_route U d a t in
+      elim (either (is_route p source r.0)) [
+        | inl it ↦ sym r.2 ∙ own_prefix r.0 it
+        | inr off ↦ absurd (h.late_alone a c r.0 off (carried r.0 off r.1) r.3)
+      ]
+
+  pub late_led : (d : Prefix) (a : ℕ) → Contains late a → Contains (targets T d) (host a) → d ≡ p
+  late_led = led_by_route T (λ r off. (routes_same r off).1)
+
+  pub late_led_before : (d : Prefix) (a : ℕ) → Contains late a → Contains (targets S d) (host a) → d ≡ p
+  late_led_before = led_by_route S (λ r off c. c)
 
   no_loop : (U : Tables) → ((d : Prefix) → Contains (targets U d) p → ⊥) → (a : ℕ) → looped U p a ≡ false
   no_loop U leaf a = elim (either (looped U p a)) [
@@ -470,16 +549,27 @@ module _ (S T : Tables) (p : Prefix) (source : FibSource) (h : IsLeafEdit S T p 
   pub unlooped : (a : ℕ) → looped T p a ≡ false
   unlooped a = no_loop T leaf_after a
 
-  no_cycle : (U : Tables) → ((d : Prefix) → Contains (targets U d) p → ⊥) → (e : Prefix) (a : ℕ) → Next (targets U) e (host a) → IsThrough U (same_prefix p) e a → ⊥
-  no_cycle U leaf e a edge t =
-      let at : p ≡ t.at = (same_prefix-Decides p t.at).0 t.is_changed in
-      no_dependant U t.at (λ d c. leaf d (subst (Contains (targets U d)) (sym at) c)) (through_cycle U (same_prefix p) e a t edge).0
+  -- no cycle leads through the part
+  no_cycle : (U : Tables) → ((d : Prefix) → Contains (targets U d) p → ⊥) → ((d : Prefix) (a : ℕ) → Contains late a → Contains (targets U d) (host a) → d ≡ p)
+      → (e : Prefix) (a : ℕ) → Next (targets U) e (host a) → IsThrough U (in_part p late) e a → ⊥
+  no_cycle U leaf led e a edge t =
+      let cycle = (through_cycle U (in_part p late) e a t edge).0 in
+      elim (part_cases p late t.at t.is_changed) [
+        | inl at ↦ no_dependant U t.at (λ d c. leaf d (subst (Contains (targets U d)) (sym at) c)) cycle
+        | inr (b, m, at) ↦ (let z = last_step (Next (targets U)) cycle.0 t.at t.at cycle.1 in
+            let here : z.0 ≡ p = led z.0 b m (subst (Contains (targets U z.0)) (sym at) z.2) in
+            back cycle.0 b t.at at (subst (Walk (Next (targets U)) cycle.0 t.at) here z.1))
+      ]
+    where
+      back : (n : ℕ) (b : ℕ) (x : Prefix) → host b ≡ x → Walk (Next (targets U)) n x p → ⊥
+      back zero b x at w = host_other b (sym (at ∙ w))
+      back (suc n) b x at w = (let z = last_edge (Next (targets U)) n x p w in leaf z.0 z.1)
 
-  -- the prefix alone is touched
-  pub untouched : (e : Prefix) → p ≢ e → is_touched S T e ≡ false
+  -- the part alone is touched
+  pub untouched : (e : Prefix) → in_part p late e ≡ false → is_touched S T e ≡ false
   untouched e off = elim (either (is_touched S T e)) [
     | inr isnt ↦ isnt
-    | inl is ↦ absurd (by (touched_causes S T (same_prefix p) e h.before h.after is_caught is))
+    | inl is ↦ absurd (by (touched_causes S T (in_part p late) e h.before h.after same_entry is))
   ]
     where
       same_flag : (i : ℕ) → other_flag S T i ≡ true → ⊥
@@ -499,12 +589,15 @@ module _ (S T : Tables) (p : Prefix) (source : FibSource) (h : IsLeafEdit S T p 
       means (kinds.Recursive a) is = false≢true is
       means kinds.Cover is = false≢true is
 
-      by : Cause S T (same_prefix p) e → ⊥
-      by (own is) = off ((same_prefix-Decides p e).0 is)
+      by : Cause S T (in_part p late) e → ⊥
+      by (own is) = false≢true (sym off ∙ is)
       by (ends q c m) = means q.kind m
-      by (needing q a c is need ch) = host_other a ((same_prefix-Decides p (host a)).0 ch)
-      by (loops q a c is (inl t)) = no_cycle S h.leaf e a (path_edge S e q a c is) t
-      by (loops q a c is (inr t)) = no_cycle T leaf_after e a (path_edge T e q a (subst (λ l. Contains l q) (chosen_same e off) c) is) t
+      by (needing q a c is need ch) = elim (part_cases p late (host a) ch) [
+        | inl same ↦ host_other a same
+        | inr (b, m, at) ↦ part_not p late e off (sym (late_led_before e b m (subst (Contains (targets S e)) (sym at) (path_edge S e q a c is))))
+      ]
+      by (loops q a c is (inl t)) = no_cycle S h.leaf late_led_before e a (path_edge S e q a c is) t
+      by (loops q a c is (inr t)) = no_cycle T leaf_after late_led e a (path_edge T e q a (subst (λ l. Contains l q) (chosen_same e off) c) is) t
 
   pub unlooped_kind : (k : PathKind) → looped_kind T p k ≡ false
   unlooped_kind kinds.Drop = refl
@@ -513,3 +606,43 @@ module _ (S T : Tables) (p : Prefix) (source : FibSource) (h : IsLeafEdit S T p 
   unlooped_kind (kinds.Hop a i) = refl
   unlooped_kind (kinds.Recursive a) = unlooped a
   unlooped_kind kinds.Cover = refl
+
+  -- outside the part nothing changes
+  pub part_edit : IsPartEdit S T (in_part p late)
+  part_edit = record {
+    after = h.after;
+    quiet = untouched;
+    entry = same_entry;
+    closed = λ d t off c. elim (either (in_part p late t)) [
+      | inr isnt ↦ isnt
+      | inl is ↦ elim (part_cases p late t is) [
+        | inl at ↦ absurd (leaf_after d (subst (Contains (targets T d)) (sym at) c))
+        | inr (a, m, at) ↦ absurd (part_not p late d off (sym (late_led d a m (subst (Contains (targets T d)) (sym at) c))))
+      ]
+    ];
+  }
+
+  -- a late next hop keeps its cover, and isn't attached by it
+  pub late_cover : (a : ℕ) → Contains late a → cover S a ≡ cover T a
+  late_cover a c = (let out = h.late_out a c in covers_agree S T (same_prefix p) base_caught good a out.0 (not_cover S a out.0 out.1) (not_cover T a out.0 out.1))
+
+  pub late_loose_after : (a : ℕ) → Contains late a → attached_by T a ≡ None
+  late_loose_after a c = (let out = h.late_out a c in
+      sym (attached_agrees S T (same_prefix p) base_caught good a h.after out.0 (not_cover S a out.0 out.1) (not_cover T a out.0 out.1)) ∙ h.late_loose a c)
+
+  -- a late next hop is one of these routes alone
+  late_of : (U : Tables) → ((r : Route) → is_route p source r ≡ false → Contains U.routes r → Contains S.routes r) → (a : ℕ) → Contains late a
+      → Contains (all_hops U) a ↔ ((r : Route) × Contains U.routes r × (is_route p source r ≡ true) × Contains (recursive_hops r) a)
+  late_of U carried a c = (
+    λ m. (let r = flat_map_from recursive_hops U.routes a m in elim (either (is_route p source r.0)) [
+      | inl it ↦ (r.0, r.1, it, r.2)
+      | inr off ↦ absurd (h.late_alone a c r.0 off (carried r.0 off r.1) r.2)
+    ]),
+    λ r. Contains-flat_map recursive_hops U.routes r.0 a r.1 r.3,
+  )
+
+  pub late_hop : (a : ℕ) → Contains late a → Contains (all_hops T) a ↔ ((r : Route) × Contains T.routes r × (is_route p source r ≡ true) × Contains (recursive_hops r) a)
+  late_hop = late_of T (λ r off. (routes_same r off).1)
+
+  pub late_hop_before : (a : ℕ) → Contains late a → Contains (all_hops S) a ↔ ((r : Route) × Contains S.routes r × (is_route p source r ≡ true) × Contains (recursive_hops r) a)
+  late_hop_before = late_of S (λ r off c. c)

@@ -18,11 +18,10 @@ use Rattle.fib_resolve.specs.declared.types.Path.{Path}
 use Rattle.fib_resolve.specs.declared.types.Tables.{Tables}
 use Rattle.fib_changes.specs.Differ.{Differ}
 use Rattle.fib_changes.specs.declared.change.Change.TheVariants as changes
-use Rattle.fib_changes.proofs.Edits.{in_cases, in_front}
 use Rattle.fib_changes.proofs.SamePairs.{map_from, from_origin, base}
 use Rattle.fib_interned.specs.Interned.{AreInterned, kept_of}
 use Rattle.fib_interned.proofs.Finding.{some_is, contains_at}
-use Rattle.fib_entries.specs.Known.{PathKept, Known, content_of, prefix_of, rank_of, rank_in, ArePairs, IsRow, StandsFor, holders}
+use Rattle.fib_entries.specs.Known.{PathKept, Known, content_of, prefix_of, rank_of, rank_in, IsRow, StandsFor, holders}
 use Rattle.fib_entries.specs.Changes.{AreTouched, AreMoved}
 use Rattle.fib_entries.specs.inner.Fields.{AreCounted, AreFields}
 use Rattle.fib_entries.specs.inner.Going.{IsLeaving, IsWithdrawn, HasLeft}
@@ -31,11 +30,13 @@ use Rattle.fib_entries.specs.inner.Plies.{own_size, entry_at, entry_before, befo
 use Rattle.fib_entries.specs.declared.changes.Followed.{Followed}
 use Rattle.fib_entries.specs.Rows.{Row}
 use Rattle.fib_entries.proofs.Growing.{IsGrown, size_more}
-use Rattle.fib_entries.proofs.LeafRows.{IsLeafMade, row_by, no_row, entry_same, entry_own, entry_was, stands_leaf, touched_leaf, moved_leaf, still_leaf}
+use Rattle.fib_entries.proofs.LeafRows.{IsLeafMade, entry_same, entry_own, entry_was, stands_leaf, touched_leaf, moved_leaf, still_leaf}
+use Rattle.fib_entries.proofs.PartRows.{row_by, no_row}
 use Rattle.fib_entries.proofs.LeafSizes.{plain_targets}
-use Rattle.fib_entries.proofs.Leafing.{chosen_same, from_route}
-use Rattle.fib_entries.proofs.Listing.{source_of_route, own_list, own_some, own_before, own_after, chosen_before, chosen_after, counted_own, counted_none, holders_are, OwnPairs}
+use Rattle.fib_entries.proofs.Leafing.{chosen_same, from_route, outside}
+use Rattle.fib_entries.proofs.Listing.{source_of_route, own_before, own_after, chosen_before, chosen_after, counted_own, counted_none, holders_are}
 use Rattle.fib_entries.proofs.Naming.{some_content}
+use Rattle.fib_entries.proofs.Owning.{owned_all, owned_list, owned_some}
 use Rattle.fib_entries.proofs.Placing.{gap_removed, size_gone}
 use Rattle.fib_entries.proofs.Ready.{alone_row}
 use Rattle.fib_entries.proofs.Replacing.{counted_by}
@@ -44,36 +45,25 @@ use Rattle.fib_entries.proofs.Using.{once, counted_given, given_stays}
 use Rattle.fib_entries.proofs.Withdrawing.{order_at, names_gone, ordered_gone, but_for, row_left, row_was, fields_gone}
 
 module _ (v : Known) (S T : Tables) (p : Prefix) (source : FibSource) (place id : ℕ) (old : List Path) (k : StandsFor v S) (m : IsLeaving v.rows v.lists T p source place id old) (differ : Differ (changes.Route p source ∷ []) S T) (after : IsSound T) where
-  own_row : IsRow v.lists S m.row
-  own_row = k.rows m.row (contains_at v.rows place m.row m.at)
+  own_there : Contains v.rows m.row
+  own_there = contains_at v.rows place m.row m.at
 
-  own_pairs : ArePairs v.lists S p ((source, id) ∷ [])
-  own_pairs = subst (ArePairs v.lists S p) m.pairs (subst (λ z. ArePairs v.lists S z m.row.pairs) m.own own_row.pairs)
+  own_row : IsRow v.lists S m.row
+  own_row = k.rows m.row own_there
 
   all_own : (x : Pair) → Contains (pairs S) x → p ≡ x.prefix → (x.source ≡ source) × (x.paths ≡ old)
-  all_own x c at =
-      let f = own_pairs.found x c at in
-      let is : (source, id) ≡ f.0 = elim (in_cases (source, id) f.0 [] f.1) [ inl same ↦ same | inr none ↦ absurd (Contains-nil f.0 none) ] in (
-        sym f.2.0 ∙ ap (λ z. z.0) (sym is),
-        some_is x.paths old (sym f.2.1 ∙ ap (λ z. content_of v.lists z.1) (sym is) ∙ m.content),
-      )
-
-  own_pairs_before : OwnPairs S p source
-  own_pairs_before = record { sound = k.sound; written = m.written; only = λ x c at. (all_own x c at).0 }
+  all_own = owned_all v S k p source id old m.row own_there m.own m.pairs m.content
 
   pub list_was : paths_at p source S.routes ≡ old
-  list_was =
-      let r = own_pairs.real (source, id) (in_front (source, id) (source, id) [] refl) in
-      sym (own_list S p source own_pairs_before r.0 r.1 r.2) ∙ (all_own r.0 r.1 r.2).1
+  list_was = owned_list v S k p source id old m.row own_there m.own m.pairs m.content m.written
 
   pub some_was : paths_at p source S.routes ≢ []
-  some_was =
-      let r = own_pairs.real (source, id) (in_front (source, id) (source, id) [] refl) in own_some S p source own_pairs_before r.0 r.1 r.2
+  some_was = owned_some v S k p source id old m.row own_there m.own m.pairs m.content m.written
 
   real_entry : (q : Prefix) → Contains (entries S) q → (r : Row) × Contains v.rows r × (r.prefix ≡ q)
   real_entry q c = map_from prefix_of v.rows q ((k.entries q).1 c)
 
-  pub leaving_edit : IsLeafEdit S T p source
+  pub leaving_edit : IsLeafEdit S T p source []
   leaving_edit = record {
     before = k.sound;
     after = after;
@@ -88,28 +78,32 @@ module _ (v : Known) (S T : Tables) (p : Prefix) (source : FibSource) (place id 
     only = λ x c at. (all_own x c at).0;
     leaf = λ d c. Contains-nil d (subst (λ l. Contains l d) m.none ((own_row.dependants d).1 (subst (Contains (targets S d)) (sym m.own) c)));
     hops = λ r a it c hop. elim c [
-      | inl before ↦ led_by v S p k old a m.shared (subst (λ l. Contains (filter_map recursive_of l) a) ((all_own (route_pair r) (from_origin S (route_pair r) (base (from_route S r before))) (sym (source_of_route p source r it).0)).1) hop)
+      | inl before ↦ inr (led_by v S p k old a m.shared (subst (λ l. Contains (filter_map recursive_of l) a) ((all_own (route_pair r) (from_origin S (route_pair r) (base (from_route S r before))) (sym (source_of_route p source r it).0)).1) hop))
       | inr later ↦ absurd (path_there T after p source r later it m.gone)
     ];
+    late_out = λ a c. absurd (Contains-nil a c);
+    late_alone = λ a c. absurd (Contains-nil a c);
+    late_derived = λ a c. absurd (Contains-nil a c);
+    late_loose = λ a c. absurd (Contains-nil a c);
   }
 
 module _ (v w : Known) (S T : Tables) (p : Prefix) (source : FibSource) (place id : ℕ) (old : List Path) (most : ℕ) (k : StandsFor v S) (m : IsLeaving v.rows v.lists T p source place id old) (differ : Differ (changes.Route p source ∷ []) S T) (after : IsSound T)
-    (apart : AreInterned v.lists) (r : IsWithdrawn v.rows w.rows v.lists w.lists place p id old (paths_at p source T.routes)) (count : w.objects + own_size p (entry_before v.rows place) (entry_at v.rows (place + 1)) ≡ v.objects) (below : v.objects < 2 ^ 32 - 1) where
-  h : IsLeafEdit S T p source
+    (apart : AreInterned v.lists) (r : IsWithdrawn v.rows w.rows v.lists w.lists place p id (goals_of old) (goals_of (paths_at p source T.routes))) (count : w.objects + own_size p (entry_before v.rows place) (entry_at v.rows (place + 1)) ≡ v.objects) (below : v.objects < 2 ^ 32 - 1) where
+  h : IsLeafEdit S T p source []
   h = leaving_edit v S T p source place id old k m differ after
 
   goals : targets T p ≡ []
-  goals = plain_targets T p (paths_at p source T.routes) (chosen_after S T p source h) (ap (list_all is_plain) m.gone) ∙ ap goals_of m.gone
+  goals = plain_targets T p (paths_at p source T.routes) (chosen_after S T p source [] h) (ap (list_all is_plain) m.gone) ∙ ap goals_of m.gone
 
   goals_was : targets S p ≡ goals_of old
-  goals_was = plain_targets S p old (chosen_before S T p source h ∙ list_was v S T p source place id old k m differ after) m.plain
+  goals_was = plain_targets S p old (chosen_before S T p source [] h ∙ list_was v S T p source place id old k m differ after) m.plain
 
   step : (paths : List Path) → holders S paths ≡ holders T paths + once old paths
   step paths =
       let some = some_was v S T p source place id old k m differ after in
       let e = holders_are S T p source h paths in
-      let a = counted_own S p source (own_before S T p source h) paths some in
-      let b = counted_none T p source (own_after S T p source h) paths m.gone in
+      let a = counted_own S p source (own_before S T p source [] h) paths some in
+      let b = counted_none T p source (own_after S T p source [] h) paths m.gone in
       let c = ap (λ l. once l paths) (list_was v S T p source place id old k m differ after) in
       sums (holders T paths) (holders S paths) _ _ _ (once old paths) e a b c
     where
@@ -123,11 +117,11 @@ module _ (v w : Known) (S T : Tables) (p : Prefix) (source : FibSource) (place i
   stays i paths pos at = given_stays v.lists w.lists old id m.content r.given r.apart (holders S) (holders T) (counted_by v S k apart) step i paths pos at
 
   left : (e : Prefix) → Contains (map prefix_of w.rows) e ↔ Contains (map prefix_of v.rows) e × (p ≢ e)
-  left = but_for v.rows w.rows v.lists w.lists place p id old (paths_at p source T.routes) r k.ordered m.row m.at m.own
+  left = but_for v.rows w.rows v.lists w.lists place p id (goals_of old) (goals_of (paths_at p source T.routes)) r k.ordered m.row m.at m.own
 
   relinked : (s : Row) → Contains w.rows s → p ≢ s.prefix → (q : Row) × Contains v.rows q × IsButFor p q s × (Contains s.dependants p ↔ Contains (targets T p) s.prefix)
   relinked s c off =
-      let x = row_was v.rows w.rows v.lists w.lists place p id old (paths_at p source T.routes) r k.ordered m.row m.at m.own s c in (
+      let x = row_was v.rows w.rows v.lists w.lists place p id (goals_of old) (goals_of (paths_at p source T.routes)) r k.ordered m.row m.at m.own s c in (
         x.0,
         x.1,
         x.2.0,
@@ -141,15 +135,15 @@ module _ (v w : Known) (S T : Tables) (p : Prefix) (source : FibSource) (place i
 
   -- the size falls by what the entry made
   order_place : slice_get (map prefix_of v.rows) place ≡ Some p
-  order_place = order_at v.rows w.rows v.lists w.lists place p id old (paths_at p source T.routes) r k.ordered m.row m.at m.own
+  order_place = order_at v.rows w.rows v.lists w.lists place p id (goals_of old) (goals_of (paths_at p source T.routes)) r k.ordered m.row m.at m.own
 
   names : map prefix_of w.rows ≡ remove (map prefix_of v.rows) place
-  names = names_gone v.rows w.rows v.lists w.lists place p id old (paths_at p source T.routes) r k.ordered m.row m.at m.own
+  names = names_gone v.rows w.rows v.lists w.lists place p id (goals_of old) (goals_of (paths_at p source T.routes)) r k.ordered m.row m.at m.own
 
   entries_are : (e : Prefix) → Contains (map prefix_of w.rows) e ↔ Contains (entries T) e
   entries_are e = (
     λ c. (let b = (left e).0 c in (entry_same S T p source h e b.1).0 ((k.entries e).0 b.0)),
-    λ c. (let off : p ≢ e = λ same. (entry_own S T p source h).0 (subst (Contains (entries T)) (sym same) c) m.gone in (left e).1 ((k.entries e).1 ((entry_same S T p source h e off).1 c), off)),
+    λ c. (let off : p ≢ e = λ same. (entry_own S T p source [] h).0 (subst (Contains (entries T)) (sym same) c) m.gone in (left e).1 ((k.entries e).1 ((entry_same S T p source h e off).1 c), off)),
   )
 
   good : ArePrefixes (map prefix_of w.rows)
@@ -158,14 +152,14 @@ module _ (v w : Known) (S T : Tables) (p : Prefix) (source : FibSource) (place i
   grown : IsGrown T S p
   grown = record {
     others = λ e off. ((entry_same S T p source h e off).1, (entry_same S T p source h e off).0);
-    lacks = λ c. (entry_own S T p source h).0 c m.gone;
-    has = entry_was S T p source h (some_was v S T p source place id old k m differ after);
-    lists = λ e off. sym (chosen_same S T p source h e off);
-    plain = ap (list_all is_plain) (chosen_before S T p source h ∙ list_was v S T p source place id old k m differ after) ∙ m.plain;
+    lacks = λ c. (entry_own S T p source [] h).0 c m.gone;
+    has = entry_was S T p source [] h (some_was v S T p source place id old k m differ after);
+    lists = λ e off. sym (chosen_same S T p source [] h e (outside p e off));
+    plain = ap (list_all is_plain) (chosen_before S T p source [] h ∙ list_was v S T p source place id old k m differ after) ∙ m.plain;
   }
 
   size_law : size S ≡ size T + own_size p (before_of (map prefix_of w.rows) place) (slice_get (map prefix_of w.rows) place)
-  size_law = size_more T S p grown (map prefix_of w.rows) entries_are (ordered_gone v.rows w.rows v.lists w.lists place p id old (paths_at p source T.routes) r k.ordered m.row m.at m.own) good place
+  size_law = size_more T S p grown (map prefix_of w.rows) entries_are (ordered_gone v.rows w.rows v.lists w.lists place p id (goals_of old) (goals_of (paths_at p source T.routes)) r k.ordered m.row m.at m.own) good place
       (subst (λ l. IsGap l place p) (sym names) (gap_removed (map prefix_of v.rows) k.ordered place p order_place)) m.prefix
 
   own_is : own_size p (entry_before v.rows place) (entry_at v.rows (place + 1)) ≡ own_size p (before_of (map prefix_of w.rows) place) (slice_get (map prefix_of w.rows) place)
@@ -183,12 +177,12 @@ module _ (v w : Known) (S T : Tables) (p : Prefix) (source : FibSource) (place i
   made : IsLeafMade v w T p source
   made = record {
     rows = record {
-      ordered = ordered_gone v.rows w.rows v.lists w.lists place p id old (paths_at p source T.routes) r k.ordered m.row m.at m.own;
+      ordered = ordered_gone v.rows w.rows v.lists w.lists place p id (goals_of old) (goals_of (paths_at p source T.routes)) r k.ordered m.row m.at m.own;
       same = λ e off. (λ c. (left e).1 (c, off), λ c. ((left e).0 c).0);
       rows = relinked;
     };
     there = (λ c. absurd (((left p).0 c).1 refl), λ some. absurd (some m.gone));
-    own = λ s c is. absurd ((row_left v.rows w.rows v.lists w.lists place p id old (paths_at p source T.routes) r k.ordered m.row m.at m.own s c).0 is);
+    own = λ s c is. absurd ((row_left v.rows w.rows v.lists w.lists place p id (goals_of old) (goals_of (paths_at p source T.routes)) r k.ordered m.row m.at m.own s c).0 is);
     rank = λ t c. absurd (Contains-nil t (subst (λ l. Contains l t) goals c));
     counted = counted;
     stays = stays;
@@ -223,14 +217,14 @@ pub followed_gone : (v w : Known) (T : Tables) (p : Prefix) (source : FibSource)
     → (S : Tables) → StandsFor v S → Differ (changes.Route p source ∷ []) S T → IsFollowed v w S T most f
 followed_gone v w T p source place id old most f m apart c count below le after S k differ =
     let same : c.before ≡ old = some_is c.before old (sym c.content ∙ m.content) in
-    let r = subst (λ l. IsWithdrawn v.rows w.rows v.lists w.lists place p id l (paths_at p source T.routes)) same c.withdrawn in
+    let r = subst (λ l. IsWithdrawn v.rows w.rows v.lists w.lists place p id (goals_of l) (goals_of (paths_at p source T.routes))) same c.withdrawn in
     followed_by v w S T p source place id old most k m differ after apart r count below f le c.touched (c.moved m.row m.at)
 
 -- and the fields still fit together
 pub left_fields : (rows new : List Row) (lists later : List PathKept) (order exits set : List Prefix) (T : Tables) (p : Prefix) (source : FibSource) (place id : ℕ) (old paths : List Path) (f : Followed)
     → AreFields rows lists order exits → IsLeaving rows lists T p source place id old → HasLeft rows new lists later place p id paths f → IsAscending set → ((e : Prefix) → Contains set e ↔ Contains order e × (e ≢ p)) → AreFields new later set exits
 left_fields rows new lists later order exits set T p source place id old paths f h m c asc members =
-    fields_gone rows new lists later place p id c.before paths c.withdrawn h.ordered m.row m.at m.own h.named source m.pairs c.content set exits asc
+    fields_gone rows new lists later place p id (goals_of c.before) (goals_of paths) c.withdrawn h.ordered m.row m.at m.own c.before h.named source m.pairs c.content set exits asc
     (λ e. subst (λ l. Contains set e ↔ Contains l e × (e ≢ p)) h.same (members e)) h.out m.inside
 
 pub leaving_kept : (rows : List Row) (lists : List PathKept) (T : Tables) (p : Prefix) (source : FibSource) (place id : ℕ) (old : List Path) → IsLeaving rows lists T p source place id old → IsSome (kept_of lists id)

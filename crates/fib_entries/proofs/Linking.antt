@@ -28,7 +28,7 @@ use Rattle.fib_entries.proofs.Looking.{one_place}
 use Rattle.fib_entries.proofs.Standing.{find_missed}
 use Rattle.fib_entries.proofs.Touches.{append_differ}
 
-but_self : (p : Prefix) (r : Row) → IsButFor p r r
+pub but_self : (p : Prefix) (r : Row) → IsButFor p r r
 but_self p r = record { prefix = refl; pairs = refl; looped = refl; met = refl; marked = refl; rank = refl; others = λ d off. (λ c. c, λ c. c); once = λ o. o }
 
 pub but_then : (p : Prefix) (r s t : Row) → IsButFor p r s → IsButFor p s t → IsButFor p r t

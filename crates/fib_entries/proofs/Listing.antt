@@ -1,17 +1,16 @@
 -- The list of the changed route, and what depends on it: pairs, entries, users and size.
-use Rattle.std.proofs.Common.{arith, ◌≡◌, ◌≢◌, ◌+◌, Bool, true, false, List, [], ◌∷◌, length, Option, Some, None, ◌⊎◌, inl, inr, refl, sym, ◌∙◌, ap, subst, filter, count_by, if◌then◌else◌}
+use Rattle.std.proofs.Common.{arith, ◌≡◌, ◌≢◌, ℕ, ◌+◌, true, false, List, [], ◌∷◌, length, Option, Some, None, ◌⊎◌, inl, inr, refl, sym, ◌∙◌, ap, subst, filter, count_by}
 use Rattle.std.specs.Prelude.{Contains}
-use Rattle.std.specs.List.{IsDistinct}
 use Rattle.std.specs.Cmp.Lexicographic.{pointwise}
 use Rattle.std.proofs.lemmas.Bool.{false≢true}
 use Rattle.std.proofs.lemmas.Bool.Decides.{Decides-eqb}
 use Rattle.std.proofs.lemmas.List.Elements.{All-contains, All-from_recursion}
 use Rattle.fib_list.proofs.Lists.{either, Contains-nil}
-use Rattle.fib_list.proofs.Booleans.{and_both, unit_of, count_by-cons}
+use Rattle.fib_list.proofs.Booleans.{and_both}
 use Rattle.fib_addr.specs.Prefixes.{Prefix, same_prefix}
 use Rattle.fib_addr.proofs.PrefixLaws.{same_prefix-Decides}
 use Rattle.fib_resolve.specs.Keys.{source_rank, same_path}
-use Rattle.fib_resolve.specs.Pairs.{pairs, chosen, best_pair, paths_of, route_pair, same_pair}
+use Rattle.fib_resolve.specs.Pairs.{pairs, chosen, best_pair, paths_of, route_pair}
 use Rattle.fib_resolve.specs.Edits.{paths_at}
 use Rattle.fib_resolve.specs.Tables.{IsSound, is_route, IsSoundRoute}
 use Rattle.fib_resolve.specs.Touched.{is_touched}
@@ -22,15 +21,14 @@ use Rattle.fib_resolve.specs.declared.types.Route.{Route}
 use Rattle.fib_resolve.specs.declared.types.Tables.{Tables}
 use Rattle.fib_resolve.proofs.OneList.{one_list, source_by_rank}
 use Rattle.fib_resolve.proofs.Touching.{best_of, BestOf, untouched_pairs}
-use Rattle.fib_resolve.proofs.Covering.{filter_in, filter_from, pairs_apart}
-use Rattle.fib_resolve.proofs.Apart.{apart-filter}
 use Rattle.fib_changes.proofs.SamePairs.{Origin, origin, from_origin, base, neighbor, derived, near_from, near_host, derived_host}
 use Rattle.fib_changes.proofs.Edits.{in_cases, in_front, in_rest}
 use Rattle.fib_entries.specs.Known.{holders}
 use Rattle.fib_entries.specs.inner.Leaf.{IsLeafEdit}
-use Rattle.fib_entries.proofs.Counting.{counts_same, holders_step}
+use Rattle.fib_entries.specs.inner.Part.{in_part}
+use Rattle.fib_entries.proofs.Counting.{one_counted, none_counted, holders_step}
 use Rattle.fib_entries.proofs.Using.{once}
-use Rattle.fib_entries.proofs.Leafing.{written_route, base_came, from_route, same_entry, host_other, is_not, is_it}
+use Rattle.fib_entries.proofs.Leafing.{written_route, base_came, from_route, same_entry, host_other, is_not, is_it, outside}
 
 some_nil : {X : Type 0} (x : X) (xs : List X) → x ∷ xs ≡ [] → ⊥
 some_nil x xs e = (cc)
@@ -103,35 +101,13 @@ module _ (U : Tables) (p : Prefix) (s : FibSource) (h : OwnPairs U p s) where
 
   -- how often a list is counted among the prefix's pairs
   pub counted_own : (paths : List Path) → paths_at p s U.routes ≢ [] → count_by (λ x. pointwise same_path x.paths paths) (filter (λ x. same_prefix p x.prefix) (pairs U)) ≡ once (paths_at p s U.routes) paths
-  unfolding pair_of once IsDistinct
-  counted_own paths some =
-      counts_same (λ x. pointwise same_path x.paths paths) (filter (λ x. same_prefix p x.prefix) (pairs U)) (pair_of p s (paths_at p s U.routes) ∷ [])
-      (apart-filter same_pair (λ x. same_prefix p x.prefix) (pairs U) (pairs_apart U)) (tt, tt)
-      (λ z. (
-        λ c. (let r = filter_from (λ x. same_prefix p x.prefix) (pairs U) z c in in_front (pair_of p s (paths_at p s U.routes)) z [] (own_is z r.0 ((same_prefix-Decides p z.prefix).0 r.1))),
-        λ c. elim (in_cases (pair_of p s (paths_at p s U.routes)) z [] c) [
-          | inl is ↦ subst (Contains (filter (λ x. same_prefix p x.prefix) (pairs U))) is
-              (filter_in (λ x. same_prefix p x.prefix) (pairs U) (pair_of p s (paths_at p s U.routes)) (own_there some) ((same_prefix-Decides p p).1 refl))
-          | inr none ↦ absurd (Contains-nil z none)
-        ],
-      ))
-      ∙ (count_by-cons (λ x. pointwise same_path x.paths paths) (pair_of p s (paths_at p s U.routes)) [] ∙ one (pointwise same_path (paths_at p s U.routes) paths))
-    where
-      one : (b : Bool) → unit_of b + 0 ≡ (if b then 1 else 0)
-      one true = refl
-      one false = refl
+  unfolding pair_of
+  counted_own paths some = one_counted U p paths (pair_of p s (paths_at p s U.routes)) refl (own_there some) (λ x c at. own_is x c at)
 
   pub counted_none : (paths : List Path) → paths_at p s U.routes ≡ [] → count_by (λ x. pointwise same_path x.paths paths) (filter (λ x. same_prefix p x.prefix) (pairs U)) ≡ 0
-  unfolding IsDistinct
-  counted_none paths none =
-      counts_same (λ x. pointwise same_path x.paths paths) (filter (λ x. same_prefix p x.prefix) (pairs U)) []
-      (apart-filter same_pair (λ x. same_prefix p x.prefix) (pairs U) (pairs_apart U)) tt
-      (λ z. (
-        λ c. (let r = filter_from (λ x. same_prefix p x.prefix) (pairs U) z c in absurd (own_some z r.0 ((same_prefix-Decides p z.prefix).0 r.1) none)),
-        λ c. absurd (Contains-nil z c),
-      ))
+  counted_none paths none = none_counted U p paths (λ x c at. own_some x c at none)
 
-module _ (S T : Tables) (p : Prefix) (source : FibSource) (h : IsLeafEdit S T p source) where
+module _ (S T : Tables) (p : Prefix) (source : FibSource) (late : List ℕ) (h : IsLeafEdit S T p source late) where
   pub own_before : OwnPairs S p source
   own_before = record { sound = h.before; written = h.written; only = h.only }
 
@@ -139,13 +115,13 @@ module _ (S T : Tables) (p : Prefix) (source : FibSource) (h : IsLeafEdit S T p 
   own_after = record { sound = h.after; written = h.written; only = λ x c at. by x at (origin T x c) }
     where
       by : (x : Pair) → p ≡ x.prefix → Origin T x → x.source ≡ source
-      by x at (base k) = elim (base_came S T p source h x k) [
+      by x at (base k) = elim (base_came S T p source late h x k) [
         | inl was ↦ h.only x (from_origin S x (base was)) at
         | inr (r, c, it, is) ↦ sym (ap (λ z. z.source) is) ∙ (source_of_route p source r it).1
       ]
       by x at (neighbor n k m) = (let f = near_from T n x m in
-          absurd (host_other S T p source h n.addr (at ∙ ap (λ z. z.prefix) (sym f.1) ∙ near_host n.addr n.interface)))
-      by x at (derived b k e) = absurd (host_other S T p source h b (at ∙ ap (λ z. z.prefix) (sym e) ∙ derived_host T b))
+          absurd (host_other S T p source late h n.addr (at ∙ ap (λ z. z.prefix) (sym f.1) ∙ near_host n.addr n.interface)))
+      by x at (derived b k e) = absurd (host_other S T p source late h b (at ∙ ap (λ z. z.prefix) (sym e) ∙ derived_host T b))
 
   pub chosen_before : chosen S p ≡ paths_at p source S.routes
   chosen_before = own_chosen S p source own_before
@@ -154,9 +130,9 @@ module _ (S T : Tables) (p : Prefix) (source : FibSource) (h : IsLeafEdit S T p 
   chosen_after = own_chosen T p source own_after
 
   -- the users of a list before and after
-  pub holders_are : (paths : List Path) → holders T paths + count_by (λ x. pointwise same_path x.paths paths) (filter (λ x. same_prefix p x.prefix) (pairs S))
-      ≡ holders S paths + count_by (λ x. pointwise same_path x.paths paths) (filter (λ x. same_prefix p x.prefix) (pairs T))
-  holders_are paths = holders_step S T (λ x. same_prefix p x.prefix) paths (λ x off. (same_entry S T p source h x.prefix (is_not p x.prefix off)).pairs x refl)
+  pub part_holders : (paths : List Path) → holders T paths + count_by (λ x. pointwise same_path x.paths paths) (filter (λ x. in_part p late x.prefix) (pairs S))
+      ≡ holders S paths + count_by (λ x. pointwise same_path x.paths paths) (filter (λ x. in_part p late x.prefix) (pairs T))
+  part_holders paths = holders_step S T (λ x. in_part p late x.prefix) paths (λ x off. (same_entry S T p source late h x.prefix off).pairs x refl)
 
   -- where the list is another, the prefix is touched
   pub own_touched : paths_at p source S.routes ≢ paths_at p source T.routes → is_touched S T p ≡ true
@@ -172,3 +148,9 @@ module _ (S T : Tables) (p : Prefix) (source : FibSource) (h : IsLeafEdit S T p 
           own_list T p source own_after (pair_of p source (paths_at p source S.routes)) ((untouched_pairs S T p (pair_of p source (paths_at p source S.routes)) none refl).0 c) refl)
       by [] (x ∷ xs) a b none = (let c = own_there T p source own_after (λ e. some_nil x xs (sym b ∙ e)) in
           absurd (own_some S p source own_before (pair_of p source (paths_at p source T.routes)) ((untouched_pairs S T p (pair_of p source (paths_at p source T.routes)) none refl).1 c) refl a))
+
+-- the same where no next hop is late
+pub holders_are : (S T : Tables) (p : Prefix) (source : FibSource) → IsLeafEdit S T p source [] → (paths : List Path)
+    → holders T paths + count_by (λ x. pointwise same_path x.paths paths) (filter (λ x. same_prefix p x.prefix) (pairs S))
+    ≡ holders S paths + count_by (λ x. pointwise same_path x.paths paths) (filter (λ x. same_prefix p x.prefix) (pairs T))
+holders_are S T p source h paths = holders_step S T (λ x. same_prefix p x.prefix) paths (λ x off. (same_entry S T p source [] h x.prefix (outside p x.prefix (is_not p x.prefix off))).pairs x refl)

@@ -85,6 +85,12 @@ module _ {X : Type 0} where
   insert_back (x ∷ xs) zero own le = refl
   insert_back (x ∷ xs) (suc k) own le = ap (λ l. x ∷ l) (insert_back xs k own (omega (arith, le)))
 
+  -- what went comes back
+  pub remove_back : (xs : List X) (k : ℕ) (own : X) → slice_get xs k ≡ Some own → insert (remove xs k) k own ≡ xs
+  remove_back [] k own at = absurd (none_some own at)
+  remove_back (x ∷ xs) zero own at = ap (λ y. y ∷ xs) (sym (some_is x own at))
+  remove_back (x ∷ xs) (suc k) own at = ap (λ l. x ∷ l) (remove_back xs k own at)
+
   pub each_by : (P : X → Type 0) (xs : List X) → ((j : ℕ) (x : X) → slice_get xs j ≡ Some x → P x) → AllByRecursion P xs
   each_by P [] f = tt
   each_by P (x ∷ xs) f = (f 0 x refl, each_by P xs (λ j y at. f (suc j) y at))
@@ -203,7 +209,13 @@ entry_before_is rows (suc m) =
 pub size_came : (rows : List Row) (k : ℕ) (p : Prefix) → own_size p (entry_before rows k) (entry_at rows k) ≡ own_size p (before_of (map prefix_of rows) k) (slice_get (map prefix_of rows) k)
 size_came rows k p = ap (λ o. own_size p o (entry_at rows k)) (entry_before_is rows k) ∙ ap (own_size p (before_of (map prefix_of rows) k)) (entry_at_is rows k)
 
-before_removed : (order : List Prefix) (k : ℕ) (p : Prefix) → slice_get order k ≡ Some p → before_of (remove order k) k ≡ before_of order k
+pub size_left : (rows : List Row) (k : ℕ) (p : Prefix) → own_size p (entry_before rows k) (entry_at rows (k + 1)) ≡ own_size p (before_of (map prefix_of rows) k) (slice_get (map prefix_of rows) (suc k))
+size_left rows k p = ap (λ o. own_size p o (entry_at rows (k + 1))) (entry_before_is rows k) ∙ ap (own_size p (before_of (map prefix_of rows) k)) (entry_at_is rows (k + 1) ∙ ap (slice_get (map prefix_of rows)) (next k))
+  where
+    next : (k : ℕ) → k + 1 ≡ suc k
+    next k = omega arith
+
+pub before_removed : (order : List Prefix) (k : ℕ) (p : Prefix) → slice_get order k ≡ Some p → before_of (remove order k) k ≡ before_of order k
 before_removed order zero p at = refl
 before_removed order (suc m) p at = get_removed_low order (suc m) m p at (omega arith)
 

@@ -16,15 +16,12 @@ use Rattle.fib_changes.proofs.Edits.{any_in, in_cases, in_front, in_rest}
 use Rattle.fib_changes.proofs.SamePairs.{map_in, map_from, flat_map_from}
 use Rattle.fib_interned.proofs.Finding.{none_some, contains_at}
 use Rattle.fib_entries.specs.inner.Plies.{is_on_way, is_own, own_below, before_of, IsGap}
-use Rattle.fib_entries.proofs.LeafSizes.{lengths_same}
+use Rattle.fib_entries.proofs.LeafSizes.{lengths_same, plies_list, ply_count}
 use Rattle.fib_entries.proofs.PlyOrder.{on_way_from, shared_near}
 
 -- the ply at a depth on the way to p
 abbrev pub ply : Prefix → ℕ → Prefix
 ply p k = masked p.bits (4 * k)
-
-abbrev pub plies_list : List Prefix → List Prefix
-plies_list xs = everything ∷ flat_map plies_of xs
 
 pub with_plies : Prefix → List Prefix → ℕ → List Prefix
 with_plies p base zero = base
@@ -87,7 +84,7 @@ unfolding with_plies
 member_stays p base zero k le = refl
 member_stays p base (suc n) k le = rw (other_ply p n k (omega (arith, le))) (member_stays p base n k (omega (arith, le)))
 
-abbrev pub zero_if : Bool → ℕ
+abbrev zero_if : Bool → ℕ
 zero_if b = cond b 0 1
 
 abbrev one_if : Bool → ℕ
@@ -96,7 +93,7 @@ one_if b = cond b 1 0
 deep_own : (k : ℕ) (b c : Bool) → b ≡ c → one_if (nat_lt 0 (suc k) && not b) ≡ one_if (not c)
 deep_own k b c e = ap (λ a. one_if (a && not b)) (lt-ltb 0 (suc k) (omega arith)) ∙ ap (λ z. one_if (not z)) e
 
-pub one_more : (xs : List Prefix) (y : Prefix) → length (unique_keys same_prefix (y ∷ xs)) ≡ length (unique_keys same_prefix xs) + zero_if (is_member same_prefix xs y)
+one_more : (xs : List Prefix) (y : Prefix) → length (unique_keys same_prefix (y ∷ xs)) ≡ length (unique_keys same_prefix xs) + zero_if (is_member same_prefix xs y)
 one_more xs y = by (is_member same_prefix xs y)
   where
     by : (b : Bool) → length (cond b (unique_keys same_prefix xs) (y ∷ unique_keys same_prefix xs)) ≡ length (unique_keys same_prefix xs) + zero_if b
@@ -160,7 +157,7 @@ module _ (order : List Prefix) (asc : IsAscending order) (good : ArePrefixes ord
         ap zero_if absent ∙ sym (deep_own k (is_on_way p (suc k) (before_of order place) || is_on_way p (suc k) (slice_get order place)) false apart))
   ]
 
-  grown : (n : ℕ) → ((k : ℕ) → k < n → 4 * k < p.len) → length (unique_keys same_prefix (with_plies p (plies_list order) n)) ≡ length (unique_keys same_prefix (plies_list order)) + own_below p (before_of order place) (slice_get order place) n
+  grown : (n : ℕ) → ((k : ℕ) → k < n → 4 * k < p.len) → length (unique_keys same_prefix (with_plies p (plies_list order) n)) ≡ ply_count order + own_below p (before_of order place) (slice_get order place) n
   unfolding with_plies
   grown zero f = omega arith
   grown (suc n) f =
@@ -174,7 +171,7 @@ module _ (order : List Prefix) (asc : IsAscending order) (good : ArePrefixes ord
 
   -- with the prefix there are its own plies more
   pub plies_grown : (ys : List Prefix) → ((e : Prefix) → Contains ys e ↔ Contains order e ⊎ (p ≡ e))
-      → length (unique_keys same_prefix (plies_list ys)) ≡ length (unique_keys same_prefix (plies_list order)) + own_below p (before_of order place) (slice_get order place) ((p.len + 3) / 4)
+      → ply_count ys ≡ ply_count order + own_below p (before_of order place) (slice_get order place) ((p.len + 3) / 4)
   plies_grown ys same =
       lengths_same same_prefix same_prefix_equiv (λ x y. (same_prefix-Decides x y).0) (plies_list ys) (with_plies p (plies_list order) ((p.len + 3) / 4)) (λ z. (forth z, back z))
       ∙ grown ((p.len + 3) / 4) (λ k lt. depth_less p.len k lt)

@@ -1,7 +1,7 @@
 -- What is seen of a leaf's row makes its edit one that touches it alone.
-use Rattle.std.proofs.Common.{arith, ◌≡◌, ◌≢◌, ℕ, zero, suc, ◌-◌, ◌*◌, ◌/◌, ◌%◌, ◌<◌, ◌≤◌, true, false, not, List, [], ◌∷◌, map, Option, Some, None, ◌⊎◌, inl, inr, refl, sym, ◌∙◌, ap, subst, slice_get}
+use Rattle.std.proofs.Common.{arith, ◌≡◌, ◌≢◌, ℕ, zero, suc, ◌-◌, ◌*◌, ◌/◌, ◌%◌, ◌<◌, ◌≤◌, true, false, List, [], ◌∷◌, map, Some, ◌⊎◌, inl, inr, refl, sym, ◌∙◌, ap, subst, slice_get}
 use Rattle.std.specs.Prelude.{Contains, filter_map}
-use Rattle.std.specs.List.{list_all, AllByRecursion}
+use Rattle.std.specs.List.{AllByRecursion}
 use Rattle.std.specs.List.Sorted.{IsStrictlySortedBy}
 use Rattle.std.specs.Ordering.{nat_cmp, ordering_then}
 use Rattle.std.specs.declared.cmp.Ordering.{Ordering}
@@ -12,34 +12,30 @@ use Rattle.std.proofs.Math.Pow.{pow_pos}
 use Rattle.std.proofs.Math.Nat.{div-mul-le_self, mul-div-le}
 use Rattle.std.proofs.lemmas.Nat.{le-div}
 use Rattle.fib_list.proofs.Lists.{Contains-nil}
-use Rattle.fib_list.proofs.Booleans.{and_both}
-use Rattle.fib_addr.specs.Prefixes.{Prefix, IsPrefix, same_prefix, contains, host, size_of}
-use Rattle.fib_addr.proofs.PrefixLaws.{same_prefix-Decides}
+use Rattle.fib_addr.specs.Prefixes.{Prefix, IsPrefix, contains, size_of}
 use Rattle.fib_cover.specs.Covers.{prefix_cmp, IsAscending}
 use Rattle.fib_resolve.specs.Edits.{paths_at}
-use Rattle.fib_resolve.specs.Pairs.{pairs, entries, recursive_of, recursive_kind, route_pair}
+use Rattle.fib_resolve.specs.Pairs.{pairs, entries, recursive_of, route_pair}
 use Rattle.fib_resolve.specs.Loops.{targets}
 use Rattle.fib_resolve.specs.Tables.{IsSound, is_route}
 use Rattle.fib_resolve.specs.declared.pairs.Pair.{Pair}
 use Rattle.fib_resolve.specs.declared.types.Path.{Path}
-use Rattle.fib_resolve.specs.declared.types.PathKind.{PathKind}
-use Rattle.fib_resolve.specs.declared.types.PathKind.TheVariants as kinds
 use Rattle.fib_resolve.specs.declared.types.FibSource.{FibSource}
 use Rattle.fib_resolve.specs.declared.types.Route.{Route}
 use Rattle.fib_resolve.specs.declared.types.Tables.{Tables}
 use Rattle.fib_resolve.proofs.OneList.{one_list}
 use Rattle.fib_changes.specs.Differ.{Differ}
 use Rattle.fib_changes.specs.declared.change.Change.TheVariants as changes
-use Rattle.fib_changes.proofs.CauseLaws.{any_from}
-use Rattle.fib_changes.proofs.Edits.{in_cases, in_front}
+use Rattle.fib_changes.proofs.Edits.{in_cases}
 use Rattle.fib_changes.proofs.SamePairs.{map_from, from_origin, base}
 use Rattle.fib_interned.proofs.Finding.{some_is, none_some, contains_at}
-use Rattle.fib_entries.specs.Known.{Known, content_of, prefix_of, row_of, ArePairs, IsRow, StandsFor}
-use Rattle.fib_entries.specs.inner.Leaf.{IsLeafEdit, IsReady, has_other, shared_kind, shared_path}
+use Rattle.fib_entries.specs.Known.{Known, prefix_of, IsRow, StandsFor}
+use Rattle.fib_entries.specs.inner.Leaf.{IsLeafEdit, IsReady}
 use Rattle.fib_entries.specs.Rows.{Row}
 use Rattle.fib_entries.proofs.Leafing.{from_route}
-use Rattle.fib_entries.proofs.Listing.{listed_route, source_of_route, own_list, own_some, OwnPairs}
-use Rattle.fib_entries.proofs.Standing.{row_there}
+use Rattle.fib_entries.proofs.Listing.{listed_route, source_of_route}
+use Rattle.fib_entries.proofs.Owning.{owned_all, owned_list, owned_some}
+use Rattle.fib_entries.proofs.Sharing.{led_by}
 
 -- the order by bits, then length
 less_parts : (p q : Prefix) → prefix_cmp p q ≡ Less → (p.bits < q.bits) ⊎ ((p.bits ≡ q.bits) × (p.len < q.len))
@@ -134,57 +130,21 @@ alone_row rows asc k own p at is good next r c inside longer =
     there (x ∷ xs) (suc i) zero r lt b = absurd (omega (arith, lt))
     there (x ∷ xs) (suc i) (suc j) r lt b = there xs i j r (omega (arith, lt)) b
 
-hop_from : (ps : List Path) (a : ℕ) → Contains (filter_map recursive_of ps) a → (q : Path) × Contains ps q × (q.kind ≡ kinds.Recursive a)
-hop_from [] a c = absurd (Contains-nil a c)
-hop_from (x ∷ xs) a c = by (hop_from xs a) x.kind refl (recursive_kind x.kind) refl c
-  where
-    more : (Contains (filter_map recursive_of xs) a → (q : Path) × Contains xs q × (q.kind ≡ kinds.Recursive a)) → Contains (filter_map recursive_of xs) a → (q : Path) × Contains (x ∷ xs) q × (q.kind ≡ kinds.Recursive a)
-    more f c = let r = f c in (r.0, (suc r.1.0, omega (arith, r.1.1), r.1.2), r.2)
-
-    by : (Contains (filter_map recursive_of xs) a → (q : Path) × Contains xs q × (q.kind ≡ kinds.Recursive a)) → (k : PathKind) → x.kind ≡ k → (o : Option ℕ) → recursive_kind x.kind ≡ o → Contains (filter_map recursive_of (x ∷ xs)) a
-        → (q : Path) × Contains (x ∷ xs) q × (q.kind ≡ kinds.Recursive a)
-    by f k is None e d = more f (rw e at d)
-    by f (kinds.Recursive b) is (Some z) e d = elim (in_cases z a (filter_map recursive_of xs) (rw e at d)) [
-      | inl same ↦ (x, in_front x x xs refl, is ∙ ap kinds.Recursive (some_is b z (sym (ap recursive_kind is) ∙ e) ∙ same))
-      | inr later ↦ more f later
-    ]
-    by f kinds.Drop is (Some z) e d = absurd (none_some z (sym (ap recursive_kind is) ∙ e))
-    by f kinds.Local is (Some z) e d = absurd (none_some z (sym (ap recursive_kind is) ∙ e))
-    by f (kinds.Attached i) is (Some z) e d = absurd (none_some z (sym (ap recursive_kind is) ∙ e))
-    by f (kinds.Hop b i) is (Some z) e d = absurd (none_some z (sym (ap recursive_kind is) ∙ e))
-    by f kinds.Cover is (Some z) e d = absurd (none_some z (sym (ap recursive_kind is) ∙ e))
-
-each_shared : (rows : List Row) (p : Prefix) (paths : List Path) (q : Path) → list_all (shared_path rows p) paths ≡ true → Contains paths q → shared_kind rows p q.kind ≡ true
-each_shared rows p [] q h c = absurd (Contains-nil q c)
-each_shared rows p (x ∷ xs) q h c = let both = and_both (shared_path rows p x) (list_all (shared_path rows p) xs) h in
-    elim (in_cases x q xs c) [ inl is ↦ subst (λ z. shared_path rows p z ≡ true) is both.0 | inr later ↦ each_shared rows p xs q both.1 later ]
-
 module _ (v : Known) (S T : Tables) (p : Prefix) (source : FibSource) (place id : ℕ) (old : List Path) (k : StandsFor v S) (m : IsReady v.rows v.lists T p source place id old) (differ : Differ (changes.Route p source ∷ []) S T) (after : IsSound T) where
-  own_row : IsRow v.lists S m.row
-  own_row = k.rows m.row (contains_at v.rows place m.row m.at)
+  own_there : Contains v.rows m.row
+  own_there = contains_at v.rows place m.row m.at
 
-  own_pairs : ArePairs v.lists S p ((source, id) ∷ [])
-  own_pairs = subst (ArePairs v.lists S p) m.pairs (subst (λ z. ArePairs v.lists S z m.row.pairs) m.own own_row.pairs)
+  own_row : IsRow v.lists S m.row
+  own_row = k.rows m.row own_there
 
   pub all_own : (x : Pair) → Contains (pairs S) x → p ≡ x.prefix → (x.source ≡ source) × (x.paths ≡ old)
-  all_own x c at =
-      let f = own_pairs.found x c at in
-      let is : (source, id) ≡ f.0 = elim (in_cases (source, id) f.0 [] f.1) [ inl same ↦ same | inr none ↦ absurd (Contains-nil f.0 none) ] in (
-        sym f.2.0 ∙ ap (λ z. z.0) (sym is),
-        some_is x.paths old (sym f.2.1 ∙ ap (λ z. content_of v.lists z.1) (sym is) ∙ m.content),
-      )
-
-  own_pairs_before : OwnPairs S p source
-  own_pairs_before = record { sound = k.sound; written = m.written; only = λ x c at. (all_own x c at).0 }
+  all_own = owned_all v S k p source id old m.row own_there m.own m.pairs m.content
 
   pub list_before : paths_at p source S.routes ≡ old
-  list_before =
-      let r = own_pairs.real (source, id) (in_front (source, id) (source, id) [] refl) in
-      sym (own_list S p source own_pairs_before r.0 r.1 r.2) ∙ (all_own r.0 r.1 r.2).1
+  list_before = owned_list v S k p source id old m.row own_there m.own m.pairs m.content m.written
 
   pub some_before : paths_at p source S.routes ≢ []
-  some_before =
-      let r = own_pairs.real (source, id) (in_front (source, id) (source, id) [] refl) in own_some S p source own_pairs_before r.0 r.1 r.2
+  some_before = owned_some v S k p source id old m.row own_there m.own m.pairs m.content m.written
 
   real_entry : (q : Prefix) → Contains (entries S) q → (r : Row) × Contains v.rows r × (r.prefix ≡ q)
   real_entry q c = map_from prefix_of v.rows q ((k.entries q).1 c)
@@ -196,19 +156,7 @@ module _ (v : Known) (S T : Tables) (p : Prefix) (source : FibSource) (place id 
     | inr (none, is) ↦ absurd (none r c it)
   ]
 
-  led : (paths : List Path) (a : ℕ) → list_all (shared_path v.rows p) paths ≡ true → Contains (filter_map recursive_of paths) a → (d : Prefix) × (d ≢ p) × Contains (targets S d) (host a)
-  led paths a h c =
-      let q = hop_from paths a c in
-      let is : has_other p (row_of v.rows (host a)) ≡ true = subst (λ z. shared_kind v.rows p z ≡ true) q.2 (each_shared v.rows p paths q.0 h q.1) in
-      by (row_of v.rows (host a)) refl is
-    where
-      by : (o : Option Row) → row_of v.rows (host a) ≡ o → has_other p o ≡ true → (d : Prefix) × (d ≢ p) × Contains (targets S d) (host a)
-      by None e is = absurd (false≢true is)
-      by (Some r) e is = (let t = row_there v.rows (host a) r e in
-          let d = any_from (λ z. not (same_prefix p z)) r.dependants is in
-          (d.0, (λ same. false≢true (sym (ap not ((same_prefix-Decides p d.0).1 (sym same))) ∙ d.2)), subst (Contains (targets S d.0)) (sym t.1) (((k.rows r t.0).dependants d.0).0 d.1)))
-
-  pub ready_edit : IsLeafEdit S T p source
+  pub ready_edit : IsLeafEdit S T p source []
   ready_edit = record {
     before = k.sound;
     after = after;
@@ -223,7 +171,11 @@ module _ (v : Known) (S T : Tables) (p : Prefix) (source : FibSource) (place id 
     only = λ x c at. (all_own x c at).0;
     leaf = λ d c. Contains-nil d (subst (λ l. Contains l d) m.none ((own_row.dependants d).1 (subst (Contains (targets S d)) (sym m.own) c)));
     hops = λ r a it c hop. elim c [
-      | inl before ↦ led old a m.shared_before (subst (λ l. Contains (filter_map recursive_of l) a) ((all_own (route_pair r) (from_origin S (route_pair r) (base (from_route S r before))) (sym (source_of_route p source r it).0)).1) hop)
-      | inr later ↦ led (paths_at p source T.routes) a m.shared_after (subst (λ l. Contains (filter_map recursive_of l) a) (list_after r later it) hop)
+      | inl before ↦ inr (led_by v S p k old a m.shared_before (subst (λ l. Contains (filter_map recursive_of l) a) ((all_own (route_pair r) (from_origin S (route_pair r) (base (from_route S r before))) (sym (source_of_route p source r it).0)).1) hop))
+      | inr later ↦ inr (led_by v S p k (paths_at p source T.routes) a m.shared_after (subst (λ l. Contains (filter_map recursive_of l) a) (list_after r later it) hop))
     ];
+    late_out = λ a c. absurd (Contains-nil a c);
+    late_alone = λ a c. absurd (Contains-nil a c);
+    late_derived = λ a c. absurd (Contains-nil a c);
+    late_loose = λ a c. absurd (Contains-nil a c);
   }

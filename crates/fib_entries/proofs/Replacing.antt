@@ -37,7 +37,8 @@ use Rattle.fib_entries.specs.inner.Leaf.{IsLeafEdit, IsReady, IsReplaced, IsButF
 use Rattle.fib_entries.specs.Rows.{Row}
 use Rattle.fib_entries.proofs.Counting.{counts_have, counts_some}
 use Rattle.fib_entries.proofs.Leafing.{unlooped, leaf_after, entry_of_pair}
-use Rattle.fib_entries.proofs.LeafRows.{IsLeafMade, row_by}
+use Rattle.fib_entries.proofs.LeafRows.{IsLeafMade}
+use Rattle.fib_entries.proofs.PartRows.{row_by}
 use Rattle.fib_entries.proofs.LeafSizes.{size_same, each_plain, plain_targets}
 use Rattle.fib_entries.proofs.Linking.{zip_at, zip_from, attached_names, detached_names, set_names, but_then}
 use Rattle.fib_entries.proofs.Listing.{own_before, own_after, own_list, own_there, chosen_before, chosen_after, holders_are, counted_own, pair_of}
@@ -146,25 +147,25 @@ module _ (v w : Known) (S T : Tables) (p : Prefix) (source : FibSource) (place i
   new : List Path
   new = paths_at p source T.routes
 
-  h : IsLeafEdit S T p source
+  h : IsLeafEdit S T p source []
   h = ready_edit v S T p source place id old k m differ after
 
   was : paths_at p source S.routes ≡ old
   was = list_before v S T p source place id old k m differ after
 
   goals : targets T p ≡ goals_of (paths_at p source T.routes)
-  goals = plain_targets T p (paths_at p source T.routes) (chosen_after S T p source (ready_edit v S T p source place id old k m differ after)) m.plain_after
+  goals = plain_targets T p (paths_at p source T.routes) (chosen_after S T p source [] (ready_edit v S T p source place id old k m differ after)) m.plain_after
 
   goals_before : targets S p ≡ goals_of old
-  goals_before = plain_targets S p old (chosen_before S T p source (ready_edit v S T p source place id old k m differ after) ∙ list_before v S T p source place id old k m differ after) m.plain_before
+  goals_before = plain_targets S p old (chosen_before S T p source [] (ready_edit v S T p source place id old k m differ after) ∙ list_before v S T p source place id old k m differ after) m.plain_before
 
   step : (paths : List Path) → holders S paths + once (paths_at p source T.routes) paths ≡ holders T paths + once old paths
   step paths =
       let h = ready_edit v S T p source place id old k m differ after in
       let some = some_before v S T p source place id old k m differ after in
       let e = holders_are S T p source h paths in
-      let a = counted_own S p source (own_before S T p source h) paths some in
-      let b = counted_own T p source (own_after S T p source h) paths m.some in
+      let a = counted_own S p source (own_before S T p source [] h) paths some in
+      let b = counted_own T p source (own_after S T p source [] h) paths m.some in
       let c = ap (λ l. once l paths) (list_before v S T p source place id old k m differ after) in
       sums (holders T paths) (holders S paths) _ _ _ _ (once old paths) e a b c
     where
@@ -189,7 +190,7 @@ module _ (v w : Known) (S T : Tables) (p : Prefix) (source : FibSource) (place i
   new_content : content_of w.lists new_id ≡ Some (paths_at p source T.routes)
   unfolding pair_of
   new_content = still new_id (paths_at p source T.routes)
-      (counts_some (λ z. pointwise same_path z.paths (paths_at p source T.routes)) (pairs T) (pair_of p source (paths_at p source T.routes)) (own_there T p source (own_after S T p source h) m.some) (list_self (paths_at p source T.routes)))
+      (counts_some (λ z. pointwise same_path z.paths (paths_at p source T.routes)) (pairs T) (pair_of p source (paths_at p source T.routes)) (own_there T p source (own_after S T p source [] h) m.some) (list_self (paths_at p source T.routes)))
       (content_taken v.lists r.lists (paths_at p source T.routes) new_id r.taken r.apart (holders S) (counted_by v S k apart))
 
   -- the rows, one by one
@@ -263,10 +264,10 @@ module _ (v w : Known) (S T : Tables) (p : Prefix) (source : FibSource) (place i
     prefix = m.prefix;
     pairs = record {
       best_first = (tt, tt);
-      found = λ x c own. ((source, new_id), in_front (source, new_id) (source, new_id) [] refl, (sym ((own_after S T p source h).only x c own), new_content ∙ ap Some (sym (own_list T p source (own_after S T p source h) x c own))));
+      found = λ x c own. ((source, new_id), in_front (source, new_id) (source, new_id) [] refl, (sym ((own_after S T p source [] h).only x c own), new_content ∙ ap Some (sym (own_list T p source (own_after S T p source [] h) x c own))));
       real = λ q c. (
         pair_of p source (paths_at p source T.routes),
-        own_there T p source (own_after S T p source h) m.some,
+        own_there T p source (own_after S T p source [] h) m.some,
         prefix_is,
         (
           sym (ap (λ z. z.0) (only_pair q c)) ∙ source_is,
@@ -274,11 +275,11 @@ module _ (v w : Known) (S T : Tables) (p : Prefix) (source : FibSource) (place i
         ),
       );
     };
-    looped = maps_same (λ q. false) (λ q. looped_kind T p q.kind) (paths_at p source T.routes) (λ q c. loop_is T p q.kind (unlooped S T p source h)) ∙ ap (map (λ q. looped_kind T p q.kind)) (sym (chosen_after S T p source h));
+    looped = maps_same (λ q. false) (λ q. looped_kind T p q.kind) (paths_at p source T.routes) (λ q c. loop_is T p q.kind (unlooped S T p source [] h)) ∙ ap (map (λ q. looped_kind T p q.kind)) (sym (chosen_after S T p source [] h));
     met = maps_same (λ q. true) (λ q. kind_met T q.need q.kind) (paths_at p source T.routes) (λ q c. met_is T q.need q.kind (and_both (plain_kind q.kind) (need_rank q.need == 0) (each_plain (paths_at p source T.routes) q m.plain_after c)).1)
-        ∙ ap (map (λ q. kind_met T q.need q.kind)) (sym (chosen_after S T p source h));
-    marked = maps_same plain_mark (marked T p) (paths_at p source T.routes) (λ q c. mark_is T p q (each_plain (paths_at p source T.routes) q m.plain_after c) (unlooped S T p source h)) ∙ ap (map (marked T p)) (sym (chosen_after S T p source h));
-    dependants = λ d. (λ c. absurd (none_own d c), λ c. absurd (leaf_after S T p source h d c));
+        ∙ ap (map (λ q. kind_met T q.need q.kind)) (sym (chosen_after S T p source [] h));
+    marked = maps_same plain_mark (marked T p) (paths_at p source T.routes) (λ q c. mark_is T p q (each_plain (paths_at p source T.routes) q m.plain_after c) (unlooped S T p source [] h)) ∙ ap (map (marked T p)) (sym (chosen_after S T p source [] h));
+    dependants = λ d. (λ c. absurd (none_own d c), λ c. absurd (leaf_after S T p source [] h d c));
     dependants_once = low_own.2.0.once (mid_own.2.0.once (k.rows m.row (contains_at v.rows place m.row m.at)).dependants_once);
   }
     where

@@ -1,11 +1,12 @@
 -- Next hops that others share, and the route of a list.
-use Rattle.std.proofs.Common.{arith, ◌≡◌, ◌≢◌, ℕ, suc, true, not, List, [], ◌∷◌, length, Option, Some, None, inl, inr, refl, sym, ◌∙◌, ap, subst}
+use Rattle.std.proofs.Common.{arith, ◌≡◌, ◌≢◌, ℕ, suc, Bool, true, not, ◌==◌, List, [], ◌∷◌, length, Option, Some, None, ◌⊎◌, inl, inr, refl, sym, ◌∙◌, ap, subst}
 use Rattle.std.specs.Prelude.{Contains, filter_map}
 use Rattle.std.specs.List.{list_all}
 use Rattle.std.proofs.lemmas.Bool.{false≢true}
 use Rattle.std.proofs.lemmas.List.Elements.{All-contains, All-from_recursion}
 use Rattle.fib_list.proofs.Lists.{Contains-nil}
-use Rattle.fib_list.proofs.Booleans.{and_both}
+use Rattle.std.proofs.lemmas.Bool.Decides.{Decides-eqb}
+use Rattle.fib_list.proofs.Booleans.{and_both, or_cases}
 use Rattle.fib_addr.specs.Prefixes.{Prefix, same_prefix, host}
 use Rattle.fib_addr.proofs.PrefixLaws.{same_prefix-Decides}
 use Rattle.fib_resolve.specs.Edits.{paths_at}
@@ -22,12 +23,13 @@ use Rattle.fib_changes.proofs.CauseLaws.{any_from}
 use Rattle.fib_changes.proofs.Edits.{in_cases, in_front}
 use Rattle.fib_interned.proofs.Finding.{some_is, none_some}
 use Rattle.fib_entries.specs.Known.{Known, row_of, StandsFor}
+use Rattle.fib_entries.specs.inner.Hosting.{shared_but, shared_path_but}
 use Rattle.fib_entries.specs.inner.Leaf.{has_other, shared_kind, shared_path}
 use Rattle.fib_entries.specs.Rows.{Row}
 use Rattle.fib_entries.proofs.Listing.{listed_route}
 use Rattle.fib_entries.proofs.Standing.{row_there}
 
-hop_from : (ps : List Path) (a : ℕ) → Contains (filter_map recursive_of ps) a → (q : Path) × Contains ps q × (q.kind ≡ kinds.Recursive a)
+pub hop_from : (ps : List Path) (a : ℕ) → Contains (filter_map recursive_of ps) a → (q : Path) × Contains ps q × (q.kind ≡ kinds.Recursive a)
 hop_from [] a c = absurd (Contains-nil a c)
 hop_from (x ∷ xs) a c = by (hop_from xs a) x.kind refl (recursive_kind x.kind) refl c
   where
@@ -47,23 +49,36 @@ hop_from (x ∷ xs) a c = by (hop_from xs a) x.kind refl (recursive_kind x.kind)
     by f (kinds.Hop b i) is (Some z) e d = absurd (none_some z (sym (ap recursive_kind is) ∙ e))
     by f kinds.Cover is (Some z) e d = absurd (none_some z (sym (ap recursive_kind is) ∙ e))
 
-each_shared : (rows : List Row) (p : Prefix) (paths : List Path) (q : Path) → list_all (shared_path rows p) paths ≡ true → Contains paths q → shared_kind rows p q.kind ≡ true
-each_shared rows p [] q h c = absurd (Contains-nil q c)
-each_shared rows p (x ∷ xs) q h c = let both = and_both (shared_path rows p x) (list_all (shared_path rows p) xs) h in
-    elim (in_cases x q xs c) [ inl is ↦ subst (λ z. shared_path rows p z ≡ true) is both.0 | inr later ↦ each_shared rows p xs q both.1 later ]
+pub each_true : {X : Type 0} (f : X → Bool) (xs : List X) (x : X) → list_all f xs ≡ true → Contains xs x → f x ≡ true
+each_true f [] x h c = absurd (Contains-nil x c)
+each_true f (y ∷ ys) x h c = let both = and_both (f y) (list_all f ys) h in
+    elim (in_cases y x ys c) [ inl is ↦ subst (λ z. f z ≡ true) is both.0 | inr later ↦ each_true f ys x both.1 later ]
 
--- another leads to the entry of a next hop
-pub led_by : (v : Known) (S : Tables) (p : Prefix) → StandsFor v S → (paths : List Path) (a : ℕ) → list_all (shared_path v.rows p) paths ≡ true → Contains (filter_map recursive_of paths) a → (d : Prefix) × (d ≢ p) × Contains (targets S d) (host a)
-led_by v S p k paths a h c =
-    let q = hop_from paths a c in
-    let is : has_other p (row_of v.rows (host a)) ≡ true = subst (λ z. shared_kind v.rows p z ≡ true) q.2 (each_shared v.rows p paths q.0 h q.1) in
-    by (row_of v.rows (host a)) refl is
+-- another leads to an entry that has another dependant
+led_at : (v : Known) (S : Tables) (p : Prefix) → StandsFor v S → (a : ℕ) → has_other p (row_of v.rows (host a)) ≡ true → (d : Prefix) × (d ≢ p) × Contains (targets S d) (host a)
+led_at v S p k a is = by (row_of v.rows (host a)) refl is
   where
     by : (o : Option Row) → row_of v.rows (host a) ≡ o → has_other p o ≡ true → (d : Prefix) × (d ≢ p) × Contains (targets S d) (host a)
     by None e is = absurd (false≢true is)
     by (Some r) e is = (let t = row_there v.rows (host a) r e in
         let d = any_from (λ z. not (same_prefix p z)) r.dependants is in
         (d.0, (λ same. false≢true (sym (ap not ((same_prefix-Decides p d.0).1 (sym same))) ∙ d.2)), subst (Contains (targets S d.0)) (sym t.1) (((k.rows r t.0).dependants d.0).0 d.1)))
+
+-- another leads to the entry of a next hop
+pub led_by : (v : Known) (S : Tables) (p : Prefix) → StandsFor v S → (paths : List Path) (a : ℕ) → list_all (shared_path v.rows p) paths ≡ true → Contains (filter_map recursive_of paths) a → (d : Prefix) × (d ≢ p) × Contains (targets S d) (host a)
+led_by v S p k paths a h c =
+    let q = hop_from paths a c in
+    led_at v S p k a (subst (λ z. shared_kind v.rows p z ≡ true) q.2 (each_true (shared_path v.rows p) paths q.0 h q.1))
+
+-- that is so of each next hop but one
+pub led_but : (v : Known) (S : Tables) (p : Prefix) → StandsFor v S → (paths : List Path) (a b : ℕ) → list_all (shared_path_but v.rows p a) paths ≡ true → Contains (filter_map recursive_of paths) b
+    → Contains (a ∷ []) b ⊎ ((d : Prefix) × (d ≢ p) × Contains (targets S d) (host b))
+led_but v S p k paths a b h c =
+    let q = hop_from paths b c in
+    elim (or_cases (b == a) (has_other p (row_of v.rows (host b))) (subst (λ z. shared_but v.rows p a z ≡ true) q.2 (each_true (shared_path_but v.rows p a) paths q.0 h q.1))) [
+      | inl is ↦ inl (in_front a b [] (sym ((Decides-eqb b a).0 is)))
+      | inr other ↦ inr (led_at v S p k b other)
+    ]
 
 -- a route has a list that isn't empty
 pub path_there : (U : Tables) → IsSound U → (p : Prefix) (s : FibSource) (r : Route) → Contains U.routes r → is_route p s r ≡ true → paths_at p s U.routes ≡ [] → ⊥

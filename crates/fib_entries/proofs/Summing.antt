@@ -3,22 +3,16 @@ use Rattle.std.proofs.Common.{arith, ◌≡◌, ℕ, zero, suc, ◌+◌, ◌/◌
 use Rattle.std.specs.Prelude.{Contains}
 use Rattle.std.specs.List.{AllByRecursion}
 use Rattle.std.specs.List.Sorted.{IsStrictlySortedBy}
-use Rattle.std.specs.Set.{unique_keys}
 use Rattle.std.specs.declared.cmp.Ordering.TheVariants.{Less}
 use Rattle.std.proofs.lemmas.Option.{slice_get_within}
 use Rattle.fib_list.proofs.Lists.{Contains-nil}
-use Rattle.fib_addr.specs.Prefixes.{Prefix, same_prefix}
-use Rattle.fib_addr.proofs.PrefixLaws.{same_prefix-Decides, same_prefix_equiv}
+use Rattle.fib_addr.specs.Prefixes.{Prefix}
 use Rattle.fib_cover.specs.Covers.{prefix_cmp, IsAscending, ArePrefixes}
-use Rattle.fib_resolve.specs.Pairs.{entries}
-use Rattle.fib_resolve.specs.Sizes.{plies}
-use Rattle.fib_resolve.specs.declared.types.Tables.{Tables}
 use Rattle.fib_changes.proofs.Edits.{in_cases, in_front, in_rest}
 use Rattle.fib_interned.proofs.Finding.{none_some, some_is, contains_at}
 use Rattle.fib_entries.specs.inner.Plies.{own_below, before_of, IsGap}
-use Rattle.fib_entries.proofs.Growing.{plies_half, count_plies}
-use Rattle.fib_entries.proofs.LeafSizes.{lengths_same}
-use Rattle.fib_entries.proofs.PlyCounts.{plies_list, plies_grown}
+use Rattle.fib_entries.proofs.LeafSizes.{ply_count}
+use Rattle.fib_entries.proofs.PlyCounts.{plies_grown}
 use Rattle.fib_entries.proofs.PlyOrder.{ordered_at}
 
 taken_each : {X : Type 0} (P : X → Type 0) (xs : List X) (k : ℕ) → AllByRecursion P xs → AllByRecursion P (take k xs)
@@ -97,14 +91,8 @@ gap_behind order asc k p at =
 
 -- the next one makes the plies on its way that aren't on the way to the one before it
 pub plies_next : (order : List Prefix) → IsAscending order → ArePrefixes order → (k : ℕ) (p : Prefix) → slice_get order k ≡ Some p
-    → length (unique_keys same_prefix (plies_list (take (suc k) order))) ≡ length (unique_keys same_prefix (plies_list (take k order))) + own_below p (before_of order k) None ((p.len + 3) / 4)
+    → ply_count (take (suc k) order) ≡ ply_count (take k order) + own_below p (before_of order k) None ((p.len + 3) / 4)
 plies_next order asc good k p at =
     plies_grown (take k order) (taken_ascending order k asc) (λ q c. good q (taken_in order k q c)) k p (gap_behind order asc k p at) (good p (contains_at order k p at)) (take (suc k) order) (λ e. taken_next order k p e at)
-    ∙ ap (λ b. length (unique_keys same_prefix (plies_list (take k order))) + own_below p b (slice_get (take k order) k) ((p.len + 3) / 4)) (before_taken order k)
-    ∙ ap (λ b. length (unique_keys same_prefix (plies_list (take k order))) + own_below p (before_of order k) b ((p.len + 3) / 4)) (taken_end order k)
-
--- the plies of the entries, in whatever order
-pub plies_in : (S : Tables) (order : List Prefix) → ((e : Prefix) → Contains order e ↔ Contains (entries S) e) → length (unique_keys same_prefix (plies_list order)) ≡ length (plies S)
-plies_in S order same =
-    lengths_same same_prefix same_prefix_equiv (λ x y. (same_prefix-Decides x y).0) (plies_list order) (plies_list (entries S)) (λ z. (plies_half order (entries S) (λ e. (same e).0) z, plies_half (entries S) order (λ e. (same e).1) z))
-    ∙ count_plies S
+    ∙ ap (λ b. ply_count (take k order) + own_below p b (slice_get (take k order) k) ((p.len + 3) / 4)) (before_taken order k)
+    ∙ ap (λ b. ply_count (take k order) + own_below p (before_of order k) b ((p.len + 3) / 4)) (taken_end order k)

@@ -21,7 +21,7 @@ PathKept = Kept (List Path)
 unfoldable pub once : List Path → List Path → ℕ
 once content paths = if pointwise same_path content paths then 1 else 0
 
-unit_same : (content paths : List Path) → content ≡ paths → once content paths ≡ 1
+pub unit_same : (content paths : List Path) → content ≡ paths → once content paths ≡ 1
 unfolding once
 unit_same content paths is = ap (λ b. if b then 1 else 0) (subst (λ z. pointwise same_path content z ≡ true) is (list_self content))
 

@@ -16,7 +16,7 @@ use Rattle.fib_entries.specs.Known.{PathKept, content_of, prefix_of, IsHeld}
 use Rattle.fib_entries.specs.inner.Ends.{has_exit, exits_of}
 use Rattle.fib_entries.specs.inner.Fields.{AreFields, AreNamed, count_in}
 use Rattle.fib_entries.specs.inner.Going.{IsWithdrawn}
-use Rattle.fib_entries.specs.inner.Leaf.{IsButFor, goals_of}
+use Rattle.fib_entries.specs.inner.Leaf.{IsButFor}
 use Rattle.fib_entries.specs.Rows.{Row}
 use Rattle.fib_entries.proofs.Counting.{without, counted_in, kept_in, counts_some}
 use Rattle.fib_entries.proofs.Exits.{exits_gone}
@@ -28,12 +28,12 @@ use Rattle.fib_entries.proofs.PlyOrder.{index_of}
 use Rattle.fib_entries.proofs.Taking.{list_self}
 use Rattle.fib_entries.proofs.Using.{once, counted_given, given_stays}
 
-module _ (old new : List Row) (lists later : List PathKept) (place : ℕ) (p : Prefix) (id : ℕ) (before after : List Path) (r : IsWithdrawn old new lists later place p id before after)
+module _ (old new : List Row) (lists later : List PathKept) (place : ℕ) (p : Prefix) (id : ℕ) (goals kept : List Prefix) (r : IsWithdrawn old new lists later place p id goals kept)
     (asc : IsAscending (map prefix_of old)) (row : Row) (at : slice_get old place ≡ Some row) (is : row.prefix ≡ p) where
   low_names : map prefix_of r.low ≡ map prefix_of old
-  low_names = detached_names p (goals_of before) (goals_of after) old r.low r.detached
+  low_names = detached_names p goals kept old r.low r.detached
 
-  low_own : (s : Row) × (slice_get r.low place ≡ Some s) × (IsButFor p row s × (Contains s.dependants p ↔ Contains row.dependants p × (Contains (goals_of before) row.prefix → Contains (goals_of after) row.prefix)))
+  low_own : (s : Row) × (slice_get r.low place ≡ Some s) × (IsButFor p row s × (Contains s.dependants p ↔ Contains row.dependants p × (Contains goals row.prefix → Contains kept row.prefix)))
   low_own = zip_at _ old r.low place row r.detached at
 
   pub order_at : slice_get (map prefix_of old) place ≡ Some p
@@ -60,10 +60,10 @@ module _ (old new : List Row) (lists later : List PathKept) (place : ℕ) (p : P
       let g = removed_from r.low place low_own.0 s low_own.1 (subst (λ l. Contains l s) r.set c) in
       (((but_for s.prefix).0 (map_in prefix_of new s c)).1, contains_at r.low g.0 s g.2)
 
-  pub row_was : (s : Row) → Contains new s → (q : Row) × Contains old q × (IsButFor p q s × (Contains s.dependants p ↔ Contains q.dependants p × (Contains (goals_of before) q.prefix → Contains (goals_of after) q.prefix)))
+  pub row_was : (s : Row) → Contains new s → (q : Row) × Contains old q × (IsButFor p q s × (Contains s.dependants p ↔ Contains q.dependants p × (Contains goals q.prefix → Contains kept q.prefix)))
   row_was s c = zip_from _ old r.low r.detached s (row_left s c).1
 
-  module _ (n : AreNamed old lists) (source : FibSource) (pairs_are : row.pairs ≡ (source, id) ∷ []) (content : content_of lists id ≡ Some before) where
+  module _ (before : List Path) (n : AreNamed old lists) (source : FibSource) (pairs_are : row.pairs ≡ (source, id) ∷ []) (content : content_of lists id ≡ Some before) where
     gone : (x : Pair) × Contains n.pairs x × (row.prefix ≡ x.prefix) × IsHeld lists (source, id) x
     gone = n.each row (source, id) (contains_at old place row at) (subst (λ l. Contains l (source, id)) (sym pairs_are) (in_front (source, id) (source, id) [] refl))
 
@@ -103,5 +103,5 @@ module _ (old new : List Row) (lists later : List PathKept) (place : ℕ) (p : P
         λ c. (let m = (members e).0 c in (but_for e).1 (m.0, λ same. m.1 (sym same))),
         λ c. (let b = (but_for e).0 c in (members e).1 (b.0, λ same. b.1 (sym same))),
       ));
-      out = out ∙ sym (exits_gone old new lists later place p id before after r row at inside);
+      out = out ∙ sym (exits_gone old new lists later place p id goals kept r row at inside);
     }

@@ -9,3 +9,6 @@ pub mod Ends
 pub mod Plies
 pub mod Going
 pub mod Coming
+pub mod Part
+pub mod Hosting
+pub mod Parting

@@ -7,7 +7,7 @@ ghost use Rattle.fib_paths.specs.PathLists.{IsUsedLess};
 ghost use Rattle.fib_resolve.specs.Edits.{paths_at};
 ghost use Rattle.fib_entries.specs.Known.{prefix_of};
 ghost use Rattle.fib_entries.specs.Rows.{Row as RowValue};
-ghost use Rattle.fib_entries.specs.inner.Coming.{IsArriving, IsPlaced, HasCome, blank_row, with_pairs};
+ghost use Rattle.fib_entries.specs.inner.Coming.{IsArriving, IsBelonging, IsPlaced, HasCome, blank_row, with_pairs};
 ghost use Rattle.fib_entries.specs.inner.Plies.{IsGap};
 
 use crate::apply::{alone, moved, own};
@@ -27,7 +27,7 @@ use fib_resolve::{FibSource, Path, Tables};
 use std::alloc::{AllocError, Global};
 
 /// Where the prefix belongs among the rows, where none is its own.
-fn gap_of(rows: &Blocks<Row>, prefix: Prefix) -> Option<usize>
+pub fn gap_of(rows: &Blocks<Row>, prefix: Prefix) -> Option<usize>
     requires { IsAscending (map prefix_of rows.now) }
     ensures gap { IfSome result (λ k. IsGap (map prefix_of rows.now) k prefix) }
     ensures inside { IfSome result (λ k. k ≤ length rows.now) }
@@ -48,8 +48,8 @@ fn is_outside(rows: &Blocks<Row>, place: usize, p: Prefix) -> bool
     }
 }
 
-/// Where the prefix's row belongs, where it comes with the route of that source and list, and it alone.
-pub fn arriving(
+/// Where the prefix's row belongs, where the route of that source and list is its first and nothing lies in it.
+pub fn belongs(
     rows: &Blocks<Row>,
     tables: &Tables,
     p: Prefix,
@@ -58,7 +58,7 @@ pub fn arriving(
 ) -> Option<usize>
     requires ascending { IsAscending (map prefix_of rows.now) }
     requires list { new.now ≡ paths_at p source tables.now.routes }
-    ensures arriving { IfSome result (λ place. IsArriving rows.now tables.now p source place) }
+    ensures belongs { IfSome result (λ place. IsBelonging rows.now tables.now p source place) }
     ensures inside { IfSome result (λ place. place ≤ length rows.now) }
 {
     if !is_written(source) {
@@ -79,6 +79,25 @@ pub fn arriving(
     if is_none(new) {
         return None;
     }
+    Some(place)
+}
+
+/// Where the prefix's row belongs, where it comes with the route of that source and list, and it alone.
+pub fn arriving(
+    rows: &Blocks<Row>,
+    tables: &Tables,
+    p: Prefix,
+    source: FibSource,
+    new: &[Path],
+) -> Option<usize>
+    requires ascending { IsAscending (map prefix_of rows.now) }
+    requires list { new.now ≡ paths_at p source tables.now.routes }
+    ensures arriving { IfSome result (λ place. IsArriving rows.now tables.now p source place) }
+    ensures inside { IfSome result (λ place. place ≤ length rows.now) }
+{
+    let Some(place) = belongs(rows, tables, p, source, new) else {
+        return None;
+    };
     if !suits(rows, p, new) {
         return None;
     }
@@ -86,7 +105,7 @@ pub fn arriving(
 }
 
 /// The row that comes, without its list.
-fn blank(alloc: Global, p: Prefix, own: Own) -> Result<Row, AllocError>
+pub fn blank(alloc: Global, p: Prefix, own: Own) -> Result<Row, AllocError>
     ensures { IfOk result (λ r. r ≡ blank_row p own) }
 {
     let body = Body {
@@ -100,7 +119,7 @@ fn blank(alloc: Global, p: Prefix, own: Own) -> Result<Row, AllocError>
     Row::new(alloc, p, body)
 }
 
-fn put_in(rows: &mut Blocks<Row>, place: usize, row: Row) -> Result<(), AllocError>
+pub fn put_in(rows: &mut Blocks<Row>, place: usize, row: Row) -> Result<(), AllocError>
     requires { place ≤ length rows.old }
     ensures ok { OnOk result (rows.new ≡ insert rows.old place row) }
     ensures err { OnErr result (rows.new ≡ rows.old) }
@@ -109,7 +128,7 @@ fn put_in(rows: &mut Blocks<Row>, place: usize, row: Row) -> Result<(), AllocErr
 }
 
 /// Room for one pair.
-fn room(alloc: Global) -> Result<Vec<(FibSource, PathListId)>, AllocError>
+pub fn room(alloc: Global) -> Result<Vec<(FibSource, PathListId)>, AllocError>
     ensures empty { IfOk result (λ v. v.items ≡ []) }
     ensures room { IfOk result (λ v. 0 < vec_capacity v) }
 {
@@ -118,7 +137,7 @@ fn room(alloc: Global) -> Result<Vec<(FibSource, PathListId)>, AllocError>
 }
 
 /// The pair alone. Takes no memory.
-fn filled(
+pub fn filled(
     room: Vec<(FibSource, PathListId)>,
     pair: (FibSource, PathListId),
 ) -> List<(FibSource, PathListId)>
@@ -132,7 +151,7 @@ fn filled(
 }
 
 /// The row at that place gets these pairs.
-fn set_pairs(rows: &mut Blocks<Row>, place: usize, pairs: List<(FibSource, PathListId)>)
+pub fn set_pairs(rows: &mut Blocks<Row>, place: usize, pairs: List<(FibSource, PathListId)>)
     requires { place < length rows.old }
     ensures { (r : RowValue) → slice_get rows.old place ≡ Some r → rows.new ≡ slice_set rows.old place (with_pairs pairs r) }
 {
@@ -141,7 +160,7 @@ fn set_pairs(rows: &mut Blocks<Row>, place: usize, pairs: List<(FibSource, PathL
 
 /// Puts the prefix's row in at the place beside which it is given: its prefix becomes a dependant of the list's next hops, and the list is
 /// taken. After want of memory all is as before.
-fn place_row(
+pub fn place_row(
     alloc: Global,
     rows: &mut Blocks<Row>,
     lists: &mut PathLists,

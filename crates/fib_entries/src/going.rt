@@ -1,5 +1,5 @@
 // A leaf that goes with its route.
-ghost use Rattle.std.specs.Prelude.{◌≡◌, ◌+◌, ◌<◌, IfOk, IfSome, IsSome, OnErr, Some, length, map, slice_get, List as Items};
+ghost use Rattle.std.specs.Prelude.{◌≡◌, ◌+◌, ◌<◌, ◌≤◌, IfOk, IfSome, IsSome, OnErr, Some, length, map, slice_get, List as Items};
 ghost use Rattle.std.specs.List.{remove};
 ghost use Rattle.fib_cover.specs.Covers.{IsAscending};
 ghost use Rattle.fib_interned.specs.Interned.{kept_of};
@@ -9,6 +9,7 @@ ghost use Rattle.fib_entries.specs.Known.{content_of, prefix_of};
 ghost use Rattle.fib_entries.specs.Rows.{Row as RowValue};
 ghost use Rattle.fib_entries.specs.inner.Building.{AreHeld};
 ghost use Rattle.fib_entries.specs.inner.Going.{IsLeaving, IsWithdrawn, HasLeft};
+ghost use Rattle.fib_entries.specs.inner.Leaf.{goals_of};
 ghost use Rattle.fib_entries.specs.inner.Plies.{own_size, entry_at, entry_before};
 
 use crate::apply::{alone, moved};
@@ -57,7 +58,8 @@ pub fn leaving(
 /// How many objects go with the row at that place.
 pub fn size_at(rows: &Blocks<Row>, place: usize, p: Prefix) -> u32
     requires { place < length rows.now }
-    ensures { result ≡ own_size p (entry_before rows.now place) (entry_at rows.now (place + 1)) }
+    ensures size { result ≡ own_size p (entry_before rows.now place) (entry_at rows.now (place + 1)) }
+    ensures few { result ≤ 9 }
 {
     // Read so that the proof knows its range.
     let _count = rows.len();
@@ -73,7 +75,7 @@ pub fn take_out(rows: &mut Blocks<Row>, place: usize)
 }
 
 /// The prefix leaves the dependants of its next hops, its row at that place goes, and its list is given. Takes no memory.
-fn withdraw(
+pub fn withdraw(
     rows: &mut Blocks<Row>,
     lists: &mut PathLists,
     at: (usize, PathListId),
@@ -83,7 +85,7 @@ fn withdraw(
     requires ascending { IsAscending (map prefix_of rows.old) }
     requires inside { at.0 < length rows.old }
     requires kept { IsSome (kept_of lists.old at.1) }
-    ensures { (before : Items PathValue) → content_of lists.old at.1 ≡ Some before → IsWithdrawn rows.old rows.new lists.old lists.new at.0 p at.1 before new.now }
+    ensures { (before : Items PathValue) → content_of lists.old at.1 ≡ Some before → IsWithdrawn rows.old rows.new lists.old lists.new at.0 p at.1 (goals_of before) (goals_of new.now) }
 {
     detach(rows, p, lists.content(at.1), new);
     take_out(rows, at.0);

@@ -63,7 +63,7 @@ pub fn are_far(p: Prefix, neighbors: &[Neighbor]) -> bool
 }
 
 /// Whether another entry than that has an edge to the row's.
-fn has_other(r: &Row, p: Prefix) -> bool
+pub fn has_other(r: &Row, p: Prefix) -> bool
     ensures { result ≡ has_other p (Some r.now) }
 {
     r.dependants().as_slice().iter().any(|d| !is_same(p, *d))

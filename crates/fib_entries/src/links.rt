@@ -45,7 +45,7 @@ fn is_goal(path: &Path, p: Prefix) -> bool
 }
 
 /// The prefix becomes the last dependant of the row at that place.
-fn push_at(rows: &mut Blocks<Row>, place: usize, p: Prefix) -> Result<(), AllocError>
+pub fn push_at(rows: &mut Blocks<Row>, place: usize, p: Prefix) -> Result<(), AllocError>
     requires { (r : RowValue) × (slice_get rows.old place ≡ Some r) × (is_member same_prefix r.dependants p ≡ false) }
     ensures ok { OnOk result ((r : RowValue) → slice_get rows.old place ≡ Some r → rows.new ≡ slice_set rows.old place (pushed p r)) }
     ensures err { OnErr result (rows.new ≡ rows.old) }
@@ -62,7 +62,7 @@ fn pop_at(rows: &mut Blocks<Row>, place: usize)
 }
 
 /// The prefix goes from the dependants of the row at that place.
-fn remove_at(rows: &mut Blocks<Row>, place: usize, p: Prefix)
+pub fn remove_at(rows: &mut Blocks<Row>, place: usize, p: Prefix)
     requires { place < length rows.old }
     ensures { (r : RowValue) → slice_get rows.old place ≡ Some r → IsUnlinked place p r rows.old rows.new }
 {
@@ -70,7 +70,7 @@ fn remove_at(rows: &mut Blocks<Row>, place: usize, p: Prefix)
 }
 
 /// Whether the prefix is among the row's dependants.
-fn has(row: &Row, p: Prefix) -> bool
+pub fn has(row: &Row, p: Prefix) -> bool
     ensures { result ≡ is_member same_prefix row.now.dependants p }
 {
     row.dependants().has(p)
@@ -108,7 +108,7 @@ fn link(rows: &mut Blocks<Row>, place: usize, p: Prefix, path: &Path) -> Result<
 }
 
 /// The prefix that was pushed at that place goes.
-fn unlink(rows: &mut Blocks<Row>, place: usize)
+pub fn unlink(rows: &mut Blocks<Row>, place: usize)
     requires { (p : PrefixValue) × (before : Items RowValue) × IsLinked place p before rows.old }
     ensures { (p : PrefixValue) (before : Items RowValue) → IsLinked place p before rows.old → rows.new ≡ before }
 {

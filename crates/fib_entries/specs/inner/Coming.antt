@@ -16,7 +16,17 @@ use Rattle.fib_entries.specs.declared.replace.Own.{Own}
 use Rattle.fib_entries.specs.Rows.{Row}
 use Rattle.fib_entries.specs.declared.changes.Followed.{Followed}
 
--- the prefix has no row and belongs at that place, and its route is there and suits
+-- the prefix has no row and belongs at that place, nothing lies in it, and its route is there
+pub record IsBelonging (rows : List Row) (T : Tables) (p : Prefix) (source : FibSource) (place : ℕ) : Type 0 where
+  pub gap : IsGap (map prefix_of rows) place p
+  pub prefix : IsPrefix p
+  pub short : p.len < 32
+  pub written : (source_rank source ≡ 2) ⊎ (source_rank source ≡ 3)
+  pub next : (s : Row) → slice_get rows place ≡ Some s → contains p s.prefix.bits ≡ false
+  pub far : (n : Neighbor) → Contains T.neighbors n → (n.addr < 2 ^ 32) × (contains p n.addr ≡ false)
+  pub some : paths_at p source T.routes ≢ []
+
+-- the same, and its route suits
 pub record IsArriving (rows : List Row) (T : Tables) (p : Prefix) (source : FibSource) (place : ℕ) : Type 0 where
   pub gap : IsGap (map prefix_of rows) place p
   pub prefix : IsPrefix p

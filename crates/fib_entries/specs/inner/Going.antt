@@ -33,10 +33,10 @@ pub record IsLeaving (rows : List Row) (lists : List PathKept) (T : Tables) (p :
   pub shared : list_all (shared_path rows p) old ≡ true
   pub gone : paths_at p source T.routes ≡ []
 
--- the prefix left the dependants of its next hops, its row went, and its list was given
-pub record IsWithdrawn (old new : List Row) (lists later : List PathKept) (place : ℕ) (p : Prefix) (id : ℕ) (before after : List Path) : Type 0 where
+-- the prefix left the dependants of these, but for those, its row went, and its list was given
+pub record IsWithdrawn (old new : List Row) (lists later : List PathKept) (place : ℕ) (p : Prefix) (id : ℕ) (goals kept : List Prefix) : Type 0 where
   pub low : List Row
-  pub detached : AreDetached p (goals_of before) (goals_of after) old low
+  pub detached : AreDetached p goals kept old low
   pub set : new ≡ remove low place
   pub given : Gives lists later id
   pub apart : AreInterned later
@@ -45,6 +45,6 @@ pub record IsWithdrawn (old new : List Row) (lists later : List PathKept) (place
 pub record HasLeft (old new : List Row) (lists later : List PathKept) (place : ℕ) (p : Prefix) (id : ℕ) (after : List Path) (f : Followed) : Type 0 where
   pub before : List Path
   pub content : content_of lists id ≡ Some before
-  pub withdrawn : IsWithdrawn old new lists later place p id before after
+  pub withdrawn : IsWithdrawn old new lists later place p id (goals_of before) (goals_of after)
   pub touched : f.touched ≡ p ∷ []
   pub moved : (r : Row) → slice_get old place ≡ Some r → f.moved ≡ moved_at p r.rank 0

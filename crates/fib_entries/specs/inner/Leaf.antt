@@ -1,13 +1,14 @@
 -- The change of one route of a prefix that nothing leads to and nothing lies in. No contract of a public call rests on this.
 use Rattle.std.specs.Prelude.{◌≡◌, ◌≢◌, ◌↔◌, ◌⊎◌, ◌+◌, ◌≤◌, if◌then◌else◌, map, ◌<◌, ◌^◌, ℕ, true, false, List, [], ◌∷◌, Contains}
 use Rattle.fib_resolve.specs.Keys.{source_rank}
-use Rattle.fib_resolve.specs.Pairs.{pairs}
+use Rattle.fib_resolve.specs.Pairs.{pairs, attached_by}
 use Rattle.fib_resolve.specs.declared.pairs.Pair.{Pair}
 use Rattle.fib_addr.specs.Prefixes.{Prefix, IsPrefix, contains, host, same_prefix}
 use Rattle.fib_resolve.specs.Pairs.{entries, recursive_hops}
 use Rattle.fib_resolve.specs.Loops.{targets}
 use Rattle.fib_resolve.specs.Tables.{IsSound, is_route}
 use Rattle.fib_resolve.specs.declared.types.FibSource.{FibSource}
+use Rattle.fib_resolve.specs.declared.types.FibSource.TheVariants as sources
 use Rattle.fib_resolve.specs.declared.types.Neighbor.{Neighbor}
 use Rattle.fib_resolve.specs.declared.types.Route.{Route}
 use Rattle.fib_resolve.specs.declared.types.Tables.{Tables}
@@ -39,8 +40,9 @@ use Rattle.fib_resolve.specs.Sizes.{size}
 use Rattle.fib_changes.specs.declared.change.Change.TheVariants as changes
 
 -- the routes of one prefix and source alone can differ; no entry has an edge to the prefix or lies in it, no neighbor lies in it, and
--- each next hop of these routes is one of another entry's list too
-pub record IsLeafEdit (S T : Tables) (p : Prefix) (source : FibSource) : Type 0 where
+-- each next hop of these routes is one of another entry's list too, or a late one: no other route has it, no other pair is at its host,
+-- and its cover doesn't attach it
+pub record IsLeafEdit (S T : Tables) (p : Prefix) (source : FibSource) (late : List ℕ) : Type 0 where
   pub before : IsSound S
   pub after : IsSound T
   pub differ : Differ (changes.Route p source ∷ []) S T
@@ -53,7 +55,11 @@ pub record IsLeafEdit (S T : Tables) (p : Prefix) (source : FibSource) : Type 0 
   pub only : (x : Pair) → Contains (pairs S) x → p ≡ x.prefix → x.source ≡ source
   pub leaf : (d : Prefix) → Contains (targets S d) p → ⊥
   pub hops : (r : Route) (a : ℕ) → is_route p source r ≡ true → Contains S.routes r ⊎ Contains T.routes r → Contains (recursive_hops r) a
-      → (d : Prefix) × (d ≢ p) × Contains (targets S d) (host a)
+      → Contains late a ⊎ ((d : Prefix) × (d ≢ p) × Contains (targets S d) (host a))
+  pub late_out : (a : ℕ) → Contains late a → (a < 2 ^ 32) × (contains p a ≡ false)
+  pub late_alone : (a : ℕ) → Contains late a → (r : Route) → is_route p source r ≡ false → Contains S.routes r → Contains (recursive_hops r) a → ⊥
+  pub late_derived : (a : ℕ) → Contains late a → (x : Pair) → Contains (pairs S) x → x.prefix ≡ host a → x.source ≡ sources.RecursiveResolution
+  pub late_loose : (a : ℕ) → Contains late a → attached_by S a ≡ None
 
 -- the same row, but that the prefix may have come to its dependants or gone from them
 pub record IsButFor (p : Prefix) (r s : Row) : Type 0 where

@@ -1,5 +1,5 @@
 use Rattle.std.proofs.Common.{◌∙◌}
-use Rattle.fib_entries.proofs.Summing.{plies_in}
+use Rattle.fib_entries.proofs.Orders.{plies_in}
 use Rattle.fib_entries.proofs.sizes.plies_of.Goals as goal
 
 pub returns : goal.returns

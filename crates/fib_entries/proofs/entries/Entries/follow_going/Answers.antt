@@ -29,7 +29,7 @@ pub returns-clause-followed : goal.returns-clause-followed
 returns-clause-followed c =
     let list = c.requires.list in
     let size : c.size_at-size.result ≡ own_size c.args.prefix (entry_before c.self.inside.rows c.in-Some.at.0) (entry_at c.self.inside.rows (c.in-Some.at.0 + 1)) =
-    c.size_at-size.ensures in
+    c.size_at-size.ensures.size in
     let number = c.in-Some-lowered.ensures in
     subst (λ (v : Known). (S : Tables) → StandsFor v S → Differ (changes.Route c.args.prefix c.args.source ∷ []) S c.args.tables.now
     → IsFollowed v (known c.leave.new.rows c.leave.new.lists c.in-Some-lowered.objects) S c.args.tables.now c.args.most c.in_ok-followed.followed) c.self.view_is
