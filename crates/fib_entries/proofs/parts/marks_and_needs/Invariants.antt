@@ -1,7 +1,0 @@
-use Rattle.std.proofs.Common.{◌≡◌, map, take}
-use Rattle.fib_resolve.specs.Aims.{marked}
-use Rattle.fib_entries.specs.Known.{kind_met}
-use Rattle.fib_entries.proofs.parts.marks_and_needs.Given as goal
-
-abbrev pub invariant-loop-place : goal.invariant-loop-place
-invariant-loop-place l = l.out.items ≡ map (λ p. (marked l.meaning l.e p, kind_met l.meaning p.need p.kind)) (take l.place l.paths)
