@@ -1,4 +1,4 @@
-// Each public call once, with ample memory: what a recursive route makes, and a leaf's route that changes.
+// Each public call once, with ample memory: what a recursive route makes, a leaf's route that changes, and what becomes of a link.
 ghost use Rattle.std.specs.Prelude.{IfOk, ◌<◌, ◌-◌, ◌^◌};
 ghost use Rattle.fib_resolve.specs.Reachable.{IsWritten};
 
@@ -7,7 +7,7 @@ use fib_addr::{Addr, Mac, Prefix};
 use fib_config::Config;
 use fib_entries::{Change, Entries, FollowError};
 use fib_list::List;
-use fib_resolve::{Edit, FibSource, Need, PathSpec, SpecKind};
+use fib_resolve::{Edit, FibSource, Name, Need, PathSpec, SpecKind};
 use std::alloc::{AllocError, Global};
 use std::test::Fail;
 
@@ -91,6 +91,31 @@ fn makes_a_host(alloc: Global, entries: &mut Entries, config: &mut Config) -> Re
     Ok(is_fresh && follows_the_route(entries, config)?)
 }
 
+/// The route of that prefix gets a path of that kind, or the path goes.
+fn edit_by(
+    alloc: Global,
+    comes: bool,
+    prefix: Prefix,
+    kind: SpecKind,
+    weight: u8,
+) -> Result<Edit, AllocError>
+    requires { 0 < weight }
+    ensures { IfOk result IsWritten }
+{
+    let mut paths = List::new(alloc);
+    paths.push(PathSpec {
+        kind,
+        weight,
+        preference: 0,
+        need: Need::Any,
+    })?;
+    let api = false;
+    if comes {
+        return Ok(Edit::AddRoute { prefix, api, paths });
+    }
+    Ok(Edit::DelRoute { prefix, api, paths })
+}
+
 /// The route of that prefix of length 8 gets a path via that next hop, or the path goes.
 fn edit_via(
     alloc: Global,
@@ -102,19 +127,14 @@ fn edit_via(
     requires { 0 < weight }
     ensures { IfOk result IsWritten }
 {
-    let mut paths = List::new(alloc);
-    paths.push(PathSpec {
-        kind: SpecKind::Recursive(Addr(hop)),
-        weight,
-        preference: 0,
-        need: Need::Any,
-    })?;
     let prefix = Prefix::masked(Addr(route), 8);
-    let api = false;
-    if comes {
-        return Ok(Edit::AddRoute { prefix, api, paths });
-    }
-    Ok(Edit::DelRoute { prefix, api, paths })
+    edit_by(
+        alloc,
+        comes,
+        prefix,
+        SpecKind::Recursive(Addr(hop)),
+        weight,
+    )
 }
 
 /// The second route goes.
@@ -146,7 +166,17 @@ fn edit_of(alloc: Global, number: u32) -> Result<Edit, AllocError>
     }
 }
 
-/// A link to the second next hop, its MAC, another MAC, and the link goes down.
+/// The route 60.0.0.0/8 by way of the second next hop over the link comes or goes.
+fn edit_over(alloc: Global, comes: bool, name: Name) -> Result<Edit, AllocError>
+    ensures { IfOk result IsWritten }
+{
+    let prefix = Prefix::masked(Addr(0x3c00_0000), 8);
+    let kind = SpecKind::Hop(Addr(0x0a00_0008), name);
+    edit_by(alloc, comes, prefix, kind, 1)
+}
+
+/// A link to the second next hop, its MAC, a route by way of it over the link, a route over the link inside the second route, which gets
+/// another weight; another MAC, the link goes down, and the first of these routes goes.
 fn edit_of_end(alloc: Global, number: u32) -> Result<Edit, Fail>
     ensures { IfOk result IsWritten }
 {
@@ -164,7 +194,13 @@ fn edit_of_end(alloc: Global, number: u32) -> Result<Edit, Fail>
             addr: Addr(0x0a00_0008),
             mac: Mac::of_bytes([2, 0, 0], [0, 0, 1]),
         }),
-        4 => Ok(Edit::SetNeighbor {
+        4 | 9 => Ok(edit_over(alloc, number == 4, name)?),
+        5 => {
+            let inside = Prefix::masked(Addr(0x1e01_0000), 16);
+            Ok(edit_by(alloc, true, inside, SpecKind::Attached(name), 1)?)
+        }
+        6 => Ok(edit_via(alloc, true, 0x1e00_0000, 0x0a00_0007, 3)?),
+        7 => Ok(Edit::SetNeighbor {
             name,
             addr: Addr(0x0a00_0008),
             mac: Mac::of_bytes([2, 0, 0], [0, 0, 2]),
@@ -285,7 +321,7 @@ fn follows_an_end(
 }
 
 fn follows_ends(alloc: Global, entries: &mut Entries, config: &mut Config) -> Result<bool, Fail> {
-    for number in 0..6 {
+    for number in 0..10 {
         if !follows_an_end(alloc, entries, config, number)? {
             return Ok(false);
         }
@@ -316,7 +352,8 @@ fn plays(alloc: Global, scene: u32) -> Result<bool, Fail> {
     plays_over(alloc, &mut entries, scene)
 }
 
-// A recursive route makes a host; each of the five changes of the second route is followed in its row, and then what becomes of a link.
+// A recursive route makes a host; each of the five changes of the second route is followed in its row, and then what becomes of a link and of
+// routes over it.
 #[test]
 fn what_entries_follow(rt: HostRuntime) -> Result<(), Fail> {
     for scene in 0..2 {

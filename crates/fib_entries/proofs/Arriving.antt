@@ -1,7 +1,7 @@
 -- Rows after a leaf's row came, and what they name.
-use Rattle.std.proofs.Common.{arith, ◌≡◌, ◌≢◌, ℕ, ◌+◌, ◌<◌, ◌≤◌, false, List, [], ◌∷◌, map, length, Some, ◌⊎◌, inl, inr, refl, sym, ◌∙◌, ap, subst, slice_get, ◌↔◌}
+use Rattle.std.proofs.Common.{arith, ◌≡◌, ◌≢◌, ℕ, ◌+◌, ◌<◌, ◌≤◌, true, List, [], ◌∷◌, map, length, Some, ◌⊎◌, inl, inr, refl, sym, ◌∙◌, ap, subst, slice_get, ◌↔◌}
 use Rattle.std.specs.Prelude.{Contains, slice_set}
-use Rattle.std.specs.List.{insert, list_any}
+use Rattle.std.specs.List.{insert}
 use Rattle.std.proofs.lemmas.Option.{slice_get_within}
 use Rattle.fib_list.proofs.Lists.{Contains-nil}
 use Rattle.fib_addr.specs.Prefixes.{Prefix}
@@ -9,16 +9,16 @@ use Rattle.fib_cover.specs.Covers.{IsAscending}
 use Rattle.fib_resolve.specs.declared.pairs.Pair.{Pair}
 use Rattle.fib_resolve.specs.declared.types.FibSource.{FibSource}
 use Rattle.fib_resolve.specs.declared.types.Path.{Path}
+use Rattle.fib_resolve.specs.declared.types.Tables.{Tables}
 use Rattle.fib_changes.proofs.Edits.{in_cases, in_front, in_rest}
 use Rattle.fib_entries.specs.Known.{PathKept, content_of, prefix_of, IsHeld}
 use Rattle.fib_entries.specs.inner.Coming.{IsPlaced, blank_row, with_pairs}
-use Rattle.fib_entries.specs.inner.Ends.{is_exit, exits_of}
-use Rattle.fib_entries.specs.inner.Fields.{AreCounted, AreFields, AreNamed, count_in}
-use Rattle.fib_entries.specs.inner.Leaf.{IsButFor, AreAttached, goals_of}
+use Rattle.fib_entries.specs.inner.Fields.{AreCounted, AreFields, AreNamed, Index, IsIndexed, count_in, leave}
+use Rattle.fib_entries.specs.inner.Leaf.{IsButFor, AreAttached, goals_of, plain_mark}
 use Rattle.fib_entries.specs.inner.Plies.{IsGap}
 use Rattle.fib_entries.specs.declared.replace.Own.{Own}
 use Rattle.fib_entries.specs.Rows.{Row}
-use Rattle.fib_entries.proofs.Exits.{exits_came}
+use Rattle.fib_entries.proofs.Exits.{exit_alike, in_alike, in_index, in_own, indexed_each}
 use Rattle.fib_entries.proofs.Linking.{zip_at}
 use Rattle.fib_entries.proofs.Listing.{pair_of}
 use Rattle.fib_entries.proofs.Naming.{named_held, once_more}
@@ -70,6 +70,13 @@ module _ (old new : List Row) (lists later : List PathKept) (place : ℕ) (p : P
     | inr (off, was) ↦ elim (put_from old r.mid place p (goals_of after) own r.attached asc gap s was) [ inl is ↦ absurd (off (ap (λ z. z.prefix) is)) | inr other ↦ inr other ]
   ]
 
+  -- an index that has the others' kinds and that of the list has that of all
+  pub indexed_came : (y : Index) (T : Tables) → own.marked ≡ map (plain_mark T) after → p.len < 32 → (leave after ≡ true → Contains y.exits p) → IsIndexed old y → IsIndexed new y
+  indexed_came y T marked short has h = indexed_each new y (λ s c. elim (row_from s c) [
+    | inl is ↦ in_own y T p after (own.source, r.new_id) s has short (ap (λ z. z.prefix) (sym is) ∙ mid_own.2.0.prefix) (ap (λ z. z.pairs) (sym is)) (ap (λ z. z.marked) (sym is) ∙ (mid_own.2.0.marked ∙ marked))
+    | inr (off, q, was, but) ↦ in_alike y q s (in_index old y h q was) but.0.prefix but.0.pairs (exit_alike q s but.0.marked)
+  ])
+
   module _ (n : AreNamed old lists) where
     counted : AreCounted later (count_in (pair_of p own.source after ∷ n.pairs))
     unfolding pair_of
@@ -93,8 +100,8 @@ module _ (old new : List Row) (lists later : List PathKept) (place : ℕ) (p : P
     named_came = record { pairs = pair_of p own.source after ∷ n.pairs; counted = counted; each = named_each }
 
     -- the fields still fit together
-    pub fields_came : (set exits : List Prefix) → IsAscending set → ((e : Prefix) → Contains set e ↔ Contains (map prefix_of old) e ⊎ (e ≡ p)) → exits ≡ exits_of old → list_any is_exit own.marked ≡ false → AreFields new later set exits
-    fields_came set exits set_asc members out inside = record {
+    pub fields_came : (set : List Prefix) (y : Index) → IsAscending set → ((e : Prefix) → Contains set e ↔ Contains (map prefix_of old) e ⊎ (e ≡ p)) → IsIndexed new y → AreFields new later set y
+    fields_came set y set_asc members indexed = record {
       held = named_held new later named_came;
       named = named_came;
       ordered = ordered_came;
@@ -102,7 +109,7 @@ module _ (old new : List Row) (lists later : List PathKept) (place : ℕ) (p : P
         λ c. elim ((members e).0 c) [ inl was ↦ (with_it e).1 (inl was) | inr is ↦ (with_it e).1 (inr (sym is)) ],
         λ c. elim ((with_it e).0 c) [ inl was ↦ (members e).1 (inl was) | inr is ↦ (members e).1 (inr (sym is)) ],
       ));
-      out = out ∙ sym (exits_came old new lists later place p after own r (gap_inside old place p gap) inside);
+      indexed = indexed;
     }
 
 -- what came and went again is as it was

@@ -1,14 +1,13 @@
 -- A prefix that comes with its first route: what its edit is, and its row.
-use Rattle.std.proofs.Common.{arith, ◌≡◌, ◌≢◌, ℕ, ◌<◌, ◌≤◌, ◌^◌, true, false, ◌==◌, List, [], ◌∷◌, map, Some, None, ◌⊎◌, inl, inr, refl, sym, ◌∙◌, ap, subst, slice_get, ◌↔◌}
+use Rattle.std.proofs.Common.{arith, ◌≡◌, ◌≢◌, ℕ, ◌<◌, ◌^◌, true, false, ◌==◌, List, [], ◌∷◌, map, Some, None, ◌⊎◌, inl, inr, refl, sym, ◌∙◌, ap, subst, ◌↔◌}
 use Rattle.std.specs.Prelude.{Contains, filter_map}
 use Rattle.std.specs.List.{list_all}
-use Rattle.std.proofs.lemmas.Bool.{false≢true, cases_lt, cases_eq}
+use Rattle.std.proofs.lemmas.Bool.{false≢true}
 use Rattle.std.proofs.lemmas.Map.Views.{Contains-from_any}
 use Rattle.fib_list.proofs.Lists.{either, Contains-nil, Contains-flat_map}
 use Rattle.fib_list.proofs.Booleans.{and_both}
 use Rattle.fib_addr.specs.Prefixes.{Prefix, IsPrefix, same_prefix, contains, host}
 use Rattle.fib_addr.proofs.PrefixLaws.{same_prefix-Decides}
-use Rattle.fib_cover.specs.Covers.{IsAscending}
 use Rattle.fib_resolve.specs.Aims.{marked, marked_list}
 use Rattle.fib_resolve.specs.Edits.{paths_at}
 use Rattle.fib_resolve.specs.Keys.{need_rank}
@@ -25,39 +24,16 @@ use Rattle.fib_changes.specs.declared.change.Change.TheVariants as changes
 use Rattle.fib_changes.proofs.Edits.{in_cases, in_front}
 use Rattle.fib_changes.proofs.SamePairs.{map_from, from_origin, base}
 use Rattle.fib_changes.proofs.Targets.{edge_entry, hop_entry}
-use Rattle.fib_interned.proofs.Finding.{some_is}
 use Rattle.fib_entries.specs.Known.{PathKept, Known, content_of, prefix_of, IsRow, StandsFor, kind_met}
 use Rattle.fib_entries.specs.inner.Coming.{IsBelonging, blank_row, with_pairs}
 use Rattle.fib_entries.specs.inner.Leaf.{IsLeafEdit, IsButFor, goals_of, is_plain, plain_kind, plain_mark, plain_own}
-use Rattle.fib_entries.specs.inner.Plies.{IsGap}
 use Rattle.fib_entries.specs.Rows.{Row}
-use Rattle.fib_entries.proofs.Gaps.{map_at}
 use Rattle.fib_entries.proofs.LeafSizes.{each_plain}
 use Rattle.fib_entries.proofs.Leafing.{from_route, entry_of_pair, unlooped, leaf_after}
 use Rattle.fib_entries.proofs.Listing.{listed_route, source_of_route, own_list, own_there, own_after, chosen_after, pair_of}
 use Rattle.fib_entries.proofs.Placing.{gap_absent}
-use Rattle.fib_entries.proofs.PlyOrder.{less_parts, less_bits, ordered_at, index_of, exists_at}
-use Rattle.fib_entries.proofs.Ready.{between, inside_from}
+use Rattle.fib_entries.proofs.Ready.{clear_alone}
 use Rattle.fib_entries.proofs.Replacing.{met_is, loop_is, mark_is, maps_same, goal_long}
-
--- nothing lies in a prefix that belongs before one that doesn't
-pub alone_gap : (order : List Prefix) (place : ℕ) (p : Prefix) → IsGap order place p → IsPrefix p → ((q : Prefix) → slice_get order place ≡ Some q → contains p q.bits ≡ false) → IsAscending order → (q : Prefix) → Contains order q → contains p q.bits ≡ true → p.len < q.len → ⊥
-alone_gap order place p gap good next asc q c inside longer =
-    let g = index_of order q c in
-    elim (cases_lt g.0 place) [
-      | inl low ↦ (let first = inside_from p q.bits good inside in
-          elim (less_parts q p (gap.before g.0 q g.1 low)) [ inl lt ↦ omega (arith, lt, first) | inr both ↦ (let lt = both.1 in omega (arith, lt, longer)) ])
-      | inr high ↦ (let n = exists_at order place g.0 q high g.1 in
-          let low = less_bits p n.0 (gap.after place n.0 n.1 (omega arith)) in
-          let top : n.0.bits ≤ q.bits = up n.0 n.1 g.0 g.1 high in
-          false≢true (sym (next n.0 n.1) ∙ between p n.0.bits q.bits low top inside))
-    ]
-  where
-    up : (n : Prefix) → slice_get order place ≡ Some n → (j : ℕ) → slice_get order j ≡ Some q → place ≤ j → n.bits ≤ q.bits
-    up n at j there le = elim (cases_eq place j) [
-      | inl same ↦ (let b = ap (λ z. z.bits) (some_is q n (sym there ∙ (ap (slice_get order) (sym same) ∙ at))) in omega (arith, b))
-      | inr off ↦ less_bits n q (ordered_at order asc place j n q (omega (arith, le, off)) at there)
-    ]
 
 module _ (v : Known) (S T : Tables) (p : Prefix) (source : FibSource) (place : ℕ) (k : StandsFor v S) (m : IsBelonging v.rows T p source place) (after : IsSound T) where
   -- the prefix is no entry
@@ -94,8 +70,8 @@ module _ (v : Known) (S T : Tables) (p : Prefix) (source : FibSource) (place : �
     prefix = m.prefix;
     short = m.short;
     real = λ q c. (let r = real_entry q c in subst IsPrefix r.2 (k.rows r.0 r.1).prefix);
-    alone = λ q c inside longer. alone_gap (map prefix_of v.rows) place p m.gap m.prefix (λ e at. (let r = map_at v.rows place e at in subst (λ z. contains p z.bits ≡ false) r.2 (m.next r.0 r.1))) k.ordered q ((k.entries q).1 c) inside longer;
-    far = m.far;
+    alone = λ a c inside. clear_alone v S p T.neighbors k m.clear a c inside;
+    far = m.clear.far;
     written = m.written;
     only = λ x c at. absurd (no_entry (entry_of_pair S x p c (sym at)));
     leaf = λ d c. no_entry (edge_entry S d p c);
@@ -110,7 +86,7 @@ module _ (v : Known) (S T : Tables) (p : Prefix) (source : FibSource) (place : �
   }
 
 -- the row of the prefix, whose marks are those of plain paths
-module _ (S T : Tables) (p : Prefix) (source : FibSource) (late : List ℕ) (h : IsLeafEdit S T p source late) (lists : List PathKept) (id rank : ℕ) (mid : Row) (but : IsButFor p (blank_row p (plain_own source (paths_at p source T.routes) rank)) mid)
+module _ (S T : Tables) (p : Prefix) (source : FibSource) (late : List ℕ) (h : IsLeafEdit S T p source late) (lists : List PathKept) (id rank : ℕ) (mid : Row) (but : IsButFor p (blank_row p (plain_own T source (paths_at p source T.routes) rank)) mid)
     (leads : Contains mid.dependants p ↔ Contains {X = Prefix} [] p ⊎ Contains (goals_of (paths_at p source T.routes)) p) (content : content_of lists id ≡ Some (paths_at p source T.routes))
     (plain : list_all is_plain (paths_at p source T.routes) ≡ true) (some : paths_at p source T.routes ≢ []) where
   none_own : (d : Prefix) → Contains mid.dependants d → ⊥
@@ -146,7 +122,7 @@ module _ (S T : Tables) (p : Prefix) (source : FibSource) (late : List ℕ) (h :
     looped = but.looped ∙ (maps_same (λ q. false) (λ q. looped_kind T p q.kind) (paths_at p source T.routes) (λ q c. loop_is T p q.kind (unlooped S T p source late h)) ∙ own_map (λ e l. map (λ q. looped_kind T e q.kind) l));
     met = but.met ∙ (maps_same (λ q. true) (λ q. kind_met T q.need q.kind) (paths_at p source T.routes) (λ q c. met_is T q.need q.kind (and_both (plain_kind q.kind) (need_rank q.need == 0) (each_plain (paths_at p source T.routes) q plain c)).1)
         ∙ own_map (λ e l. map (λ q. kind_met T q.need q.kind) l));
-    marked = but.marked ∙ (maps_same plain_mark (marked T p) (paths_at p source T.routes) (λ q c. mark_is T p q (each_plain (paths_at p source T.routes) q plain c) (unlooped S T p source late h)) ∙ own_map (λ e l. map (marked T e) l));
+    marked = but.marked ∙ (maps_same (plain_mark T) (marked T p) (paths_at p source T.routes) (λ q c. mark_is T p q h.short (each_plain (paths_at p source T.routes) q plain c) (unlooped S T p source late h)) ∙ own_map (λ e l. map (marked T e) l));
     dependants = λ d. (λ c. absurd (none_own d c), λ c. absurd (leaf_after S T p source late h d (subst (Contains (targets T d)) but.prefix c)));
     dependants_once = but.once tt;
   }

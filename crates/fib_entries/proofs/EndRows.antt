@@ -1,31 +1,35 @@
 -- The rows that news of an end makes others are found among the exits, and renewed one by one.
-use Rattle.std.proofs.Common.{arith, ◌≡◌, ℕ, zero, suc, Bool, true, false, not, ◌&&◌, ◌||◌, ◌==◌, List, [], ◌∷◌, map, filter, drop, length, Some, refl, sym, ◌∙◌, ap, ap₂, subst, slice_get, if◌then◌else◌}
+use Rattle.std.proofs.Common.{arith, ◌≡◌, ℕ, zero, suc, Bool, true, false, not, ◌&&◌, ◌||◌, ◌==◌, List, [], ◌∷◌, map, filter, drop, length, Option, Some, None, refl, sym, ◌∙◌, ap, ap₂, subst, slice_get, if◌then◌else◌}
 use Rattle.std.specs.Prelude.{Contains, slice_set}
-use Rattle.std.specs.List.{list_any}
+use Rattle.std.specs.List.{AllByRecursion, list_any}
 use Rattle.std.specs.List.Sorted.{IsStrictlySortedBy}
+use Rattle.std.specs.declared.cmp.Ordering.TheVariants.{Less}
 use Rattle.std.proofs.lemmas.Bool.{false≢true}
 use Rattle.std.proofs.lemmas.Bool.Decides.{Decides-eqb}
 use Rattle.fib_list.proofs.Booleans.{and_both}
 use Rattle.fib_addr.specs.Prefixes.{Prefix}
-use Rattle.fib_cover.specs.Covers.{IsAscending}
+use Rattle.fib_cover.specs.Covers.{IsAscending, prefix_cmp}
 use Rattle.fib_resolve.specs.declared.aims.Aim.TheVariants as aims
 use Rattle.fib_resolve.specs.declared.aims.Marked.{Marked}
 use Rattle.fib_resolve.specs.declared.types.End.TheVariants as answers
-use Rattle.fib_resolve.proofs.Covering.{filter_from}
-use Rattle.fib_changes.proofs.Edits.{in_front, in_rest}
-use Rattle.fib_changes.proofs.SamePairs.{map_from}
+use Rattle.fib_resolve.proofs.Covering.{filter_from, filter_in}
+use Rattle.fib_changes.proofs.Edits.{in_front}
+use Rattle.fib_changes.proofs.SamePairs.{map_from, map_in}
 use Rattle.fib_interned.proofs.Finding.{some_is, none_some}
 use Rattle.fib_entries.specs.Known.{prefix_of, row_of}
 use Rattle.fib_entries.specs.declared.ends.News.{News}
 use Rattle.fib_entries.specs.declared.ends.News.TheVariants as news
 use Rattle.fib_entries.specs.Rows.{Row}
-use Rattle.fib_entries.specs.inner.Ends.{aim_over, aim_at, has_flag, has_mac, with_counts, with_aim, is_exit, has_exit, exits_of, renewed, is_old, is_old_row, is_old_in, renewed_row, AreRenewing}
+use Rattle.fib_entries.specs.inner.Ends.{aim_over, aim_at, has_flag, has_mac, with_counts, with_aim, is_exit, has_exit, renewed, is_old, is_old_row, is_old_in, renewed_row, AreRenewing}
+use Rattle.fib_entries.specs.inner.Fields.{AreAmong}
 use Rattle.fib_entries.proofs.Exits.{over_exits, at_exits}
 use Rattle.fib_entries.proofs.PartRows.{row_by}
 use Rattle.fib_entries.proofs.Linking.{set_names}
 use Rattle.fib_entries.proofs.Looking.{one_place}
+use Rattle.fib_entries.proofs.Placing.{same_order}
 use Rattle.fib_entries.proofs.PlyOrder.{index_of}
 use Rattle.fib_entries.proofs.Renewing.{row_kept}
+use Rattle.fib_entries.proofs.Standing.{row_there}
 
 -- a row that the news makes another is among the exits
 
@@ -45,20 +49,51 @@ olds_exit n (m ∷ ms) h = by (is_old n m) refl h (olds_exit n ms)
     by true here h later = ap (λ c. c || list_any is_exit ms) (old_exits n m here)
     by false off h later = ap (λ c. is_exit m || c) (later h) ∙ either_way (is_exit m)
 
-old_among : (n : News) (test : Prefix → Bool) (rows : List Row) → ((r : Row) → Contains rows r → test r.prefix ≡ is_old_row n r) → filter test (exits_of rows) ≡ map prefix_of (filter (is_old_row n) rows)
-unfolding has_exit
-old_among n test [] each = refl
-old_among n test (r ∷ rows) each = by (has_exit r) (is_old_row n r) refl refl (each r (in_front r r rows refl)) (old_among n test rows (λ q c. each q (in_rest r q rows c)))
-  where
-    by : (b c : Bool) → has_exit r ≡ b → is_old_row n r ≡ c → test r.prefix ≡ is_old_row n r → filter test (exits_of rows) ≡ map prefix_of (filter (is_old_row n) rows)
-        → filter test (map prefix_of (if b then r ∷ filter has_exit rows else filter has_exit rows)) ≡ map prefix_of (if c then r ∷ filter (is_old_row n) rows else filter (is_old_row n) rows)
-    by true true is old here rest = ap (λ x. if x then r.prefix ∷ filter test (exits_of rows) else filter test (exits_of rows)) (here ∙ old) ∙ ap (λ l. r.prefix ∷ l) rest
-    by true false is old here rest = ap (λ x. if x then r.prefix ∷ filter test (exits_of rows) else filter test (exits_of rows)) (here ∙ old) ∙ rest
-    by false true is old here rest = absurd (false≢true (sym is ∙ olds_exit n r.marked old))
-    by false false is old here rest = rest
+-- a part of an ascending list is ascending
+module _ {X : Type 0} (key : X → Prefix) (test : X → Bool) where
+  each_left : (P : Prefix → Type 0) (xs : List X) → AllByRecursion P (map key xs) → AllByRecursion P (map key (filter test xs))
+  each_left P [] all = tt
+  each_left P (x ∷ xs) all = by (test x) (each_left P xs all.1)
+    where
+      by : (b : Bool) → AllByRecursion P (map key (filter test xs)) → AllByRecursion P (map key (if b then x ∷ filter test xs else filter test xs))
+      by true rest = (all.0, rest)
+      by false rest = rest
 
-pub old_found : (n : News) (rows : List Row) → IsAscending (map prefix_of rows) → filter (λ p. is_old_in n (row_of rows p)) (exits_of rows) ≡ map prefix_of (filter (is_old_row n) rows)
-old_found n rows asc = old_among n (λ p. is_old_in n (row_of rows p)) rows (λ r c. ap (is_old_in n) (row_by rows asc r.prefix r c refl))
+  ascending_left : (xs : List X) → IsAscending (map key xs) → IsAscending (map key (filter test xs))
+  unfolding IsStrictlySortedBy
+  ascending_left [] asc = tt
+  ascending_left (x ∷ xs) asc = by (test x) (ascending_left xs asc.1) (each_left (λ q. prefix_cmp (key x) q ≡ Less) xs asc.0)
+    where
+      by : (b : Bool) → IsAscending (map key (filter test xs)) → AllByRecursion (λ q. prefix_cmp (key x) q ≡ Less) (map key (filter test xs)) → IsAscending (map key (if b then x ∷ filter test xs else filter test xs))
+      by true rest all = (all, rest)
+      by false rest all = rest
+
+own_keys : (xs : List Prefix) → map (λ p. p) xs ≡ xs
+own_keys [] = refl
+own_keys (p ∷ xs) = ap (λ l. p ∷ l) (own_keys xs)
+
+some_old : (n : News) (o : Option Row) → is_old_in n o ≡ true → (r : Row) × (o ≡ Some r) × (is_old_row n r ≡ true)
+some_old n None h = absurd (false≢true h)
+some_old n (Some r) h = (r, refl, h)
+
+-- the rows are found among prefixes which have those of all rows with an exit
+pub old_found : (n : News) (rows : List Row) (exits : List Prefix) → IsAscending (map prefix_of rows) → IsAscending exits → AreAmong has_exit rows exits
+    → filter (λ p. is_old_in n (row_of rows p)) exits ≡ map prefix_of (filter (is_old_row n) rows)
+unfolding has_exit
+old_found n rows exits asc ordered among =
+    same_order (filter (λ p. is_old_in n (row_of rows p)) exits) (map prefix_of (filter (is_old_row n) rows))
+    (subst IsAscending (own_keys (filter (λ p. is_old_in n (row_of rows p)) exits)) (ascending_left (λ p. p) (λ p. is_old_in n (row_of rows p)) exits (subst IsAscending (sym (own_keys exits)) ordered)))
+    (ascending_left prefix_of (is_old_row n) rows asc)
+    (λ e. (
+      λ c. (let g = filter_from (λ p. is_old_in n (row_of rows p)) exits e c in
+          let r = some_old n (row_of rows e) g.1 in
+          let t = row_there rows e r.0 r.1 in
+          subst (Contains (map prefix_of (filter (is_old_row n) rows))) (sym t.1) (map_in prefix_of (filter (is_old_row n) rows) r.0 (filter_in (is_old_row n) rows r.0 t.0 r.2))),
+      λ c. (let m = map_from prefix_of (filter (is_old_row n) rows) e c in
+          let g = filter_from (is_old_row n) rows m.0 m.1 in
+          subst (Contains (filter (λ p. is_old_in n (row_of rows p)) exits)) m.2 (filter_in (λ p. is_old_in n (row_of rows p)) exits m.0.prefix (among m.0 g.0 (olds_exit n m.0.marked g.1))
+          (ap (is_old_in n) (row_by rows asc m.0.prefix m.0 g.0 refl) ∙ g.1))),
+    ))
 
 -- what was renewed is not made another again
 

@@ -1,131 +1,149 @@
--- The prefixes of the rows with a path that leaves by an interface, as rows change.
-use Rattle.std.proofs.Common.{arith, ◌≡◌, ℕ, zero, suc, ◌+◌, ◌≤◌, Bool, true, false, ◌||◌, List, [], ◌∷◌, ◌++◌, map, filter, take, length, Some, refl, sym, ◌∙◌, ap, ap₂, slice_get, if◌then◌else◌}
-use Rattle.std.specs.Prelude.{slice_set}
-use Rattle.std.specs.List.{AllZip, list_any, insert, remove}
+-- The index of rows by their kinds, as rows change.
+use Rattle.std.proofs.Common.{arith, ◌≡◌, ◌≢◌, ℕ, zero, suc, ◌+◌, ◌<◌, Bool, true, false, ◌||◌, ◌==◌, List, [], ◌∷◌, ◌++◌, map, take, slice_get, Option, Some, ◌⊎◌, inl, inr, refl, sym, ◌∙◌, ap, ap₂, subst, if◌then◌else◌}
+use Rattle.std.specs.Prelude.{Contains}
+use Rattle.std.specs.List.{list_any}
 use Rattle.std.proofs.lemmas.Bool.{false≢true}
+use Rattle.std.proofs.lemmas.Bool.Decides.{Decides-eqb}
+use Rattle.fib_list.proofs.Lists.{Contains-nil}
+use Rattle.std.proofs.lemmas.List.Elements.{Contains-append_left, Contains-append_right}
 use Rattle.fib_addr.specs.Prefixes.{Prefix}
-use Rattle.fib_interned.proofs.Finding.{some_is, none_some}
+use Rattle.fib_changes.proofs.Edits.{in_cases, in_front, in_rest}
+use Rattle.fib_interned.proofs.Finding.{none_some, some_is}
+use Rattle.fib_entries.specs.Known.{PathKept}
 use Rattle.fib_resolve.specs.declared.aims.Aim.{Aim}
 use Rattle.fib_resolve.specs.declared.aims.Aim.TheVariants as aims
 use Rattle.fib_resolve.specs.declared.aims.Marked.{Marked}
 use Rattle.fib_resolve.specs.declared.types.End.TheVariants as answers
+use Rattle.fib_resolve.specs.declared.types.FibSource.{FibSource}
 use Rattle.fib_resolve.specs.declared.types.Path.{Path}
 use Rattle.fib_resolve.specs.declared.types.PathKind.{PathKind}
 use Rattle.fib_resolve.specs.declared.types.PathKind.TheVariants as kinds
-use Rattle.fib_entries.specs.Known.{PathKept, prefix_of}
+use Rattle.fib_resolve.specs.declared.types.Tables.{Tables}
 use Rattle.fib_entries.specs.declared.ends.News.{News}
 use Rattle.fib_entries.specs.declared.ends.News.TheVariants as news
-use Rattle.fib_entries.specs.declared.replace.Own.{Own}
 use Rattle.fib_entries.specs.Rows.{Row}
-use Rattle.fib_entries.specs.inner.Coming.{IsPlaced, blank_row, with_pairs}
-use Rattle.fib_entries.specs.inner.Ends.{aim_over, aim_at, aim_exit, is_exit, has_exit, exits_of, renewed, renewed_row, with_counts, with_aim}
-use Rattle.fib_entries.specs.inner.Going.{IsWithdrawn}
-use Rattle.fib_entries.specs.inner.Leaf.{AreReplaced, plain_aim, plain_mark, settled}
-use Rattle.fib_entries.proofs.Linking.{zip_at}
-use Rattle.fib_entries.proofs.Placing.{inserted_at}
+use Rattle.fib_entries.specs.inner.Ends.{aim_over, aim_at, aim_exit, is_exit, has_exit, renewed, renewed_row, with_counts, with_aim}
+use Rattle.fib_entries.specs.inner.Fields.{AreAmong, AreFields, Index, IsForgotten, IsIndexed, IsNoted, are_several, has_several, is_host, kind_leaves, leave}
+use Rattle.fib_entries.specs.inner.Leaf.{plain_aim, plain_mark}
 
--- a row without one counts for nothing, and two that agree count for the same
-pub exits_skip : (r : Row) (rows : List Row) → has_exit r ≡ false → exits_of (r ∷ rows) ≡ exits_of rows
-exits_skip r rows none = ap (λ b. map prefix_of (if b then r ∷ filter has_exit rows else filter has_exit rows)) none
+-- what the index has of a row
+pub record IsIn (x : Index) (s : Row) : Type 0 where
+  pub exits : has_exit s ≡ true → Contains x.exits s.prefix
+  pub hosts : is_host s ≡ true → Contains x.hosts s.prefix
+  pub several : has_several s ≡ true → Contains x.several s.prefix
 
-exits_next : (r s : Row) (xs ys : List Row) → has_exit r ≡ has_exit s → r.prefix ≡ s.prefix → exits_of xs ≡ exits_of ys → exits_of (r ∷ xs) ≡ exits_of (s ∷ ys)
-exits_next r s xs ys same name rest = by (has_exit r) (has_exit s) same
+pub in_index : (rows : List Row) (x : Index) → IsIndexed rows x → (s : Row) → Contains rows s → IsIn x s
+in_index rows x h s c = record { exits = h.exits s c; hosts = h.hosts s c; several = h.several s c }
+
+-- it has that of all rows where each is like one of which it has it, or has it itself
+pub indexed_each : (rows : List Row) (x : Index) → ((s : Row) → Contains rows s → IsIn x s) → IsIndexed rows x
+indexed_each rows x each = record { exits = λ s c. (each s c).exits; hosts = λ s c. (each s c).hosts; several = λ s c. (each s c).several }
+
+pub exit_alike : (r s : Row) → s.marked ≡ r.marked → has_exit s ≡ has_exit r
+unfolding has_exit
+exit_alike r s same = ap (list_any is_exit) same
+
+pub in_alike : (x : Index) (r s : Row) → IsIn x r → s.prefix ≡ r.prefix → s.pairs ≡ r.pairs → has_exit s ≡ has_exit r → IsIn x s
+in_alike x r s h name pairs exit = record {
+  exits = λ e. subst (Contains x.exits) (sym name) (h.exits (sym exit ∙ e));
+  hosts = λ e. subst (Contains x.hosts) (sym name) (h.hosts (ap (λ (q : Prefix). q.len == 32) (sym name) ∙ e));
+  several = λ e. subst (Contains x.several) (sym name) (h.several (ap are_several (sym pairs) ∙ e));
+}
+
+-- a mark of a plain path leaves by an interface where its kind does
+aim_leaves : (T : Tables) (k : PathKind) → aim_exit (plain_aim T k) ≡ kind_leaves k
+aim_leaves T kinds.Drop = refl
+aim_leaves T kinds.Local = refl
+aim_leaves T (kinds.Attached i) = refl
+aim_leaves T (kinds.Hop a i) = refl
+aim_leaves T (kinds.Recursive a) = refl
+aim_leaves T kinds.Cover = refl
+
+plain_leave : (T : Tables) (paths : List Path) → list_any is_exit (map (plain_mark T) paths) ≡ leave paths
+plain_leave T [] = refl
+plain_leave T (q ∷ qs) = ap₂ (λ b c. b || c) (aim_leaves T q.kind) (plain_leave T qs)
+
+-- the row of a prefix with one list of plain paths
+pub own_leaves : (T : Tables) (paths : List Path) (s : Row) → s.marked ≡ map (plain_mark T) paths → has_exit s ≡ leave paths
+unfolding has_exit
+own_leaves T paths s marked = ap (list_any is_exit) marked ∙ plain_leave T paths
+
+one_pair : (q : FibSource × ℕ) (s : Row) → s.pairs ≡ q ∷ [] → has_several s ≡ false
+one_pair q s pairs = ap are_several pairs
+
+pub in_own : (x : Index) (T : Tables) (p : Prefix) (paths : List Path) (q : FibSource × ℕ) (s : Row) → (leave paths ≡ true → Contains x.exits p) → p.len < 32 → s.prefix ≡ p → s.pairs ≡ q ∷ [] → s.marked ≡ map (plain_mark T) paths → IsIn x s
+in_own x T p paths q s has short own pairs marked = record {
+  exits = λ e. subst (Contains x.exits) (sym own) (has (sym (own_leaves T paths s marked) ∙ e));
+  hosts = λ e. absurd (too_long (ap (λ (z : Prefix). z.len) own) ((Decides-eqb s.prefix.len 32).0 e));
+  several = λ e. absurd (false≢true (sym (one_pair q s pairs) ∙ e));
+}
   where
-    by : (b c : Bool) → b ≡ c → map prefix_of (if b then r ∷ filter has_exit xs else filter has_exit xs) ≡ map prefix_of (if c then s ∷ filter has_exit ys else filter has_exit ys)
-    by true true e = ap₂ (λ x l. x ∷ l) name rest
-    by true false e = absurd (false≢true (sym e))
-    by false true e = absurd (false≢true e)
-    by false false e = rest
+    too_long : s.prefix.len ≡ p.len → s.prefix.len ≡ 32 → ⊥
+    too_long same is = omega (arith, same, is, short)
+
+-- that of a host which leads to its cover, with or without its list
+pub in_host : (x : Index) (s : Row) → Contains x.hosts s.prefix → has_exit s ≡ false → has_several s ≡ false → IsIn x s
+in_host x s has inside few = record {
+  exits = λ e. absurd (false≢true (sym inside ∙ e));
+  hosts = λ e. has;
+  several = λ e. absurd (false≢true (sym few ∙ e));
+}
+
+-- also after more was noted
+pub in_more : (x y : Index) (p : Prefix) (paths : List Path) (late : Option Prefix) (s : Row) → IsNoted x y p paths late → IsIn x s → IsIn y s
+in_more x y p paths late s n h = record {
+  exits = λ e. n.exits s.prefix (h.exits e);
+  hosts = λ e. n.hosts s.prefix (h.hosts e);
+  several = λ e. subst (λ l. Contains l s.prefix) (sym n.several) (h.several e);
+}
+
+pub indexed_more : (rows : List Row) (x y : Index) (p : Prefix) (paths : List Path) (late : Option Prefix) → IsNoted x y p paths late → IsIndexed rows x → IsIndexed rows y
+indexed_more rows x y p paths late n h = indexed_each rows y (λ s c. in_more x y p paths late s n (in_index rows x h s c))
+
+-- and after what no row has any more was forgotten
+pub indexed_less : (rows : List Row) (x y : Index) (p : Prefix) (paths : List Path) (late : Option Prefix) → IsForgotten x y p paths late
+    → ((s : Row) → Contains rows s → has_exit s ≡ true → (s.prefix ≢ p) ⊎ (leave paths ≡ true)) → ((s : Row) → Contains rows s → late ≢ Some s.prefix) → IsIndexed rows x → IsIndexed rows y
+indexed_less rows x y p paths late f own gone h = record {
+  exits = λ s c e. f.exits s.prefix (h.exits s c e) (own s c e);
+  hosts = λ s c e. f.hosts s.prefix (h.hosts s c e) (gone s c);
+  several = λ s c e. subst (λ l. Contains l s.prefix) (sym f.several) (h.several s c e);
+}
+
+-- the fields fit together with another index of the rows
+pub fields_with : (rows new : List Row) (lists later : List PathKept) (order set : List Prefix) (x y : Index) → AreFields rows lists order x → new ≡ rows → later ≡ lists → set ≡ order → IsIndexed rows y → AreFields new later set y
+fields_with rows new lists later order set x y h rows_are lists_are set_is indexed =
+    subst (λ s. AreFields new later s y) (sym set_is) (subst (λ l. AreFields new l order y) (sym lists_are) (subst (λ l. AreFields l lists order y) (sym rows_are)
+    (record { held = h.held; named = h.named; ordered = h.ordered; same = h.same; indexed = indexed })))
+
+pub fields_noted : (rows new : List Row) (lists later : List PathKept) (order set : List Prefix) (x y : Index) (p : Prefix) (paths : List Path) (late : Option Prefix) → AreFields rows lists order x → IsNoted x y p paths late
+    → new ≡ rows → later ≡ lists → set ≡ order → AreFields new later set y
+fields_noted rows new lists later order set x y p paths late h n rows_are lists_are set_is =
+    fields_with rows new lists later order set x y h rows_are lists_are set_is (indexed_more rows x y p paths late n h.indexed)
 
 -- the rows one by one
-pub exits_pushed : (rows : List Row) (out new : List Prefix) (i : ℕ) (r : Row) → slice_get rows i ≡ Some r → out ≡ exits_of (take i rows) → new ≡ (if has_exit r then out ++ r.prefix ∷ [] else out) → new ≡ exits_of (take (i + 1) rows)
-exits_pushed rows out new i r at is made =
+take_cases : (rows : List Row) (i : ℕ) (r s : Row) → slice_get rows i ≡ Some r → Contains (take (suc i) rows) s → Contains (take i rows) s ⊎ (r ≡ s)
+take_cases [] i r s at c = absurd (none_some r at)
+take_cases (q ∷ qs) zero r s at c = elim (in_cases q s [] c) [ inl same ↦ inr (sym (some_is q r at) ∙ same) | inr none ↦ absurd (Contains-nil s none) ]
+take_cases (q ∷ qs) (suc i) r s at c = elim (in_cases q s (take (suc i) qs) c) [
+  | inl same ↦ inl (in_front q s (take i qs) same)
+  | inr later ↦ elim (take_cases qs i r s at later) [ inl was ↦ inl (in_rest q s (take i qs) was) | inr is ↦ inr is ]
+]
+
+pub among_start : (kind : Row → Bool) (out : List Prefix) → AreAmong kind [] out
+among_start kind out r c is = absurd (Contains-nil r c)
+
+pub among_next : (kind : Row → Bool) (rows : List Row) (out new : List Prefix) (i : ℕ) (r : Row) → slice_get rows i ≡ Some r → AreAmong kind (take i rows) out → new ≡ (if kind r then out ++ r.prefix ∷ [] else out) → AreAmong kind (take (i + 1) rows) new
+among_next kind rows out new i r at before made s c is =
     let e : i + 1 ≡ suc i = omega arith in
-    made ∙ (ap (λ l. if has_exit r then l ++ r.prefix ∷ [] else l) is ∙ (sym (more rows i r at) ∙ ap (λ k. exits_of (take k rows)) (sym e)))
+    elim (take_cases rows i r s at (subst (λ k. Contains (take k rows) s) e c)) [
+      | inl was ↦ still (kind r) made (before s was is)
+      | inr same ↦ subst (λ l. Contains l s.prefix) (sym (made ∙ ap (λ b. if b then out ++ r.prefix ∷ [] else out) (ap kind same ∙ is)))
+          (Contains-append_right out (r.prefix ∷ []) s.prefix (in_front r.prefix s.prefix [] (ap (λ z. z.prefix) same)))
+    ]
   where
-    more : (rows : List Row) (i : ℕ) (r : Row) → slice_get rows i ≡ Some r → exits_of (take (suc i) rows) ≡ (if has_exit r then exits_of (take i rows) ++ r.prefix ∷ [] else exits_of (take i rows))
-    more [] i r at = absurd (none_some r at)
-    more (q ∷ qs) zero r at = ap (λ z. exits_of (z ∷ [])) (some_is q r at) ∙ by (has_exit r)
-      where
-        by : (b : Bool) → map prefix_of (if b then r ∷ [] else []) ≡ (if b then r.prefix ∷ [] else [])
-        by true = refl
-        by false = refl
-    more (q ∷ qs) (suc i) r at = under (has_exit q) (has_exit r) (filter has_exit (take (suc i) qs)) (filter has_exit (take i qs)) (more qs i r at)
-      where
-        under : (b c : Bool) (l m : List Row) → map prefix_of l ≡ (if c then map prefix_of m ++ r.prefix ∷ [] else map prefix_of m)
-            → map prefix_of (if b then q ∷ l else l) ≡ (if c then map prefix_of (if b then q ∷ m else m) ++ r.prefix ∷ [] else map prefix_of (if b then q ∷ m else m))
-        under true true l m e = ap (λ z. q.prefix ∷ z) e
-        under true false l m e = ap (λ z. q.prefix ∷ z) e
-        under false true l m e = e
-        under false false l m e = e
-
-exits_set : (rows : List Row) (k : ℕ) (r s : Row) → slice_get rows k ≡ Some r → has_exit r ≡ false → has_exit s ≡ false → exits_of (slice_set rows k s) ≡ exits_of rows
-exits_set [] k r s at was is = absurd (none_some r at)
-exits_set (q ∷ qs) zero r s at was is = exits_skip s qs is ∙ sym (exits_skip q qs (ap has_exit (some_is q r at) ∙ was))
-exits_set (q ∷ qs) (suc k) r s at was is = exits_next q q (slice_set qs k s) qs refl refl (exits_set qs k r s at was is)
-
--- a row in its place that agrees with it
-pub exits_alike : (rows : List Row) (k : ℕ) (r s : Row) → slice_get rows k ≡ Some r → has_exit s ≡ has_exit r → s.prefix ≡ r.prefix → exits_of (slice_set rows k s) ≡ exits_of rows
-exits_alike [] k r s at same name = absurd (none_some r at)
-exits_alike (q ∷ qs) zero r s at same name = (let e = some_is q r at in exits_next s q qs qs (same ∙ ap has_exit (sym e)) (name ∙ ap prefix_of (sym e)) refl)
-exits_alike (q ∷ qs) (suc k) r s at same name = exits_next q q (slice_set qs k s) qs refl refl (exits_alike qs k r s at same name)
-
-exits_remove : (rows : List Row) (k : ℕ) (r : Row) → slice_get rows k ≡ Some r → has_exit r ≡ false → exits_of (remove rows k) ≡ exits_of rows
-exits_remove [] k r at was = absurd (none_some r at)
-exits_remove (q ∷ qs) zero r at was = sym (exits_skip q qs (ap has_exit (some_is q r at) ∙ was))
-exits_remove (q ∷ qs) (suc k) r at was = exits_next q q (remove qs k) qs refl refl (exits_remove qs k r at was)
-
-pub exits_insert : (rows : List Row) (k : ℕ) (s : Row) → k ≤ length rows → has_exit s ≡ false → exits_of (insert rows k s) ≡ exits_of rows
-exits_insert [] zero s le is = exits_skip s [] is
-exits_insert [] (suc k) s le is = absurd (omega (arith, le))
-exits_insert (q ∷ qs) zero s le is = exits_skip s (q ∷ qs) is
-exits_insert (q ∷ qs) (suc k) s le is = exits_next q q (insert qs k s) qs refl refl (exits_insert qs k s (omega (arith, le)) is)
-
-exits_zip : (P : Row → Row → Type 0) → ((r s : Row) → P r s → (s.prefix ≡ r.prefix) × (s.marked ≡ r.marked)) → (xs ys : List Row) → AllZip P xs ys → exits_of ys ≡ exits_of xs
-unfolding has_exit
-exits_zip P f [] [] a = refl
-exits_zip P f [] (y ∷ ys) a = absurd a
-exits_zip P f (x ∷ xs) [] a = absurd a
-exits_zip P f (x ∷ xs) (y ∷ ys) a = let same = f x y a.0 in exits_next y x ys xs (ap (list_any is_exit) same.1) same.0 (exits_zip P f xs ys a.1)
-
--- marks of plain paths have none
-aim_inside : (k : PathKind) → aim_exit (plain_aim k) ≡ false
-aim_inside kinds.Drop = refl
-aim_inside kinds.Local = refl
-aim_inside (kinds.Attached i) = refl
-aim_inside (kinds.Hop a i) = refl
-aim_inside (kinds.Recursive a) = refl
-aim_inside kinds.Cover = refl
-
-pub plain_inside : (paths : List Path) → list_any is_exit (map plain_mark paths) ≡ false
-plain_inside [] = refl
-plain_inside (q ∷ qs) = ap₂ (λ b c. b || c) (aim_inside q.kind) (plain_inside qs)
-
--- the rows after a row's list was replaced, a row went or a row came
-pub exits_replaced : (old new : List Row) (lists later : List PathKept) (place : ℕ) (p : Prefix) (id : ℕ) (before after : List Path) (own : Own) → AreReplaced old new lists later place p id before after own
-    → (row : Row) → slice_get old place ≡ Some row → has_exit row ≡ false → list_any is_exit own.marked ≡ false → exits_of new ≡ exits_of old
-unfolding has_exit
-exits_replaced old new lists later place p id before after own r row at was is =
-    let a = zip_at _ old r.mid place row r.attached at in
-    let b = zip_at _ r.mid r.low place a.0 r.detached a.1 in
-    ap exits_of (r.set b.0 b.1) ∙ (exits_set r.low place b.0 (settled r.new_id own b.0) b.1 (ap (list_any is_exit) (b.2.0.marked ∙ a.2.0.marked) ∙ was) is
-    ∙ (exits_zip _ (λ x y z. (z.0.prefix, z.0.marked)) r.mid r.low r.detached ∙ exits_zip _ (λ x y z. (z.0.prefix, z.0.marked)) old r.mid r.attached))
-
-pub exits_gone : (old new : List Row) (lists later : List PathKept) (place : ℕ) (p : Prefix) (id : ℕ) (goals kept : List Prefix) → IsWithdrawn old new lists later place p id goals kept
-    → (row : Row) → slice_get old place ≡ Some row → has_exit row ≡ false → exits_of new ≡ exits_of old
-unfolding has_exit
-exits_gone old new lists later place p id goals kept r row at was =
-    let a = zip_at _ old r.low place row r.detached at in
-    ap exits_of r.set ∙ (exits_remove r.low place a.0 a.1 (ap (list_any is_exit) a.2.0.marked ∙ was) ∙ exits_zip _ (λ x y z. (z.0.prefix, z.0.marked)) old r.low r.detached)
-
-pub exits_came : (old new : List Row) (lists later : List PathKept) (place : ℕ) (p : Prefix) (after : List Path) (own : Own) → IsPlaced old new lists later place p after own → place ≤ length old → list_any is_exit own.marked ≡ false
-    → exits_of new ≡ exits_of old
-unfolding has_exit
-exits_came old new lists later place p after own r le is =
-    let a = zip_at _ (insert old place (blank_row p own)) r.mid place (blank_row p own) r.attached (inserted_at old place (blank_row p own) le) in
-    let inside = ap (list_any is_exit) a.2.0.marked ∙ is in
-    ap exits_of (r.set a.0 a.1) ∙ (exits_set r.mid place a.0 (with_pairs ((own.source, r.new_id) ∷ []) a.0) a.1 inside inside
-    ∙ (exits_zip _ (λ x y z. (z.0.prefix, z.0.marked)) (insert old place (blank_row p own)) r.mid r.attached ∙ exits_insert old place (blank_row p own) le is))
+    still : (b : Bool) → new ≡ (if b then out ++ r.prefix ∷ [] else out) → Contains out s.prefix → Contains new s.prefix
+    still true made c = subst (λ l. Contains l s.prefix) (sym made) (Contains-append_left out (r.prefix ∷ []) s.prefix c)
+    still false made c = subst (λ l. Contains l s.prefix) (sym made) c
 
 -- a mark that news is of is of a path that leaves by an interface, and still is
 pub over_exits : (i : ℕ) (aim : Aim) → aim_over i aim ≡ true → aim_exit aim ≡ true
@@ -158,7 +176,6 @@ marks_exits : (n : News) (ms : List Marked) → list_any is_exit (map (renewed n
 marks_exits n [] = refl
 marks_exits n (m ∷ ms) = ap₂ (λ b c. b || c) (mark_exits n m) (marks_exits n ms)
 
-pub exits_renewed : (n : News) (rows : List Row) → exits_of (map (renewed_row n) rows) ≡ exits_of rows
+pub exit_renewed : (n : News) (r : Row) → has_exit (renewed_row n r) ≡ has_exit r
 unfolding has_exit
-exits_renewed n [] = refl
-exits_renewed n (r ∷ rows) = exits_next (renewed_row n r) r (map (renewed_row n) rows) rows (marks_exits n r.marked) refl (exits_renewed n rows)
+exit_renewed n r = marks_exits n r.marked

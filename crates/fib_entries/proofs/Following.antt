@@ -1,5 +1,5 @@
 -- What comes of a leaf's list replaced.
-use Rattle.std.proofs.Common.{arith, ◌≡◌, ◌≢◌, ℕ, ◌+◌, ◌-◌, ◌<◌, ◌≤◌, ◌^◌, Bool, true, false, ◌==◌, List, [], ◌∷◌, Some, inl, inr, refl, sym, ◌∙◌, ap, subst, slice_get, if◌then◌else◌}
+use Rattle.std.proofs.Common.{arith, ◌≡◌, ◌≢◌, ℕ, ◌+◌, ◌-◌, ◌<◌, ◌≤◌, ◌^◌, Bool, true, false, ◌==◌, List, [], ◌∷◌, Some, None, inl, inr, refl, sym, ◌∙◌, ap, subst, slice_get, if◌then◌else◌}
 use Rattle.std.specs.Prelude.{Contains, slice_set, min}
 use Rattle.std.proofs.lemmas.Bool.{false≢true, cases_lt}
 use Rattle.std.proofs.lemmas.Bool.Decides.{Decides-eqb}
@@ -15,33 +15,34 @@ use Rattle.fib_changes.specs.declared.change.Change.TheVariants as changes
 use Rattle.std.specs.Prelude.{IsSome, length}
 use Rattle.fib_cover.specs.Covers.{IsAscending}
 use Rattle.fib_interned.specs.Interned.{AreInterned, kept_of}
-use Rattle.fib_entries.specs.inner.Fields.{AreFields}
-use Rattle.fib_entries.proofs.Naming.{named_replaced, replaced_names, named_held, some_content}
-use Rattle.fib_interned.proofs.Finding.{some_is, contains_at}
+use Rattle.fib_entries.specs.inner.Fields.{AreFields, Index, IsForgotten, IsNoted}
+use Rattle.fib_entries.proofs.Naming.{named_replaced, replaced_from, replaced_names, named_held, some_content}
+use Rattle.fib_interned.proofs.Finding.{some_is, none_some, contains_at}
 use Rattle.fib_entries.specs.Known.{PathKept, Known, content_of, rank_of, rank_in, StandsFor}
 use Rattle.fib_entries.specs.Changes.{AreTouched, AreMoved}
 use Rattle.fib_entries.specs.inner.Leaf.{IsReady, IsReplaced, AreReplaced, IsChanged, IsFollowed, goals_of, own_row, plain_own, moved_at}
 use Rattle.fib_entries.specs.Rows.{Row}
 use Rattle.fib_entries.specs.declared.changes.Followed.{Followed}
-use Rattle.fib_entries.proofs.Exits.{exits_replaced, plain_inside}
+use Rattle.fib_entries.proofs.Exits.{exit_alike, in_alike, in_index, in_more, in_own, indexed_each, indexed_less, own_leaves}
 use Rattle.fib_entries.proofs.LeafRows.{stands_leaf, touched_leaf, moved_leaf, still_leaf}
 use Rattle.fib_entries.proofs.PartRows.{row_by}
+use Rattle.fib_entries.proofs.HopEnds.{ends_shared}
 use Rattle.fib_entries.proofs.LeafSizes.{size_same}
 use Rattle.fib_entries.proofs.Linking.{zip_at}
 use Rattle.fib_entries.proofs.Ready.{ready_edit, list_before, some_before}
-use Rattle.fib_entries.proofs.Replacing.{made_leaf, rank_own, plain_was}
+use Rattle.fib_entries.proofs.Replacing.{made_leaf, rank_own, shared_was}
 
 module _ (v w : Known) (S T : Tables) (p : Prefix) (source : FibSource) (place id : ℕ) (before : List Path) (top most : ℕ) (f : Followed) (k : StandsFor v S) (m : IsReady v.rows v.lists T p source place id before)
-    (differ : Differ (changes.Route p source ∷ []) S T) (after : IsSound T) (apart : AreInterned v.lists) (r : AreReplaced v.rows w.rows v.lists w.lists place p id before (paths_at p source T.routes) (plain_own source (paths_at p source T.routes) (top + 1)))
+    (differ : Differ (changes.Route p source ∷ []) S T) (after : IsSound T) (apart : AreInterned v.lists) (r : AreReplaced v.rows w.rows v.lists w.lists place p id before (paths_at p source T.routes) (plain_own T source (paths_at p source T.routes) (top + 1)))
     (objects : w.objects ≡ v.objects) (above : (t : Prefix) → Contains (goals_of (paths_at p source T.routes)) t → rank_of v.rows t ≤ top) where
-  set_own : (s : Row) → slice_get r.low place ≡ Some s → w.rows ≡ slice_set r.low place (own_row p source r.new_id (paths_at p source T.routes) (top + 1) s.dependants)
+  set_own : (s : Row) → slice_get r.low place ≡ Some s → w.rows ≡ slice_set r.low place (own_row T p source r.new_id (paths_at p source T.routes) (top + 1) s.dependants)
   set_own s at =
       let a = zip_at _ v.rows r.mid place m.row r.attached m.at in
       let b = zip_at _ r.mid r.low place a.0 r.detached a.1 in
       let same : s.prefix ≡ p = ap (λ z. z.prefix) (some_is s b.0 (sym at ∙ b.1)) ∙ (b.2.0.prefix ∙ a.2.0.prefix ∙ m.own) in
-      r.set s at ∙ ap (λ q. slice_set r.low place (own_row q source r.new_id (paths_at p source T.routes) (top + 1) s.dependants)) same
+      r.set s at ∙ ap (λ q. slice_set r.low place (own_row T q source r.new_id (paths_at p source T.routes) (top + 1) s.dependants)) same
 
-  replaced : IsReplaced v w p source place id r.new_id before (paths_at p source T.routes) (top + 1)
+  replaced : IsReplaced v w T p source place id r.new_id before (paths_at p source T.routes) (top + 1)
   replaced = record {
     mid = r.mid;
     low = r.low;
@@ -80,7 +81,7 @@ module _ (v w : Known) (S T : Tables) (p : Prefix) (source : FibSource) (place i
   pub fits_after : v.objects ≤ most → most < 2 ^ 32 - 1 → size T ≤ most
   fits_after le lt =
       let e = size_same S T p source (ready_edit v S T p source place id before k m differ after) (some_before v S T p source place id before k m differ after) m.some
-      (plain_was v w S T p source place id r.new_id before (top + 1) k m differ after apart replaced) m.plain_after in
+      (shared_was v w S T p source place id r.new_id before (top + 1) k m differ after apart replaced) (ends_shared v S k p m.short (paths_at p source T.routes) m.shared_after) in
       low (v.objects) (size S) (size T) k.objects e le
     where
       low : (o s t : ℕ) → o ≡ min s (2 ^ 32 - 1) → s ≡ t → o ≤ most → t ≤ most
@@ -90,17 +91,22 @@ module _ (v w : Known) (S T : Tables) (p : Prefix) (source : FibSource) (place i
       ]
 
 -- the fields still fit together
-pub fields_after : (rows new : List Row) (lists later : List PathKept) (order exits : List Prefix) (T : Tables) (p : Prefix) (source : FibSource) (place id : ℕ) (old paths : List Path) (rank : ℕ) (f : Followed)
-    → AreFields rows lists order exits → IsReady rows lists T p source place id old → IsChanged rows new lists later place p id source paths rank f → AreFields new later order exits
-fields_after rows new lists later order exits T p source place id old paths rank f h m c =
-    let names = replaced_names rows new lists later place p id c.before paths (plain_own source paths rank) c.replaced h.named h.ordered m.row m.at m.own source m.pairs c.content in
-    let named = named_replaced rows new lists later place p id c.before paths (plain_own source paths rank) c.replaced h.named h.ordered m.row m.at m.own source m.pairs c.content in
+pub fields_after : (rows new : List Row) (lists later : List PathKept) (order : List Prefix) (x y z : Index) (T : Tables) (p : Prefix) (source : FibSource) (place id : ℕ) (old paths : List Path) (rank : ℕ) (f : Followed)
+    → AreFields rows lists order x → IsReady rows lists T p source place id old → IsChanged T rows new lists later place p id source paths rank f → IsNoted x y p paths None → IsForgotten y z p paths None → AreFields new later order z
+fields_after rows new lists later order x y z T p source place id old paths rank f h m c noted forgotten =
+    let names = replaced_names rows new lists later place p id c.before paths (plain_own T source paths rank) c.replaced h.named h.ordered m.row m.at m.own source m.pairs c.content in
+    let named = named_replaced rows new lists later place p id c.before paths (plain_own T source paths rank) c.replaced h.named h.ordered m.row m.at m.own source m.pairs c.content in
+    let from = replaced_from rows new lists later place p id c.before paths (plain_own T source paths rank) c.replaced h.named h.ordered m.row m.at m.own source m.pairs c.content in
     record {
       held = named_held new later named;
       named = named;
       ordered = subst IsAscending (sym names) h.ordered;
       same = h.same ∙ sym names;
-      out = h.out ∙ sym (exits_replaced rows new lists later place p id c.before paths (plain_own source paths rank) c.replaced m.row m.at m.inside (plain_inside paths));
+      indexed = indexed_less new y z p paths None forgotten (λ s k e. elim (from s k) [ inl own ↦ inr (sym (own_leaves T paths s own.2) ∙ e) | inr other ↦ inl (λ is. other.0 (sym is)) ]) (λ s k e. none_some s.prefix e)
+          (indexed_each new y (λ s k. elim (from s k) [
+            | inl own ↦ in_own y T p paths (source, c.replaced.new_id) s noted.own m.short own.0 own.1 own.2
+            | inr (off, q, was, name, pairs, marked) ↦ in_alike y q s (in_more x y p paths None q noted (in_index rows x h.indexed q was)) name pairs (exit_alike q s marked)
+          ]));
     }
 
 pub ready_kept : (rows : List Row) (lists : List PathKept) (T : Tables) (p : Prefix) (source : FibSource) (place id : ℕ) (old : List Path) → IsReady rows lists T p source place id old → IsSome (kept_of lists id)
@@ -111,11 +117,11 @@ ready_row rows lists T p source place id old m = (m.row, m.at, ap length m.pairs
 
 -- and what comes of it is right
 pub followed_leaf : (v w : Known) (T : Tables) (p : Prefix) (source : FibSource) (place id : ℕ) (old : List Path) (top most : ℕ) (f : Followed) → IsReady v.rows v.lists T p source place id old → AreInterned v.lists
-    → IsChanged v.rows w.rows v.lists w.lists place p id source (paths_at p source T.routes) (top + 1) f → w.objects ≡ v.objects → ((t : Prefix) → Contains (goals_of (paths_at p source T.routes)) t → rank_of v.rows t ≤ top)
+    → IsChanged T v.rows w.rows v.lists w.lists place p id source (paths_at p source T.routes) (top + 1) f → w.objects ≡ v.objects → ((t : Prefix) → Contains (goals_of (paths_at p source T.routes)) t → rank_of v.rows t ≤ top)
     → IsSound T → v.objects ≤ most → most < 2 ^ 32 - 1 → content_of v.lists id ≢ Some (paths_at p source T.routes) → (S : Tables) → StandsFor v S → Differ (changes.Route p source ∷ []) S T → IsFollowed v w S T most f
 followed_leaf v w T p source place id old top most f m apart c objects above after le lt other S k differ =
     let same : c.before ≡ old = some_is c.before old (sym c.content ∙ m.content) in
-    let r = subst (λ l. AreReplaced v.rows w.rows v.lists w.lists place p id l (paths_at p source T.routes) (plain_own source (paths_at p source T.routes) (top + 1))) same c.replaced in
+    let r = subst (λ l. AreReplaced v.rows w.rows v.lists w.lists place p id l (paths_at p source T.routes) (plain_own T source (paths_at p source T.routes) (top + 1))) same c.replaced in
     record {
       stands = stands_after v w S T p source place id old top most f k m differ after apart r objects above;
       touched = subst (AreTouched S T) (sym c.touched) (touched_after v w S T p source place id old top most f k m differ after apart r objects above (λ e. other (m.content ∙ ap Some e)));

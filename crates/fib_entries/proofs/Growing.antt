@@ -1,31 +1,31 @@
--- The size of tables that have one entry more than others, over no interface.
-use Rattle.std.proofs.Common.{arith, ◌≡◌, ◌≢◌, ℕ, ◌+◌, true, List, [], inl, inr, ap, subst, slice_get, ◌↔◌}
+-- The size of tables that have one entry more than others, and no Hop end more.
+use Rattle.std.proofs.Common.{arith, ◌≡◌, ◌≢◌, ℕ, ◌+◌, List, [], inl, inr, subst, slice_get, ◌↔◌}
 use Rattle.std.specs.Prelude.{Contains}
-use Rattle.std.specs.List.{list_all, insert}
+use Rattle.std.specs.List.{insert}
 use Rattle.std.specs.Set.{is_member}
 use Rattle.std.proofs.lemmas.Map.Views.{Contains-from_any}
-use Rattle.fib_list.proofs.Lists.{either}
+use Rattle.fib_list.proofs.Lists.{either, Contains-nil}
 use Rattle.fib_addr.specs.Prefixes.{Prefix, IsPrefix, same_prefix}
 use Rattle.fib_addr.proofs.PrefixLaws.{same_prefix-Decides}
 use Rattle.fib_cover.specs.Covers.{IsAscending, ArePrefixes}
 use Rattle.fib_resolve.specs.Pairs.{entries, chosen}
-use Rattle.fib_resolve.specs.Sizes.{size}
+use Rattle.fib_resolve.specs.Sizes.{size, adjacencies_of}
+use Rattle.fib_resolve.specs.declared.pairs.Adjacency.{Adjacency}
 use Rattle.fib_resolve.specs.declared.types.Tables.{Tables}
 use Rattle.fib_resolve.proofs.Entries.{chosen-no_entry}
-use Rattle.fib_entries.specs.inner.Leaf.{is_plain}
 use Rattle.fib_entries.specs.inner.Plies.{own_size, before_of, IsGap}
 use Rattle.fib_entries.proofs.Leafing.{is_not}
-use Rattle.fib_entries.proofs.LeafSizes.{plain_ends}
+use Rattle.fib_entries.proofs.LeafSizes.{HasEnd, ends_by, ends_same}
 use Rattle.fib_entries.proofs.Orders.{inserted_members, size_of_order, order_grown}
 use Rattle.fib_entries.proofs.Placing.{inserted_ascending}
 
--- the second tables have one entry more, over no interface
+-- the second tables have one entry more, whose Hop ends are those of others too
 pub record IsGrown (S T : Tables) (p : Prefix) : Type 0 where
   pub others : (e : Prefix) → p ≢ e → Contains (entries S) e ↔ Contains (entries T) e
   pub lacks : Contains (entries S) p → ⊥
   pub has : Contains (entries T) p
   pub lists : (e : Prefix) → p ≢ e → chosen S e ≡ chosen T e
-  pub plain : list_all is_plain (chosen T p) ≡ true
+  pub shared : (z : Adjacency) → Contains (adjacencies_of T p) z → HasEnd S (same_prefix p) z
 
 module _ (S T : Tables) (p : Prefix) (g : IsGrown S T p) (order : List Prefix) (same : (e : Prefix) → Contains order e ↔ Contains (entries S) e) (asc : IsAscending order) (good : ArePrefixes order)
     (place : ℕ) (gap : IsGap order place p) (is : IsPrefix p) where
@@ -51,7 +51,7 @@ module _ (S T : Tables) (p : Prefix) (g : IsGrown S T p) (order : List Prefix) (
       let a = size_of_order T (insert order place p) (inserted_ascending order place p gap asc) with_own in
       let b = size_of_order S order asc same in
       let c = order_grown order asc good place p gap is in
-      let d = plain_ends S T p g.others g.lists (ap (list_all is_plain) none_before) g.plain in
+      let d = ends_same S T p g.others g.lists (λ z c. absurd (Contains-nil z (ends_by S p [] none_before z c))) g.shared in
       sums _ _ _ _ _ _ _ a b c d
     where
       sums : (st ss ot os ct cs own : ℕ) → st ≡ ot + ct → ss ≡ os + cs → ot ≡ os + own → cs ≡ ct → st ≡ ss + own

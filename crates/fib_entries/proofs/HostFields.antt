@@ -1,6 +1,7 @@
 -- The fields of entries fit together after a prefix came with the host of one of its next hops.
-use Rattle.std.proofs.Common.{arith, ◌≡◌, ◌≢◌, ℕ, ◌+◌, ◌≤◌, List, [], ◌∷◌, map, length, ◌⊎◌, inl, inr, refl, sym, ◌∙◌, ap, subst, ◌↔◌}
+use Rattle.std.proofs.Common.{arith, ◌≡◌, ◌≢◌, ℕ, ◌+◌, ◌<◌, ◌≤◌, List, [], ◌∷◌, map, length, Option, Some, ◌⊎◌, inl, inr, refl, sym, ◌∙◌, ap, subst, ◌↔◌}
 use Rattle.std.specs.Prelude.{Contains, option_map, slice_set}
+use Rattle.std.proofs.lemmas.Bool.{false≢true}
 use Rattle.fib_list.proofs.Lists.{Contains-nil}
 use Rattle.fib_addr.specs.Prefixes.{Prefix, host}
 use Rattle.fib_cover.specs.Covers.{IsAscending}
@@ -11,19 +12,20 @@ use Rattle.fib_resolve.specs.declared.types.Path.{Path}
 use Rattle.fib_resolve.specs.declared.types.Tables.{Tables}
 use Rattle.fib_resolve.specs.declared.types.PathKind.TheVariants as kinds
 use Rattle.fib_changes.proofs.Edits.{in_front, in_rest}
-use Rattle.fib_interned.proofs.Finding.{contains_at}
+use Rattle.fib_changes.proofs.SamePairs.{map_in}
+use Rattle.fib_interned.proofs.Finding.{contains_at, some_is}
 use Rattle.fib_entries.specs.Known.{PathKept, content_of, prefix_of}
-use Rattle.fib_entries.specs.inner.Coming.{with_pairs, blank_row}
-use Rattle.fib_entries.specs.inner.Ends.{has_exit, exits_of}
-use Rattle.fib_entries.specs.inner.Fields.{AreFields, AreNamed, count_in}
+use Rattle.fib_entries.specs.inner.Coming.{blank_row}
+use Rattle.fib_entries.specs.inner.Ends.{has_exit}
+use Rattle.fib_entries.specs.inner.Fields.{AreFields, AreNamed, Index, IsForgotten, IsIndexed, IsNoted, count_in}
 use Rattle.fib_entries.specs.inner.Hosting.{IsHosted, IsHosting, IsListed, HasHosted, host_own}
 use Rattle.fib_entries.specs.inner.Leaf.{pushed, plain_own}
 use Rattle.fib_entries.specs.inner.Plies.{IsGap}
 use Rattle.fib_entries.specs.declared.changes.Followed.{Followed}
 use Rattle.fib_entries.specs.declared.hosting.Late.{Late}
 use Rattle.fib_entries.specs.Rows.{Row}
-use Rattle.fib_entries.proofs.Arriving.{names_came, named_came, ordered_came}
-use Rattle.fib_entries.proofs.Exits.{exits_alike, exits_came, exits_insert, plain_inside}
+use Rattle.fib_entries.proofs.Arriving.{indexed_came, names_came, named_came, ordered_came}
+use Rattle.fib_entries.proofs.Exits.{IsIn, fields_with, in_alike, in_host, in_index, indexed_each, indexed_less, indexed_more}
 use Rattle.fib_entries.proofs.Hosts.{loose_pair}
 use Rattle.fib_entries.proofs.Housing.{hosted_names, hosted_ordered}
 use Rattle.fib_entries.proofs.Leafing.{only_one}
@@ -53,11 +55,16 @@ module _ (old new : List Row) (g : Late) (h : IsHosted old new g) (gap : IsGap (
     ];
   }
 
-  hosted_exits : exits_of new ≡ exits_of old
+  -- an index that has the others' kinds and the host has that of all
+  hosted_indexed : (y : Index) → Contains y.hosts (host g.addr) → IsIndexed old y → IsIndexed new y
   unfolding has_exit
-  hosted_exits =
-      ap exits_of h.came ∙ (exits_insert (slice_set old g.cover (pushed (host g.addr) h.cover)) g.place (blank_row (host g.addr) (host_own h.cover.prefix g.rank)) inside refl
-      ∙ exits_alike old g.cover h.cover (pushed (host g.addr) h.cover) h.at refl refl)
+  hosted_indexed y has i = indexed_each new y (λ s c. elim (inserted_from (slice_set old g.cover (pushed (host g.addr) h.cover)) g.place (blank_row (host g.addr) (host_own h.cover.prefix g.rank)) s inside (subst (λ l. Contains l s) h.came c)) [
+    | inl is ↦ subst (IsIn y) is (in_host y (blank_row (host g.addr) (host_own h.cover.prefix g.rank)) has refl refl)
+    | inr later ↦ elim (set_from old g.cover (pushed (host g.addr) h.cover) s later) [
+      | inl is ↦ subst (IsIn y) is (in_alike y h.cover (pushed (host g.addr) h.cover) (in_index old y i h.cover (contains_at old g.cover h.cover h.at)) refl refl refl)
+      | inr (j, off, there) ↦ in_index old y i s (contains_at old j s there)
+    ]
+  ])
 
 -- the host's row got its list
 module _ (old new : List Row) (lists later : List PathKept) (g : Late) (t : IsListed old new lists later g) (asc : IsAscending (map prefix_of old)) where
@@ -78,22 +85,28 @@ module _ (old new : List Row) (lists later : List PathKept) (g : Late) (t : IsLi
     ];
   }
 
-  listed_exits : exits_of new ≡ exits_of old
+  listed_indexed : (y : Index) → IsIndexed old y → IsIndexed new y
   unfolding has_exit
-  listed_exits = ap exits_of t.set ∙ exits_alike old t.place t.row (with_pairs ((sources.RecursiveResolution, g.list) ∷ []) t.row) t.at refl refl
+  listed_indexed y i = indexed_each new y (λ s c. elim (paired_from old new t.place ((sources.RecursiveResolution, g.list) ∷ []) t.row t.at t.set asc s c) [
+    | inl is ↦ (let was = in_index old y i t.row (contains_at old t.place t.row t.at) in
+        subst (IsIn y) is (record { exits = λ e. was.exits e; hosts = λ e. was.hosts e; several = λ e. absurd (false≢true e) }))
+    | inr (off, was) ↦ in_index old y i s was
+  ])
 
 -- all of it
-pub fields_both : (rows new : List Row) (lists later : List PathKept) (order exits set : List Prefix) (g : Late) (p : Prefix) (source : FibSource) (paths : List Path) (rank made : ℕ) (f : Followed) → AreFields rows lists order exits
-    → IsGap (map prefix_of rows) g.place (host g.addr) → HasHosted rows new lists later g p source paths rank made f → IsAscending set → ((e : Prefix) → Contains set e ↔ (Contains order e ⊎ (e ≡ host g.addr)) ⊎ (e ≡ p)) → AreFields new later set exits
-fields_both rows new lists later order exits set g p source paths rank made f h gap c asc members =
+pub fields_both : (rows new : List Row) (lists later : List PathKept) (order set : List Prefix) (x y : Index) (T : Tables) (g : Late) (p : Prefix) (source : FibSource) (paths : List Path) (rank made : ℕ) (f : Followed) → AreFields rows lists order x
+    → IsGap (map prefix_of rows) g.place (host g.addr) → p.len < 32 → HasHosted T rows new lists later g p source paths rank made f → IsNoted x y p paths (Some (host g.addr)) → IsAscending set
+    → ((e : Prefix) → Contains set e ↔ (Contains order e ⊎ (e ≡ host g.addr)) ⊎ (e ≡ p)) → AreFields new later set y
+fields_both rows new lists later order set x y T g p source paths rank made f h gap short c noted asc members =
     let names = hosted_names rows c.mid g c.hosted h.ordered gap in
     let mid_asc = hosted_ordered rows c.mid g c.hosted h.ordered gap in
-    let low_asc = ordered_came c.mid c.low lists c.between c.place p paths (plain_own source paths rank) c.placed mid_asc c.gap in
-    let low_names = names_came c.mid c.low lists c.between c.place p paths (plain_own source paths rank) c.placed mid_asc c.gap in
+    let low_asc = ordered_came c.mid c.low lists c.between c.place p paths (plain_own T source paths rank) c.placed mid_asc c.gap in
+    let low_names = names_came c.mid c.low lists c.between c.place p paths (plain_own T source paths rank) c.placed mid_asc c.gap in
     let new_names = paired_names c.low new c.listed.place ((sources.RecursiveResolution, g.list) ∷ []) c.listed.row c.listed.at c.listed.set low_asc in
     let new_asc = paired_ordered c.low new c.listed.place ((sources.RecursiveResolution, g.list) ∷ []) c.listed.row c.listed.at c.listed.set low_asc in
-    let named = listed_named c.low new c.between later g c.listed low_asc (named_came c.mid c.low lists c.between c.place p paths (plain_own source paths rank) c.placed mid_asc c.gap (hosted_named rows c.mid g c.hosted gap lists h.named)) in
-    let le : c.place ≤ length c.mid = (let le = c.gap.inside in let e = length_map prefix_of c.mid in omega (arith, le, e)) in
+    let named = listed_named c.low new c.between later g c.listed low_asc (named_came c.mid c.low lists c.between c.place p paths (plain_own T source paths rank) c.placed mid_asc c.gap (hosted_named rows c.mid g c.hosted gap lists h.named)) in
+    let mid_indexed = hosted_indexed rows c.mid g c.hosted gap y (noted.late (host g.addr) refl) (indexed_more rows x y p paths (Some (host g.addr)) noted h.indexed) in
+    let low_indexed = indexed_came c.mid c.low lists c.between c.place p paths (plain_own T source paths rank) c.placed mid_asc c.gap y T refl short noted.own mid_indexed in
     record {
       held = named_held new later named;
       named = named;
@@ -108,19 +121,24 @@ fields_both rows new lists later order exits set g p source paths rank made f h 
           | inr is ↦ inr (sym is)
         ]),
       ));
-      out = h.out ∙ sym (listed_exits c.low new c.between later g c.listed low_asc ∙ (exits_came c.mid c.low lists c.between c.place p paths (plain_own source paths rank) c.placed le (plain_inside paths) ∙ hosted_exits rows c.mid g c.hosted gap));
+      indexed = listed_indexed c.low new c.between later g c.listed low_asc y low_indexed;
     }
 
 -- a set with the same members does as well
-pub fields_alike : (rows : List Row) (lists : List PathKept) (order exits set : List Prefix) → AreFields rows lists order exits → IsAscending set → ((e : Prefix) → Contains set e ↔ Contains order e) → AreFields rows lists set exits
-fields_alike rows lists order exits set h asc same =
-    subst (λ s. AreFields rows lists s exits) (same_order order set (subst IsAscending (sym h.same) h.ordered) asc (λ e. ((same e).1, (same e).0))) h
+pub fields_alike : (rows : List Row) (lists : List PathKept) (order set : List Prefix) (x y : Index) → AreFields rows lists order x → IsIndexed rows y → IsAscending set → ((e : Prefix) → Contains set e ↔ Contains order e) → AreFields rows lists set y
+fields_alike rows lists order set x y h indexed asc same =
+    fields_with rows rows lists lists order set x y h refl refl (sym (same_order order set (subst IsAscending (sym h.same) h.ordered) asc (λ e. ((same e).1, (same e).0)))) indexed
+
+pub fields_unhosted : (rows : List Row) (lists : List PathKept) (order set : List Prefix) (x y : Index) (p : Prefix) (paths : List Path) (late : Option Prefix) → AreFields rows lists order x → IsNoted x y p paths late → IsAscending set
+    → ((e : Prefix) → Contains set e ↔ Contains order e) → AreFields rows lists set y
+fields_unhosted rows lists order set x y p paths late h noted asc same = fields_alike rows lists order set x y h (indexed_more rows x y p paths late noted h.indexed) asc same
 
 -- also where both went from it again
-pub fields_back : (rows new : List Row) (lists later : List PathKept) (order exits mid set : List Prefix) (T : Tables) (p : Prefix) (source : FibSource) (place : ℕ) (g : Late) → AreFields rows lists order exits → IsHosting rows lists (map prefix_of rows) T p source place g
-    → new ≡ rows → later ≡ lists → IsAscending set → ((e : Prefix) → Contains mid e ↔ (Contains order e ⊎ (e ≡ host g.addr)) ⊎ (e ≡ p)) → ((e : Prefix) → Contains set e ↔ (Contains mid e × (e ≢ p)) × (e ≢ host g.addr)) → AreFields new later set exits
-fields_back rows new lists later order exits mid set T p source place g h m rows_are lists_are asc came went =
-    subst (λ l. AreFields new l set exits) (sym lists_are) (subst (λ l. AreFields l lists set exits) (sym rows_are) (fields_alike rows lists order exits set h asc (λ e. (
+pub fields_back : (rows new : List Row) (lists later : List PathKept) (order mid set : List Prefix) (x y z : Index) (T : Tables) (p : Prefix) (source : FibSource) (place : ℕ) (paths : List Path) (g : Late) → AreFields rows lists order x
+    → IsHosting rows lists (map prefix_of rows) T p source place g → IsNoted x y p paths (Some (host g.addr)) → IsForgotten y z p [] (Some (host g.addr))
+    → new ≡ rows → later ≡ lists → IsAscending set → ((e : Prefix) → Contains mid e ↔ (Contains order e ⊎ (e ≡ host g.addr)) ⊎ (e ≡ p)) → ((e : Prefix) → Contains set e ↔ (Contains mid e × (e ≢ p)) × (e ≢ host g.addr)) → AreFields new later set z
+fields_back rows new lists later order mid set x y z T p source place paths g h m noted forgotten rows_are lists_are asc came went =
+    subst (λ l. AreFields new l set z) (sym lists_are) (subst (λ l. AreFields l lists set z) (sym rows_are) (fields_alike rows lists order set x z h back asc (λ e. (
       λ i. (let g = (went e).0 i in elim ((came e).0 g.0.0) [
         | inl one ↦ elim one [ inl was ↦ was | inr is ↦ absurd (g.1 is) ]
         | inr is ↦ absurd (g.0.1 is)
@@ -131,5 +149,11 @@ fields_back rows new lists later order exits mid set T p source place g h m rows
     member : {a e : Prefix} → e ≡ a → Contains order e → Contains (map prefix_of rows) a
     member {a} {e} is i = subst (Contains (map prefix_of rows)) is (subst (λ l. Contains l e) h.same i)
 
-pub not_member : (rows : List Row) (lists : List PathKept) (order exits : List Prefix) (T : Tables) (p : Prefix) (source : FibSource) (place : ℕ) (g : Late) → AreFields rows lists order exits → IsHosting rows lists (map prefix_of rows) T p source place g → Contains order (host g.addr) → ⊥
-not_member rows lists order exits T p source place g h m i = gap_absent (map prefix_of rows) g.place (host g.addr) m.late.gap (subst (λ l. Contains l (host g.addr)) h.same i)
+    back : IsIndexed rows z
+    back = indexed_less rows y z p [] (Some (host g.addr)) forgotten
+        (λ s c e. inl (λ is. gap_absent (map prefix_of rows) place p m.belongs.gap (subst (Contains (map prefix_of rows)) is (map_in prefix_of rows s c))))
+        (λ s c e. gap_absent (map prefix_of rows) g.place (host g.addr) m.late.gap (subst (Contains (map prefix_of rows)) (sym (some_is (host g.addr) s.prefix e)) (map_in prefix_of rows s c)))
+        (indexed_more rows x y p paths (Some (host g.addr)) noted h.indexed)
+
+pub not_member : (rows : List Row) (lists : List PathKept) (order : List Prefix) (x : Index) (T : Tables) (p : Prefix) (source : FibSource) (place : ℕ) (g : Late) → AreFields rows lists order x → IsHosting rows lists (map prefix_of rows) T p source place g → Contains order (host g.addr) → ⊥
+not_member rows lists order x T p source place g h m i = gap_absent (map prefix_of rows) g.place (host g.addr) m.late.gap (subst (λ l. Contains l (host g.addr)) h.same i)

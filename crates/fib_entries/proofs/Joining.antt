@@ -1,7 +1,6 @@
 -- A leaf that comes: what is known stands for the tables afterwards.
-use Rattle.std.proofs.Common.{arith, ◌≡◌, ◌≢◌, ℕ, ◌+◌, ◌-◌, ◌<◌, ◌≤◌, ◌^◌, Bool, true, false, ◌==◌, List, [], ◌∷◌, map, Some, ◌⊎◌, inl, inr, refl, sym, ◌∙◌, ap, subst, slice_get, ◌↔◌, if◌then◌else◌}
+use Rattle.std.proofs.Common.{arith, ◌≡◌, ◌≢◌, ℕ, ◌+◌, ◌-◌, ◌<◌, ◌≤◌, ◌^◌, Bool, true, false, ◌==◌, List, [], ◌∷◌, map, Some, None, ◌⊎◌, inl, inr, refl, sym, ◌∙◌, ap, subst, slice_get, ◌↔◌, if◌then◌else◌}
 use Rattle.std.specs.Prelude.{Contains, min}
-use Rattle.std.specs.List.{list_all}
 use Rattle.std.proofs.lemmas.Bool.{false≢true, cases_lt}
 use Rattle.std.proofs.lemmas.Bool.Decides.{Decides-eqb}
 use Rattle.fib_list.proofs.Lists.{Contains-nil}
@@ -16,23 +15,25 @@ use Rattle.fib_resolve.specs.declared.types.Path.{Path}
 use Rattle.fib_resolve.specs.declared.types.Tables.{Tables}
 use Rattle.fib_changes.specs.Differ.{Differ}
 use Rattle.fib_changes.specs.declared.change.Change.TheVariants as changes
-use Rattle.fib_changes.proofs.SamePairs.{map_from}
+use Rattle.fib_changes.proofs.SamePairs.{map_from, map_in}
 use Rattle.fib_interned.specs.Interned.{AreInterned}
+use Rattle.fib_interned.proofs.Finding.{none_some}
 use Rattle.fib_entries.specs.Known.{PathKept, Known, content_of, prefix_of, rank_of, rank_in, IsRow, StandsFor, holders}
 use Rattle.fib_entries.specs.Changes.{AreTouched, AreMoved}
 use Rattle.fib_entries.specs.inner.Coming.{IsArriving, IsBelonging, IsPlaced, HasCome, blank_row, with_pairs}
-use Rattle.fib_entries.specs.inner.Fields.{AreCounted, AreFields}
-use Rattle.fib_entries.specs.inner.Leaf.{IsLeafEdit, IsFollowed, IsButFor, goals_of, is_plain, plain_own, moved_at}
+use Rattle.fib_entries.specs.inner.Fields.{AreCounted, AreFields, Index, IsForgotten, IsNoted}
+use Rattle.fib_entries.specs.inner.Leaf.{IsLeafEdit, IsFollowed, IsButFor, goals_of, plain_own, moved_at}
 use Rattle.fib_entries.specs.inner.Plies.{own_size, entry_at, entry_before}
 use Rattle.fib_entries.specs.declared.changes.Followed.{Followed}
 use Rattle.fib_entries.specs.Rows.{Row}
-use Rattle.fib_entries.proofs.Arriving.{mid_own, with_it, there_came, row_from, ordered_came, fields_came, set_back}
+use Rattle.fib_entries.proofs.Arriving.{mid_own, with_it, there_came, row_from, ordered_came, indexed_came, fields_came, set_back}
 use Rattle.fib_entries.proofs.Belonging.{no_entry, none_was, belonging_edit, came_is_row}
 use Rattle.fib_entries.proofs.Growing.{IsGrown, size_more}
-use Rattle.fib_entries.proofs.Exits.{plain_inside}
+use Rattle.fib_entries.proofs.Exits.{fields_with, indexed_less, indexed_more}
+use Rattle.fib_entries.proofs.HopEnds.{ends_shared}
 use Rattle.fib_entries.proofs.LeafRows.{IsLeafMade, entry_same, entry_own, stands_leaf, touched_leaf, moved_leaf, still_leaf}
 use Rattle.fib_entries.proofs.PartRows.{row_by, no_row}
-use Rattle.fib_entries.proofs.LeafSizes.{plain_targets}
+use Rattle.fib_entries.proofs.LeafSizes.{plain_targets, ends_by}
 use Rattle.fib_entries.proofs.Leafing.{chosen_same, outside}
 use Rattle.fib_entries.proofs.Listing.{own_before, own_after, chosen_before, chosen_after, counted_own, counted_none, holders_are}
 use Rattle.fib_entries.proofs.Placing.{gap_absent, size_came}
@@ -42,7 +43,7 @@ use Rattle.fib_entries.proofs.Using.{once, recounted, counted_taken, taken_stays
 
 module _ (v : Known) (S T : Tables) (p : Prefix) (source : FibSource) (place : ℕ) (k : StandsFor v S) (m : IsArriving v.rows T p source place) (differ : Differ (changes.Route p source ∷ []) S T) (after : IsSound T) where
   belonging : IsBelonging v.rows T p source place
-  belonging = record { gap = m.gap; prefix = m.prefix; short = m.short; written = m.written; next = m.next; far = m.far; some = m.some }
+  belonging = record { gap = m.gap; prefix = m.prefix; short = m.short; written = m.written; clear = m.clear; some = m.some }
 
   pub arriving_edit : IsLeafEdit S T p source []
   arriving_edit = belonging_edit v S T p source place k belonging after [] differ (λ a c. inr (led_by v S p k (paths_at p source T.routes) a m.shared c)) (λ a none. absurd (Contains-nil a none))
@@ -57,7 +58,7 @@ module _ (v : Known) (S T : Tables) (p : Prefix) (source : FibSource) (place : �
     lacks = no_entry v S T p source place k belonging after;
     has = (entry_own S T p source [] arriving_edit).1 m.some;
     lists = λ e off. chosen_same S T p source [] arriving_edit e (outside p e off);
-    plain = ap (list_all is_plain) (chosen_after S T p source [] arriving_edit) ∙ m.plain;
+    shared = λ z c. ends_shared v S k p m.short (paths_at p source T.routes) m.shared z (ends_by T p (paths_at p source T.routes) (chosen_after S T p source [] arriving_edit) z c);
   }
 
   pub size_law : size T ≡ size S + own_size p (entry_before v.rows place) (entry_at v.rows place)
@@ -76,7 +77,7 @@ module _ (v : Known) (S T : Tables) (p : Prefix) (source : FibSource) (place : �
       ]
 
 module _ (v w : Known) (S T : Tables) (p : Prefix) (source : FibSource) (place top most : ℕ) (k : StandsFor v S) (m : IsArriving v.rows T p source place) (differ : Differ (changes.Route p source ∷ []) S T) (after : IsSound T)
-    (apart : AreInterned v.lists) (r : IsPlaced v.rows w.rows v.lists w.lists place p (paths_at p source T.routes) (plain_own source (paths_at p source T.routes) (top + 1)))
+    (apart : AreInterned v.lists) (r : IsPlaced v.rows w.rows v.lists w.lists place p (paths_at p source T.routes) (plain_own T source (paths_at p source T.routes) (top + 1)))
     (count : w.objects ≡ v.objects + own_size p (entry_before v.rows place) (entry_at v.rows place)) (fits : w.objects ≤ most) (small : most < 2 ^ 32 - 1)
     (above : (t : Prefix) → Contains (goals_of (paths_at p source T.routes)) t → rank_of v.rows t ≤ top) where
   h : IsLeafEdit S T p source []
@@ -108,23 +109,23 @@ module _ (v w : Known) (S T : Tables) (p : Prefix) (source : FibSource) (place t
   new_content : content_of w.lists r.new_id ≡ Some (paths_at p source T.routes)
   new_content = content_taken v.lists w.lists (paths_at p source T.routes) r.new_id r.taken r.apart (holders S) (counted_by v S k apart)
 
-  mid : (s : Row) × (slice_get r.mid place ≡ Some s) × (IsButFor p (blank_row p (plain_own source (paths_at p source T.routes) (top + 1))) s × (Contains s.dependants p ↔ Contains {X = Prefix} [] p ⊎ Contains (goals_of (paths_at p source T.routes)) p))
-  mid = mid_own v.rows w.rows v.lists w.lists place p (paths_at p source T.routes) (plain_own source (paths_at p source T.routes) (top + 1)) r k.ordered m.gap
+  mid : (s : Row) × (slice_get r.mid place ≡ Some s) × (IsButFor p (blank_row p (plain_own T source (paths_at p source T.routes) (top + 1))) s × (Contains s.dependants p ↔ Contains {X = Prefix} [] p ⊎ Contains (goals_of (paths_at p source T.routes)) p))
+  mid = mid_own v.rows w.rows v.lists w.lists place p (paths_at p source T.routes) (plain_own T source (paths_at p source T.routes) (top + 1)) r k.ordered m.gap
 
   there : Contains w.rows (with_pairs ((source, r.new_id) ∷ []) mid.0)
   unfolding mid
-  there = there_came v.rows w.rows v.lists w.lists place p (paths_at p source T.routes) (plain_own source (paths_at p source T.routes) (top + 1)) r k.ordered m.gap
+  there = there_came v.rows w.rows v.lists w.lists place p (paths_at p source T.routes) (plain_own T source (paths_at p source T.routes) (top + 1)) r k.ordered m.gap
 
   from : (s : Row) → Contains w.rows s → (with_pairs ((source, r.new_id) ∷ []) mid.0 ≡ s)
       ⊎ ((p ≢ s.prefix) × (q : Row) × Contains v.rows q × (IsButFor p q s × (Contains s.dependants p ↔ Contains q.dependants p ⊎ Contains (goals_of (paths_at p source T.routes)) q.prefix)))
   unfolding mid
-  from = row_from v.rows w.rows v.lists w.lists place p (paths_at p source T.routes) (plain_own source (paths_at p source T.routes) (top + 1)) r k.ordered m.gap
+  from = row_from v.rows w.rows v.lists w.lists place p (paths_at p source T.routes) (plain_own T source (paths_at p source T.routes) (top + 1)) r k.ordered m.gap
 
   came : (e : Prefix) → Contains (map prefix_of w.rows) e ↔ Contains (map prefix_of v.rows) e ⊎ (p ≡ e)
-  came = with_it v.rows w.rows v.lists w.lists place p (paths_at p source T.routes) (plain_own source (paths_at p source T.routes) (top + 1)) r k.ordered m.gap
+  came = with_it v.rows w.rows v.lists w.lists place p (paths_at p source T.routes) (plain_own T source (paths_at p source T.routes) (top + 1)) r k.ordered m.gap
 
   ordered : IsAscending (map prefix_of w.rows)
-  ordered = ordered_came v.rows w.rows v.lists w.lists place p (paths_at p source T.routes) (plain_own source (paths_at p source T.routes) (top + 1)) r k.ordered m.gap
+  ordered = ordered_came v.rows w.rows v.lists w.lists place p (paths_at p source T.routes) (plain_own T source (paths_at p source T.routes) (top + 1)) r k.ordered m.gap
 
   relinked : (s : Row) → Contains w.rows s → p ≢ s.prefix → (q : Row) × Contains v.rows q × IsButFor p q s × (Contains s.dependants p ↔ Contains (targets T p) s.prefix)
   relinked s c off = elim (from s c) [
@@ -194,22 +195,25 @@ module _ (v w : Known) (S T : Tables) (p : Prefix) (source : FibSource) (place t
 
 -- what comes of a leaf that comes is right
 pub followed_came : (v w : Known) (T : Tables) (p : Prefix) (source : FibSource) (place top most : ℕ) (f : Followed) → IsArriving v.rows T p source place → AreInterned v.lists
-    → HasCome v.rows w.rows v.lists w.lists place p source (paths_at p source T.routes) (top + 1) f → w.objects ≡ v.objects + own_size p (entry_before v.rows place) (entry_at v.rows place) → w.objects ≤ most → most < 2 ^ 32 - 1
+    → HasCome T v.rows w.rows v.lists w.lists place p source (paths_at p source T.routes) (top + 1) f → w.objects ≡ v.objects + own_size p (entry_before v.rows place) (entry_at v.rows place) → w.objects ≤ most → most < 2 ^ 32 - 1
     → ((t : Prefix) → Contains (goals_of (paths_at p source T.routes)) t → rank_of v.rows t ≤ top) → IsSound T → (S : Tables) → StandsFor v S → Differ (changes.Route p source ∷ []) S T → IsFollowed v w S T most f
 followed_came v w T p source place top most f m apart c count fits small above after S k differ =
     followed_by v w S T p source place top most k m differ after apart c.placed count fits small above f c.touched c.moved
 
 -- and the fields still fit together
-pub come_fields : (rows new : List Row) (lists later : List PathKept) (order exits set : List Prefix) (T : Tables) (p : Prefix) (source : FibSource) (place : ℕ) (paths : List Path) (rank : ℕ) (f : Followed)
-    → AreFields rows lists order exits → IsArriving rows T p source place → HasCome rows new lists later place p source paths rank f → IsAscending set → ((e : Prefix) → Contains set e ↔ Contains order e ⊎ (e ≡ p)) → AreFields new later set exits
-come_fields rows new lists later order exits set T p source place paths rank f h m c asc members =
-    fields_came rows new lists later place p paths (plain_own source paths rank) c.placed h.ordered m.gap h.named set exits asc
-    (λ e. subst (λ l. Contains set e ↔ Contains l e ⊎ (e ≡ p)) h.same (members e)) h.out (plain_inside paths)
+pub come_fields : (rows new : List Row) (lists later : List PathKept) (order set : List Prefix) (x y : Index) (T : Tables) (p : Prefix) (source : FibSource) (place : ℕ) (paths : List Path) (rank : ℕ) (f : Followed)
+    → AreFields rows lists order x → IsArriving rows T p source place → HasCome T rows new lists later place p source paths rank f → IsNoted x y p paths None → IsAscending set → ((e : Prefix) → Contains set e ↔ Contains order e ⊎ (e ≡ p)) → AreFields new later set y
+come_fields rows new lists later order set x y T p source place paths rank f h m c noted asc members =
+    fields_came rows new lists later place p paths (plain_own T source paths rank) c.placed h.ordered m.gap h.named set y asc
+    (λ e. subst (λ l. Contains set e ↔ Contains l e ⊎ (e ≡ p)) h.same (members e))
+    (indexed_came rows new lists later place p paths (plain_own T source paths rank) c.placed h.ordered m.gap y T refl m.short noted.own (indexed_more rows x y p paths None noted h.indexed))
 
 -- also where the row didn't come, and the prefix went again
-pub as_before : (rows new : List Row) (lists later : List PathKept) (order exits mid set : List Prefix) (T : Tables) (p : Prefix) (source : FibSource) (place : ℕ) → AreFields rows lists order exits → IsArriving rows T p source place → new ≡ rows → later ≡ lists → IsAscending set
-    → ((e : Prefix) → Contains mid e ↔ Contains order e ⊎ (e ≡ p)) → ((e : Prefix) → Contains set e ↔ Contains mid e × (e ≢ p)) → AreFields new later set exits
-as_before rows new lists later order exits mid set T p source place h m rows_are lists_are asc came went =
+pub as_before : (rows new : List Row) (lists later : List PathKept) (order mid set : List Prefix) (x y z : Index) (T : Tables) (p : Prefix) (source : FibSource) (place : ℕ) (paths : List Path) → AreFields rows lists order x → IsArriving rows T p source place
+    → IsNoted x y p paths None → IsForgotten y z p [] None → new ≡ rows → later ≡ lists → IsAscending set → ((e : Prefix) → Contains mid e ↔ Contains order e ⊎ (e ≡ p)) → ((e : Prefix) → Contains set e ↔ Contains mid e × (e ≢ p)) → AreFields new later set z
+as_before rows new lists later order mid set x y z T p source place paths h m noted forgotten rows_are lists_are asc came went =
     let none : Contains order p → ⊥ = λ c. gap_absent (map prefix_of rows) place p m.gap (subst (λ l. Contains l p) h.same c) in
     let same : set ≡ order = set_back order mid set p (subst IsAscending (sym h.same) h.ordered) asc none came went in
-    subst (λ s. AreFields new later s exits) (sym same) (subst (λ l. AreFields new l order exits) (sym lists_are) (subst (λ l. AreFields l lists order exits) (sym rows_are) h))
+    fields_with rows new lists later order set x z h rows_are lists_are same
+    (indexed_less rows y z p [] None forgotten (λ s c e. inl (λ is. gap_absent (map prefix_of rows) place p m.gap (subst (Contains (map prefix_of rows)) is (map_in prefix_of rows s c)))) (λ s c e. none_some s.prefix e)
+    (indexed_more rows x y p paths None noted h.indexed))

@@ -1,4 +1,4 @@
--- When the size stays: the same entries and Hop ends, as where a leaf's list is replaced by another over no interface.
+-- When the size stays: the same entries and Hop ends, as where a leaf's list is replaced by another and its Hop ends are those of other entries too.
 use Rattle.std.proofs.Common.{arith, ◌≡◌, ◌≢◌, ℕ, ◌+◌, Bool, true, false, ◌==◌, List, [], ◌∷◌, ◌++◌, length, inl, inr, refl, sym, ◌∙◌, ap, subst, ◌↔◌}
 use Rattle.std.specs.Prelude.{Contains, flat_map}
 use Rattle.std.specs.List.{list_all, IsDistinct}
@@ -35,11 +35,10 @@ use Rattle.fib_entries.proofs.Listing.{chosen_before, chosen_after}
 pub adjacency_equiv : IsEquivalence same_adjacency
 adjacency_equiv = and_equiv (on_equiv (λ (x : Adjacency). x.interface) nat_eq_equiv) (on_equiv (λ (x : Adjacency). x.next_hop) nat_eq_equiv)
 
-adjacency_with : ℕ → ℕ → Adjacency
+abbrev pub adjacency_with : ℕ → ℕ → Adjacency
 adjacency_with i a = record { interface = i; next_hop = a }
 
 pub adjacency_is : (x y : Adjacency) → same_adjacency x y ≡ true → x ≡ y
-unfolding adjacency_with
 adjacency_is x y h = let both = and_both (x.interface == y.interface) (x.next_hop == y.next_hop) h in
     ap (λ i. adjacency_with i x.next_hop) ((Decides-eqb x.interface y.interface).0 both.0) ∙ ap (adjacency_with y.interface) ((Decides-eqb x.next_hop y.next_hop).0 both.1)
 
@@ -103,46 +102,48 @@ each_plain (x ∷ xs) q h c = let both = and_both (is_plain x) (list_all is_plai
 pub plain_by : (q : Path) → is_plain q ≡ true → plain_kind q.kind ≡ true
 plain_by q h = (and_both (plain_kind q.kind) _ h).0
 
-no_adjacency : (e : Prefix) (k : PathKind) (z : Adjacency) → plain_kind k ≡ true → Contains (kind_adjacency e k) z → ⊥
-no_adjacency e kinds.Drop z h c = Contains-nil z c
-no_adjacency e kinds.Local z h c = Contains-nil z c
-no_adjacency e (kinds.Attached i) z h c = false≢true h
-no_adjacency e (kinds.Hop a i) z h c = false≢true h
-no_adjacency e (kinds.Recursive a) z h c = Contains-nil z c
-no_adjacency e kinds.Cover z h c = false≢true h
+-- the Hop ends of paths
+abbrev pub ends_in : Prefix → List Path → List Adjacency
+ends_in e paths = flat_map (λ q. kind_adjacency e q.kind) paths
 
--- plain paths have no Hop end
-pub none_plain : (U : Tables) (p : Prefix) → list_all is_plain (chosen U p) ≡ true → (z : Adjacency) → Contains (adjacencies_of U p) z → ⊥
-none_plain U p plain z c =
-    let r = flat_map_from (λ q. kind_adjacency p q.kind) (chosen U p) z c in
-    no_adjacency p r.0.kind z (plain_by r.0 (each_plain (chosen U p) r.0 plain r.1)) r.2
+-- the list of an entry outside the part has that Hop end
+abbrev pub HasEnd : Tables → (Prefix → Bool) → Adjacency → Type 0
+HasEnd U part z = (d : Prefix) × (part d ≡ false) × Contains (entries U) d × Contains (adjacencies_of U d) z
+
+pub ends_by : (U : Tables) (e : Prefix) (paths : List Path) → chosen U e ≡ paths → (z : Adjacency) → Contains (adjacencies_of U e) z → Contains (ends_in e paths) z
+ends_by U e paths is z c = subst (λ l. Contains (flat_map (λ q. kind_adjacency e q.kind) l) z) is c
+
+-- outside the part the lists are the same
+pub end_moved : (S T : Tables) (part : Prefix → Bool) → ((e : Prefix) → part e ≡ false → Contains (entries S) e → Contains (entries T) e) → ((e : Prefix) → part e ≡ false → chosen S e ≡ chosen T e)
+    → (z : Adjacency) → HasEnd S part z → HasEnd T part z
+end_moved S T part kept lists z (d, out, there, has) = (d, out, kept d out there, ends_by S d (chosen T d) (lists d out) z has)
 
 ends_half : (S T : Tables) (part : Prefix → Bool) → ((e : Prefix) → part e ≡ false → Contains (entries S) e → Contains (entries T) e) → ((e : Prefix) → part e ≡ false → chosen S e ≡ chosen T e)
-    → ((e : Prefix) → part e ≡ true → (z : Adjacency) → Contains (adjacencies_of S e) z → ⊥) → (z : Adjacency) → Contains (flat_map (adjacencies_of S) (entries S)) z → Contains (flat_map (adjacencies_of T) (entries T)) z
-ends_half S T part kept lists none z c =
+    → ((e : Prefix) → part e ≡ true → (z : Adjacency) → Contains (adjacencies_of S e) z → HasEnd T part z) → (z : Adjacency) → Contains (flat_map (adjacencies_of S) (entries S)) z → Contains (flat_map (adjacencies_of T) (entries T)) z
+ends_half S T part kept lists shared z c =
     let r = flat_map_from (adjacencies_of S) (entries S) z c in
     elim (either (part r.0)) [
-      | inl within ↦ absurd (none r.0 within z r.2)
-      | inr out ↦ Contains-flat_map (adjacencies_of T) (entries T) r.0 z (kept r.0 out r.1) (subst (λ l. Contains (flat_map (λ q. kind_adjacency r.0 q.kind) l) z) (lists r.0 out) r.2)
+      | inl within ↦ (let s = shared r.0 within z r.2 in Contains-flat_map (adjacencies_of T) (entries T) s.0 z s.2 s.3)
+      | inr out ↦ Contains-flat_map (adjacencies_of T) (entries T) r.0 z (kept r.0 out r.1) (ends_by S r.0 (chosen T r.0) (lists r.0 out) z r.2)
     ]
 
--- as many Hop ends where a part alone changes, which has none before and none after
+-- as many Hop ends where a part alone changes, whose Hop ends before and after are those of entries outside it too
 pub adjacencies_same : (S T : Tables) (part : Prefix → Bool) → ((e : Prefix) → part e ≡ false → Contains (entries S) e ↔ Contains (entries T) e) → ((e : Prefix) → part e ≡ false → chosen S e ≡ chosen T e)
-    → ((e : Prefix) → part e ≡ true → (z : Adjacency) → Contains (adjacencies_of S e) z → ⊥) → ((e : Prefix) → part e ≡ true → (z : Adjacency) → Contains (adjacencies_of T e) z → ⊥) → length (adjacencies S) ≡ length (adjacencies T)
+    → ((e : Prefix) → part e ≡ true → (z : Adjacency) → Contains (adjacencies_of S e) z → HasEnd S part z) → ((e : Prefix) → part e ≡ true → (z : Adjacency) → Contains (adjacencies_of T e) z → HasEnd S part z) → length (adjacencies S) ≡ length (adjacencies T)
 unfolding adjacencies
 adjacencies_same S T part same lists before after =
     lengths_same same_adjacency adjacency_equiv adjacency_is (flat_map (adjacencies_of S) (entries S)) (flat_map (adjacencies_of T) (entries T)) (λ z. (
-      ends_half S T part (λ e out. (same e out).0) lists before z,
+      ends_half S T part (λ e out. (same e out).0) lists (λ e within y c. end_moved S T part (λ d out. (same d out).0) lists y (before e within y c)) z,
       ends_half T S part (λ e out. (same e out).1) (λ e out. sym (lists e out)) after z,
     ))
 
--- the same where one prefix alone changes, whose paths are plain before and after
-pub plain_ends : (S T : Tables) (p : Prefix) → ((e : Prefix) → p ≢ e → Contains (entries S) e ↔ Contains (entries T) e) → ((e : Prefix) → p ≢ e → chosen S e ≡ chosen T e)
-    → list_all is_plain (chosen S p) ≡ true → list_all is_plain (chosen T p) ≡ true → length (adjacencies S) ≡ length (adjacencies T)
-plain_ends S T p same lists before after = adjacencies_same S T (same_prefix p) (λ e off. same e (is_not p e off)) (λ e off. lists e (is_not p e off)) (none S before) (none T after)
+-- the same where one prefix alone changes
+pub ends_same : (S T : Tables) (p : Prefix) → ((e : Prefix) → p ≢ e → Contains (entries S) e ↔ Contains (entries T) e) → ((e : Prefix) → p ≢ e → chosen S e ≡ chosen T e)
+    → ((z : Adjacency) → Contains (adjacencies_of S p) z → HasEnd S (same_prefix p) z) → ((z : Adjacency) → Contains (adjacencies_of T p) z → HasEnd S (same_prefix p) z) → length (adjacencies S) ≡ length (adjacencies T)
+ends_same S T p same lists before after = adjacencies_same S T (same_prefix p) (λ e off. same e (is_not p e off)) (λ e off. lists e (is_not p e off)) (own S before) (own T after)
   where
-    none : (U : Tables) → list_all is_plain (chosen U p) ≡ true → (e : Prefix) → same_prefix p e ≡ true → (z : Adjacency) → Contains (adjacencies_of U e) z → ⊥
-    none U plain e own z c = none_plain U p plain z (subst (λ q. Contains (adjacencies_of U q) z) (sym ((same_prefix-Decides p e).0 own)) c)
+    own : (U : Tables) → ((z : Adjacency) → Contains (adjacencies_of U p) z → HasEnd S (same_prefix p) z) → (e : Prefix) → same_prefix p e ≡ true → (z : Adjacency) → Contains (adjacencies_of U e) z → HasEnd S (same_prefix p) z
+    own U shared e is z c = shared z (subst (λ q. Contains (adjacencies_of U q) z) (sym ((same_prefix-Decides p e).0 is)) c)
 
 goal_kind : (U : Tables) (e : Prefix) (k : PathKind) → plain_kind k ≡ true → kind_targets U e k ≡ goal_of k
 goal_kind U e kinds.Drop h = refl
@@ -163,7 +164,7 @@ unfolding targets
 plain_targets U e paths is h = ap (flat_map (λ q. kind_targets U e q.kind)) is ∙ plain_goals U e paths h
 
 module _ (S T : Tables) (p : Prefix) (source : FibSource) (h : IsLeafEdit S T p source []) (was : paths_at p source S.routes ≢ []) (is : paths_at p source T.routes ≢ [])
-    (plain_before : list_all is_plain (paths_at p source S.routes) ≡ true) (plain_after : list_all is_plain (paths_at p source T.routes) ≡ true) where
+    (before : (z : Adjacency) → Contains (ends_in p (paths_at p source S.routes)) z → HasEnd S (same_prefix p) z) (after : (z : Adjacency) → Contains (ends_in p (paths_at p source T.routes)) z → HasEnd S (same_prefix p) z) where
   same_entries : (e : Prefix) → Contains (entries S) e ↔ Contains (entries T) e
   same_entries e = elim (either (same_prefix p e)) [
     | inl own ↦ subst (λ z. Contains (entries S) z ↔ Contains (entries T) z) ((same_prefix-Decides p e).0 own)
@@ -172,5 +173,5 @@ module _ (S T : Tables) (p : Prefix) (source : FibSource) (h : IsLeafEdit S T p 
   ]
 
   pub size_same : size S ≡ size T
-  size_same = size_alike S T same_entries (plain_ends S T p (entry_same S T p source h) (λ e off. chosen_same S T p source [] h e (outside p e off))
-      (ap (list_all is_plain) (chosen_before S T p source [] h) ∙ plain_before) (ap (list_all is_plain) (chosen_after S T p source [] h) ∙ plain_after))
+  size_same = size_alike S T same_entries (ends_same S T p (entry_same S T p source h) (λ e off. chosen_same S T p source [] h e (outside p e off))
+      (λ z c. before z (ends_by S p (paths_at p source S.routes) (chosen_before S T p source [] h) z c)) (λ z c. after z (ends_by T p (paths_at p source T.routes) (chosen_after S T p source [] h) z c)))

@@ -1,4 +1,4 @@
--- What a change of a route makes another where nothing leads to its prefix and nothing lies in it: its own entry, and the hosts of late
+-- What a change of a route makes another where nothing leads to its prefix and no host lies in it: its own entry, and the hosts of late
 -- next hops, which no other route has.
 use Rattle.std.proofs.Common.{arith, ◌≡◌, ◌≢◌, ℕ, zero, suc, ◌<◌, ◌^◌, Bool, true, false, not, ◌||◌, ◌&&◌, ◌==◌, List, [], ◌∷◌, ◌++◌, map, Option, Some, None, ◌⊎◌, inl, inr, refl, sym, ◌∙◌, ap, subst, ◌↔◌}
 use Rattle.std.specs.Prelude.{Contains, flat_map, nat_lt, find, option_map, filter_map, IfSome, is_some}
@@ -418,7 +418,7 @@ module _ (S T : Tables) (p : Prefix) (source : FibSource) (late : List ℕ) (h :
   none_before a away x c is =
       let e = entry_of_pair S x (host a) c is in
       elim away [
-        | inl inside ↦ h.alone (host a) e inside h.short
+        | inl inside ↦ h.alone a e inside
         | inr beyond ↦ beyond (h.real (host a) e).fits
       ]
 

@@ -1,11 +1,11 @@
 -- A leaf that goes: what is known stands for the tables afterwards.
-use Rattle.std.proofs.Common.{arith, ◌≡◌, ◌≢◌, ℕ, ◌+◌, ◌-◌, ◌<◌, ◌≤◌, ◌^◌, Bool, true, false, ◌==◌, List, [], ◌∷◌, map, Some, inl, inr, refl, sym, ◌∙◌, ap, subst, slice_get, ◌↔◌, if◌then◌else◌}
+use Rattle.std.proofs.Common.{arith, ◌≡◌, ◌≢◌, ℕ, ◌+◌, ◌-◌, ◌<◌, ◌≤◌, ◌^◌, Bool, true, false, ◌==◌, List, [], ◌∷◌, map, Some, None, inl, inr, refl, sym, ◌∙◌, ap, subst, slice_get, ◌↔◌, if◌then◌else◌}
 use Rattle.std.specs.Prelude.{Contains, IsSome, min, filter_map}
 use Rattle.std.specs.List.{list_all, remove}
 use Rattle.std.proofs.lemmas.Bool.{false≢true, cases_lt}
 use Rattle.std.proofs.lemmas.Bool.Decides.{Decides-eqb}
 use Rattle.fib_list.proofs.Lists.{Contains-nil}
-use Rattle.fib_addr.specs.Prefixes.{Prefix, IsPrefix, contains}
+use Rattle.fib_addr.specs.Prefixes.{Prefix, IsPrefix, same_prefix}
 use Rattle.fib_cover.specs.Covers.{ArePrefixes, IsAscending}
 use Rattle.fib_resolve.specs.Edits.{paths_at}
 use Rattle.fib_resolve.specs.Loops.{targets}
@@ -20,29 +20,31 @@ use Rattle.fib_changes.specs.Differ.{Differ}
 use Rattle.fib_changes.specs.declared.change.Change.TheVariants as changes
 use Rattle.fib_changes.proofs.SamePairs.{map_from, from_origin, base}
 use Rattle.fib_interned.specs.Interned.{AreInterned, kept_of}
-use Rattle.fib_interned.proofs.Finding.{some_is, contains_at}
+use Rattle.fib_interned.proofs.Finding.{some_is, none_some, contains_at}
 use Rattle.fib_entries.specs.Known.{PathKept, Known, content_of, prefix_of, rank_of, rank_in, IsRow, StandsFor, holders}
 use Rattle.fib_entries.specs.Changes.{AreTouched, AreMoved}
-use Rattle.fib_entries.specs.inner.Fields.{AreCounted, AreFields}
+use Rattle.fib_entries.specs.inner.Fields.{AreCounted, AreFields, Index, IsForgotten}
 use Rattle.fib_entries.specs.inner.Going.{IsLeaving, IsWithdrawn, HasLeft}
 use Rattle.fib_entries.specs.inner.Leaf.{IsLeafEdit, IsFollowed, IsButFor, goals_of, is_plain, moved_at}
 use Rattle.fib_entries.specs.inner.Plies.{own_size, entry_at, entry_before, before_of, IsGap}
 use Rattle.fib_entries.specs.declared.changes.Followed.{Followed}
 use Rattle.fib_entries.specs.Rows.{Row}
+use Rattle.fib_entries.proofs.Exits.{indexed_less}
 use Rattle.fib_entries.proofs.Growing.{IsGrown, size_more}
 use Rattle.fib_entries.proofs.LeafRows.{IsLeafMade, entry_same, entry_own, entry_was, stands_leaf, touched_leaf, moved_leaf, still_leaf}
 use Rattle.fib_entries.proofs.PartRows.{row_by, no_row}
-use Rattle.fib_entries.proofs.LeafSizes.{plain_targets}
-use Rattle.fib_entries.proofs.Leafing.{chosen_same, from_route, outside}
+use Rattle.fib_entries.proofs.HopEnds.{ends_shared}
+use Rattle.fib_entries.proofs.LeafSizes.{plain_targets, ends_by, end_moved}
+use Rattle.fib_entries.proofs.Leafing.{chosen_same, from_route, is_not, outside}
 use Rattle.fib_entries.proofs.Listing.{source_of_route, own_before, own_after, chosen_before, chosen_after, counted_own, counted_none, holders_are}
 use Rattle.fib_entries.proofs.Naming.{some_content}
 use Rattle.fib_entries.proofs.Owning.{owned_all, owned_list, owned_some}
 use Rattle.fib_entries.proofs.Placing.{gap_removed, size_gone}
-use Rattle.fib_entries.proofs.Ready.{alone_row}
+use Rattle.fib_entries.proofs.Ready.{clear_alone}
 use Rattle.fib_entries.proofs.Replacing.{counted_by}
 use Rattle.fib_entries.proofs.Sharing.{led_by, path_there}
 use Rattle.fib_entries.proofs.Using.{once, counted_given, given_stays}
-use Rattle.fib_entries.proofs.Withdrawing.{order_at, names_gone, ordered_gone, but_for, row_left, row_was, fields_gone}
+use Rattle.fib_entries.proofs.Withdrawing.{order_at, names_gone, ordered_gone, but_for, row_left, row_was, indexed_gone, fields_gone}
 
 module _ (v : Known) (S T : Tables) (p : Prefix) (source : FibSource) (place id : ℕ) (old : List Path) (k : StandsFor v S) (m : IsLeaving v.rows v.lists T p source place id old) (differ : Differ (changes.Route p source ∷ []) S T) (after : IsSound T) where
   own_there : Contains v.rows m.row
@@ -71,9 +73,8 @@ module _ (v : Known) (S T : Tables) (p : Prefix) (source : FibSource) (place id 
     prefix = m.prefix;
     short = m.short;
     real = λ q c. (let r = real_entry q c in subst IsPrefix r.2 (k.rows r.0 r.1).prefix);
-    alone = λ q c inside longer. (let r = real_entry q c in
-        alone_row v.rows k.ordered place m.row p m.at m.own m.prefix (λ s there. m.next s (subst (λ n. slice_get v.rows n ≡ Some s) (omega arith) there)) r.0 r.1 (subst (λ z. contains p z.bits ≡ true) (sym r.2) inside) (subst (λ z. p.len < z.len) (sym r.2) longer));
-    far = m.far;
+    alone = λ a c inside. clear_alone v S p T.neighbors k m.clear a c inside;
+    far = m.clear.far;
     written = m.written;
     only = λ x c at. (all_own x c at).0;
     leaf = λ d c. Contains-nil d (subst (λ l. Contains l d) m.none ((own_row.dependants d).1 (subst (Contains (targets S d)) (sym m.own) c)));
@@ -155,7 +156,8 @@ module _ (v w : Known) (S T : Tables) (p : Prefix) (source : FibSource) (place i
     lacks = λ c. (entry_own S T p source [] h).0 c m.gone;
     has = entry_was S T p source [] h (some_was v S T p source place id old k m differ after);
     lists = λ e off. sym (chosen_same S T p source [] h e (outside p e off));
-    plain = ap (list_all is_plain) (chosen_before S T p source [] h ∙ list_was v S T p source place id old k m differ after) ∙ m.plain;
+    shared = λ z c. end_moved S T (same_prefix p) (λ e off. (entry_same S T p source h e (is_not p e off)).0) (λ e off. chosen_same S T p source [] h e (outside p e (is_not p e off))) z
+        (ends_shared v S k p m.short old m.shared z (ends_by S p old (chosen_before S T p source [] h ∙ list_was v S T p source place id old k m differ after) z c));
   }
 
   size_law : size S ≡ size T + own_size p (before_of (map prefix_of w.rows) place) (slice_get (map prefix_of w.rows) place)
@@ -221,11 +223,13 @@ followed_gone v w T p source place id old most f m apart c count below le after 
     followed_by v w S T p source place id old most k m differ after apart r count below f le c.touched (c.moved m.row m.at)
 
 -- and the fields still fit together
-pub left_fields : (rows new : List Row) (lists later : List PathKept) (order exits set : List Prefix) (T : Tables) (p : Prefix) (source : FibSource) (place id : ℕ) (old paths : List Path) (f : Followed)
-    → AreFields rows lists order exits → IsLeaving rows lists T p source place id old → HasLeft rows new lists later place p id paths f → IsAscending set → ((e : Prefix) → Contains set e ↔ Contains order e × (e ≢ p)) → AreFields new later set exits
-left_fields rows new lists later order exits set T p source place id old paths f h m c asc members =
-    fields_gone rows new lists later place p id (goals_of c.before) (goals_of paths) c.withdrawn h.ordered m.row m.at m.own c.before h.named source m.pairs c.content set exits asc
-    (λ e. subst (λ l. Contains set e ↔ Contains l e × (e ≢ p)) h.same (members e)) h.out m.inside
+pub left_fields : (rows new : List Row) (lists later : List PathKept) (order set : List Prefix) (x y : Index) (T : Tables) (p : Prefix) (source : FibSource) (place id : ℕ) (old paths : List Path) (f : Followed)
+    → AreFields rows lists order x → IsLeaving rows lists T p source place id old → HasLeft rows new lists later place p id paths f → IsForgotten x y p [] None → IsAscending set → ((e : Prefix) → Contains set e ↔ Contains order e × (e ≢ p)) → AreFields new later set y
+left_fields rows new lists later order set x y T p source place id old paths f h m c forgotten asc members =
+    fields_gone rows new lists later place p id (goals_of c.before) (goals_of paths) c.withdrawn h.ordered m.row m.at m.own c.before h.named source m.pairs c.content set y asc
+    (λ e. subst (λ l. Contains set e ↔ Contains l e × (e ≢ p)) h.same (members e))
+    (indexed_less new x y p [] None forgotten (λ s k e. inl (λ same. (row_left rows new lists later place p id (goals_of c.before) (goals_of paths) c.withdrawn h.ordered m.row m.at m.own s k).0 (sym same))) (λ s k e. none_some s.prefix e)
+    (indexed_gone rows new lists later place p id (goals_of c.before) (goals_of paths) c.withdrawn h.ordered m.row m.at m.own x h.indexed))
 
 pub leaving_kept : (rows : List Row) (lists : List PathKept) (T : Tables) (p : Prefix) (source : FibSource) (place id : ℕ) (old : List Path) → IsLeaving rows lists T p source place id old → IsSome (kept_of lists id)
 leaving_kept rows lists T p source place id old m = some_content (kept_of lists id) old m.content

@@ -25,6 +25,7 @@ pub mod LeafRows
 pub mod PartRows
 pub mod Putting
 pub mod LeafSizes
+pub mod HopEnds
 pub mod Linking
 pub mod Holding
 pub mod Housing

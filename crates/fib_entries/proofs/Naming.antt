@@ -1,5 +1,5 @@
 -- Each list that a row names is kept, also after one row's list was replaced.
-use Rattle.std.proofs.Common.{arith, ◌≡◌, ◌≢◌, ℕ, ◌+◌, Bool, true, false, List, [], ◌∷◌, map, Option, Some, None, inl, inr, refl, sym, ◌∙◌, ap, subst, slice_get, cond}
+use Rattle.std.proofs.Common.{arith, ◌≡◌, ◌≢◌, ℕ, ◌+◌, Bool, true, false, List, [], ◌∷◌, map, Option, Some, None, ◌⊎◌, inl, inr, refl, sym, ◌∙◌, ap, subst, slice_get, cond}
 use Rattle.std.specs.Prelude.{Contains, IsSome, option_map}
 use Rattle.std.specs.Cmp.Lexicographic.{pointwise}
 use Rattle.fib_list.proofs.Lists.{Contains-nil}
@@ -126,6 +126,22 @@ module _ (old new : List Row) (lists later : List PathKept) (place : ℕ) (p : P
     counted = counted_given r.between later before id low_content r.given r.apart_after (λ paths. count_in n.pairs paths + once after paths) (count_in (pair_of p own.source after ∷ without gone.0 n.pairs)) low_counted step;
     each = named_each;
   }
+
+  -- each row is that one or one of the others
+  pub replaced_from : (s : Row) → Contains new s → ((s.prefix ≡ p) × (s.pairs ≡ (own.source, r.new_id) ∷ []) × (s.marked ≡ own.marked))
+      ⊎ ((p ≢ s.prefix) × (q : Row) × Contains old q × (s.prefix ≡ q.prefix) × (s.pairs ≡ q.pairs) × (s.marked ≡ q.marked))
+  replaced_from s c = elim (set_from r.low place (settled r.new_id own low_own.0) s (subst (λ l. Contains l s) (r.set low_own.0 low_own.1) c)) [
+    | inl same ↦ inl (ap (λ z. z.prefix) (sym same) ∙ low_own.2, ap (λ z. z.pairs) (sym same), ap (λ z. z.marked) (sym same))
+    | inr (j, off, there) ↦ (let y = zip_from _ r.mid r.low r.detached s (contains_at r.low j s there) in
+        let x = zip_from _ old r.mid r.attached y.0 y.1 in inr (
+          λ e. off (one_place prefix_of r.low (subst IsAscending (sym low_names) asc) j place s low_own.0 there low_own.1 (sym e ∙ sym low_own.2)),
+          x.0,
+          x.1,
+          y.2.0.prefix ∙ x.2.0.prefix,
+          y.2.0.pairs ∙ x.2.0.pairs,
+          y.2.0.marked ∙ x.2.0.marked,
+        ))
+  ]
 
   pub replaced_names : map prefix_of new ≡ map prefix_of old
   replaced_names = names_same

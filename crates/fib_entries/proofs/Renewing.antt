@@ -31,7 +31,7 @@ use Rattle.fib_entries.specs.Known.{PathKept, Known, prefix_of, rank_of, ArePair
 use Rattle.fib_entries.specs.Changes.{AreTouched, AreMoved}
 use Rattle.fib_entries.specs.Rows.{Row}
 use Rattle.fib_entries.specs.declared.changes.Followed.{Followed}
-use Rattle.fib_entries.specs.inner.Fields.{AreFields}
+use Rattle.fib_entries.specs.inner.Fields.{AreFields, Index}
 use Rattle.fib_entries.specs.declared.ends.News.{News}
 use Rattle.fib_entries.specs.declared.ends.News.TheVariants as news
 use Rattle.fib_entries.specs.inner.Ends.{IsEndEdit, aim_over, aim_at, is_mac, has_flag, has_mac, with_counts, with_aim, renewed, is_old, is_old_row, renewed_row, mapped}
@@ -39,7 +39,7 @@ use Rattle.fib_entries.specs.inner.Leaf.{IsFollowed}
 use Rattle.fib_entries.proofs.Anew.{filter_differ}
 use Rattle.fib_entries.proofs.Comparing.{map_same}
 use Rattle.fib_entries.proofs.Ending.{same_entry, chosen_same, targets_same, looped_kind_same, kind_met_same, falls_same, entry_same, holders_same, size_same, pairs_same}
-use Rattle.fib_entries.proofs.Exits.{exits_renewed}
+use Rattle.fib_entries.proofs.Exits.{IsIn, exit_renewed, in_alike, in_index, indexed_each}
 use Rattle.fib_entries.proofs.Following.{known}
 use Rattle.fib_entries.proofs.Touches.{ascending_differ}
 
@@ -168,8 +168,8 @@ abbrev pub renewed_in : News → Known → Known
 renewed_in n v = known (map (renewed_row n) v.rows) v.lists v.objects
 
 -- the fields still fit together
-pub fields_renewed : (rows : List Row) (lists : List PathKept) (order exits : List Prefix) (n : News) → AreFields rows lists order exits → AreFields (map (renewed_row n) rows) lists order exits
-fields_renewed rows lists order exits n h = record {
+pub fields_renewed : (rows : List Row) (lists : List PathKept) (order : List Prefix) (x : Index) (n : News) → AreFields rows lists order x → AreFields (map (renewed_row n) rows) lists order x
+fields_renewed rows lists order x n h = record {
   held = λ r p c k. (let m = map_from (renewed_row n) rows r c in h.held m.0 p m.1 (subst (λ (z : Row). Contains z.pairs p) (sym m.2) k));
   named = record {
     pairs = h.named.pairs;
@@ -180,7 +180,7 @@ fields_renewed rows lists order exits n h = record {
   };
   ordered = subst IsAscending (sym (renewed_names n rows)) h.ordered;
   same = h.same ∙ sym (renewed_names n rows);
-  out = h.out ∙ sym (exits_renewed n rows);
+  indexed = indexed_each (map (renewed_row n) rows) x (λ s c. (let m = map_from (renewed_row n) rows s c in subst (IsIn x) m.2 (in_alike x m.0 (renewed_row n m.0) (in_index rows x h.indexed m.0 m.1) refl refl (exit_renewed n m.0))));
 }
 
 module _ (v : Known) (S T : Tables) (k : StandsFor v S) (h : IsEndEdit S T) (n : News) (mark_after : (e : Prefix) (p : Path) → renewed n (marked S e p) ≡ marked T e p)

@@ -1,9 +1,10 @@
 -- A leaf's list replaced by another: what is known stands for the tables afterwards.
-use Rattle.std.proofs.Common.{arith, ◌≡◌, ◌≢◌, ℕ, zero, suc, ◌+◌, ◌-◌, ◌<◌, ◌^◌, Bool, true, false, not, ◌&&◌, List, [], ◌∷◌, map, Some, ◌⊎◌, inl, inr, refl, sym, ◌∙◌, ap, subst, slice_get, ◌↔◌}
+use Rattle.std.proofs.Common.{arith, ◌≡◌, ◌≢◌, ℕ, zero, suc, ◌+◌, ◌-◌, ◌<◌, ◌^◌, Bool, true, false, not, ◌&&◌, List, [], ◌∷◌, map, Some, ◌⊎◌, inl, inr, refl, sym, ◌∙◌, ap, subst, slice_get, ◌↔◌, if◌then◌else◌}
 use Rattle.std.specs.Prelude.{Contains, slice_set, min}
 use Rattle.std.specs.List.{list_all}
 use Rattle.std.specs.Cmp.Lexicographic.{pointwise}
 use Rattle.std.proofs.lemmas.Bool.{false≢true}
+use Rattle.std.proofs.lemmas.Bool.Decides.{Decides-eqb}
 use Rattle.fib_list.proofs.Lists.{either, Contains-nil}
 use Rattle.fib_list.proofs.Booleans.{and_both}
 use Rattle.fib_addr.specs.Prefixes.{Prefix, same_prefix, host}
@@ -15,9 +16,13 @@ use Rattle.fib_resolve.specs.Pairs.{pairs}
 use Rattle.fib_resolve.specs.Loops.{targets, looped, looped_kind}
 use Rattle.fib_resolve.specs.Forwarding.{is_met}
 use Rattle.fib_resolve.specs.Aims.{marked, marked_list, kind_aim, kind_counts}
+use Rattle.fib_resolve.specs.Resolution.{hop_end}
 use Rattle.fib_resolve.specs.Tables.{IsSound}
 use Rattle.fib_resolve.specs.declared.aims.Aim.{Aim}
+use Rattle.fib_resolve.specs.declared.aims.Aim.TheVariants as aims
 use Rattle.fib_resolve.specs.declared.aims.Marked.{Marked}
+use Rattle.fib_resolve.specs.declared.pairs.Adjacency.{Adjacency}
+use Rattle.fib_resolve.specs.declared.types.End.TheVariants as answers
 use Rattle.fib_resolve.specs.declared.types.Need.{Need}
 use Rattle.fib_resolve.specs.declared.types.Need.TheVariants as needs
 use Rattle.fib_resolve.specs.declared.types.Path.{Path}
@@ -33,29 +38,33 @@ use Rattle.fib_interned.specs.Interned.{AreInterned}
 use Rattle.fib_interned.proofs.Finding.{none_some, contains_at}
 use Rattle.fib_entries.specs.Known.{Known, content_of, prefix_of, rank_of, rank_in, IsRow, StandsFor, holders, kind_met}
 use Rattle.fib_entries.specs.inner.Fields.{AreCounted}
-use Rattle.fib_entries.specs.inner.Leaf.{IsLeafEdit, IsReady, IsReplaced, IsButFor, goals_of, goal_of, is_plain, plain_kind, plain_mark, plain_aim, plain_counts, own_row}
+use Rattle.fib_entries.specs.inner.Leaf.{IsLeafEdit, IsReady, IsReplaced, IsButFor, goals_of, goal_of, is_plain, plain_kind, plain_mark, plain_aim, plain_counts, own_row, shared_path}
 use Rattle.fib_entries.specs.Rows.{Row}
 use Rattle.fib_entries.proofs.Counting.{counts_have, counts_some}
 use Rattle.fib_entries.proofs.Leafing.{unlooped, leaf_after, entry_of_pair}
 use Rattle.fib_entries.proofs.LeafRows.{IsLeafMade}
 use Rattle.fib_entries.proofs.PartRows.{row_by}
-use Rattle.fib_entries.proofs.LeafSizes.{size_same, each_plain, plain_targets}
+use Rattle.fib_entries.proofs.HopEnds.{ends_shared}
+use Rattle.fib_entries.proofs.LeafSizes.{HasEnd, ends_in, size_same, each_plain, plain_targets}
 use Rattle.fib_entries.proofs.Linking.{zip_at, zip_from, attached_names, detached_names, set_names, but_then}
 use Rattle.fib_entries.proofs.Listing.{own_before, own_after, own_list, own_there, chosen_before, chosen_after, holders_are, counted_own, pair_of}
 use Rattle.fib_entries.proofs.Looking.{one_place}
 use Rattle.fib_entries.proofs.Ready.{ready_edit, list_before, some_before}
 use Rattle.fib_entries.proofs.Taking.{list_is, list_self}
 use Rattle.fib_entries.proofs.Using.{once, counted_taken, counted_given, taken_stays, given_stays, content_taken}
-use Rattle.std.specs.Prelude.{◌==◌}
+use Rattle.std.specs.Prelude.{◌==◌, if◌then◌else◌}
 
 -- marks of plain paths
-aim_is : (T : Tables) (e : Prefix) (k : PathKind) → plain_kind k ≡ true → plain_aim k ≡ kind_aim T e k
-aim_is T e kinds.Drop h = refl
-aim_is T e kinds.Local h = refl
-aim_is T e (kinds.Attached i) h = absurd (false≢true h)
-aim_is T e (kinds.Hop a i) h = absurd (false≢true h)
-aim_is T e (kinds.Recursive a) h = refl
-aim_is T e kinds.Cover h = absurd (false≢true h)
+aim_is : (T : Tables) (e : Prefix) (k : PathKind) → e.len < 32 → plain_kind k ≡ true → plain_aim T k ≡ kind_aim T e k
+aim_is T e kinds.Drop short h = refl
+aim_is T e kinds.Local short h = refl
+aim_is T e (kinds.Attached i) short h = elim (either (e.len == 32)) [
+  | inl is ↦ absurd (let n = (Decides-eqb e.len 32).0 is in omega (arith, n, short))
+  | inr isnt ↦ sym (ap (λ b. aims.Ends (if b then hop_end T i e.bits else answers.Glean i)) isnt)
+]
+aim_is T e (kinds.Hop a i) short h = refl
+aim_is T e (kinds.Recursive a) short h = refl
+aim_is T e kinds.Cover short h = absurd (false≢true h)
 
 met_any : (T : Tables) (n : Need) (a : ℕ) → (need_rank n == 0) ≡ true → is_met T n a ≡ true
 met_any T needs.Any a h = refl
@@ -70,11 +79,11 @@ met_is T n (kinds.Hop a i) h = refl
 met_is T n (kinds.Recursive a) h = sym (met_any T n a h)
 met_is T n kinds.Cover h = refl
 
-counts_is : (T : Tables) (e : Prefix) (n : Need) (k : PathKind) → plain_kind k ≡ true → (need_rank n == 0) ≡ true → ((a : ℕ) → looped T e a ≡ false) → plain_counts k ≡ kind_counts T e n k
+counts_is : (T : Tables) (e : Prefix) (n : Need) (k : PathKind) → plain_kind k ≡ true → (need_rank n == 0) ≡ true → ((a : ℕ) → looped T e a ≡ false) → plain_counts T k ≡ kind_counts T e n k
 counts_is T e n kinds.Drop h m l = refl
 counts_is T e n kinds.Local h m l = refl
-counts_is T e n (kinds.Attached i) h m l = absurd (false≢true h)
-counts_is T e n (kinds.Hop a i) h m l = absurd (false≢true h)
+counts_is T e n (kinds.Attached i) h m l = refl
+counts_is T e n (kinds.Hop a i) h m l = refl
 counts_is T e n (kinds.Recursive a) h m l = sym (ap (λ b. not b && is_met T n a) (l a) ∙ met_any T n a m)
 counts_is T e n kinds.Cover h m l = absurd (false≢true h)
 
@@ -89,10 +98,10 @@ loop_is T e kinds.Cover l = refl
 mark_with : Aim → Bool → Path → Marked
 mark_with m b q = record { aim = m; counts = b; weight = q.weight; preference = q.preference }
 
-pub mark_is : (T : Tables) (e : Prefix) (q : Path) → is_plain q ≡ true → ((a : ℕ) → looped T e a ≡ false) → plain_mark q ≡ marked T e q
+pub mark_is : (T : Tables) (e : Prefix) (q : Path) → e.len < 32 → is_plain q ≡ true → ((a : ℕ) → looped T e a ≡ false) → plain_mark T q ≡ marked T e q
 unfolding mark_with
-mark_is T e q h l = let both = and_both (plain_kind q.kind) (need_rank q.need == 0) h in
-    ap (λ m. mark_with m (plain_counts q.kind) q) (aim_is T e q.kind both.0) ∙ ap (λ b. mark_with (kind_aim T e q.kind) b q) (counts_is T e q.need q.kind both.0 both.1 l)
+mark_is T e q short h l = let both = and_both (plain_kind q.kind) (need_rank q.need == 0) h in
+    ap (λ m. mark_with m (plain_counts T q.kind) q) (aim_is T e q.kind short both.0) ∙ ap (λ b. mark_with (kind_aim T e q.kind) b q) (counts_is T e q.need q.kind both.0 both.1 l)
 
 pub maps_same : {X Y : Type 0} (f g : X → Y) (xs : List X) → ((x : X) → Contains xs x → f x ≡ g x) → map f xs ≡ map g xs
 maps_same f g [] h = refl
@@ -143,7 +152,7 @@ counted_by v S k apart = record {
 }
 
 module _ (v w : Known) (S T : Tables) (p : Prefix) (source : FibSource) (place id new_id : ℕ) (old : List Path) (rank : ℕ) (k : StandsFor v S) (m : IsReady v.rows v.lists T p source place id old)
-    (differ : Differ (changes.Route p source ∷ []) S T) (after : IsSound T) (apart : AreInterned v.lists) (r : IsReplaced v w p source place id new_id old (paths_at p source T.routes) rank) where
+    (differ : Differ (changes.Route p source ∷ []) S T) (after : IsSound T) (apart : AreInterned v.lists) (r : IsReplaced v w T p source place id new_id old (paths_at p source T.routes) rank) where
   new : List Path
   new = paths_at p source T.routes
 
@@ -200,21 +209,21 @@ module _ (v w : Known) (S T : Tables) (p : Prefix) (source : FibSource) (place i
   low_own : (s : Row) × (slice_get r.low place ≡ Some s) × (IsButFor p mid_own.0 s × (Contains s.dependants p ↔ Contains mid_own.0.dependants p × (Contains (goals_of old) mid_own.0.prefix → Contains (goals_of (paths_at p source T.routes)) mid_own.0.prefix)))
   low_own = zip_at _ r.mid r.low place mid_own.0 r.detached mid_own.1
 
-  set : w.rows ≡ slice_set r.low place (own_row p source new_id (paths_at p source T.routes) rank low_own.0.dependants)
+  set : w.rows ≡ slice_set r.low place (own_row T p source new_id (paths_at p source T.routes) rank low_own.0.dependants)
   set = r.set low_own.0 low_own.1
 
   low_prefix : low_own.0.prefix ≡ p
   low_prefix = low_own.2.0.prefix ∙ mid_own.2.0.prefix ∙ m.own
 
   names : map prefix_of w.rows ≡ map prefix_of v.rows
-  names = ap (map prefix_of) set ∙ (set_names r.low place low_own.0 (own_row p source new_id (paths_at p source T.routes) rank low_own.0.dependants) low_own.1 (sym low_prefix)
+  names = ap (map prefix_of) set ∙ (set_names r.low place low_own.0 (own_row T p source new_id (paths_at p source T.routes) rank low_own.0.dependants) low_own.1 (sym low_prefix)
       ∙ (detached_names p (goals_of old) (goals_of (paths_at p source T.routes)) r.mid r.low r.detached ∙ attached_names p (goals_of (paths_at p source T.routes)) v.rows r.mid r.attached))
 
   ordered_low : IsAscending (map prefix_of r.low)
   ordered_low = subst IsAscending (sym (detached_names p (goals_of old) (goals_of (paths_at p source T.routes)) r.mid r.low r.detached ∙ attached_names p (goals_of (paths_at p source T.routes)) v.rows r.mid r.attached)) k.ordered
 
-  row_from : (s : Row) → Contains w.rows s → (own_row p source new_id (paths_at p source T.routes) rank low_own.0.dependants ≡ s) ⊎ ((p ≢ s.prefix) × Contains r.low s)
-  row_from s c = elim (set_from r.low place (own_row p source new_id (paths_at p source T.routes) rank low_own.0.dependants) s (subst (λ l. Contains l s) set c)) [
+  row_from : (s : Row) → Contains w.rows s → (own_row T p source new_id (paths_at p source T.routes) rank low_own.0.dependants ≡ s) ⊎ ((p ≢ s.prefix) × Contains r.low s)
+  row_from s c = elim (set_from r.low place (own_row T p source new_id (paths_at p source T.routes) rank low_own.0.dependants) s (subst (λ l. Contains l s) set c)) [
     | inl is ↦ inl is
     | inr (j, off, at) ↦ inr ((λ is. off (one_place prefix_of r.low ordered_low j place s low_own.0 at low_own.1 (sym is ∙ sym low_prefix))), contains_at r.low j s at)
   ]
@@ -258,7 +267,7 @@ module _ (v w : Known) (S T : Tables) (p : Prefix) (source : FibSource) (place i
         ])
   ]
 
-  own_is_row : IsRow w.lists T (own_row p source new_id (paths_at p source T.routes) rank low_own.0.dependants)
+  own_is_row : IsRow w.lists T (own_row T p source new_id (paths_at p source T.routes) rank low_own.0.dependants)
   unfolding marked_list pair_of
   own_is_row = record {
     prefix = m.prefix;
@@ -278,7 +287,7 @@ module _ (v w : Known) (S T : Tables) (p : Prefix) (source : FibSource) (place i
     looped = maps_same (λ q. false) (λ q. looped_kind T p q.kind) (paths_at p source T.routes) (λ q c. loop_is T p q.kind (unlooped S T p source [] h)) ∙ ap (map (λ q. looped_kind T p q.kind)) (sym (chosen_after S T p source [] h));
     met = maps_same (λ q. true) (λ q. kind_met T q.need q.kind) (paths_at p source T.routes) (λ q c. met_is T q.need q.kind (and_both (plain_kind q.kind) (need_rank q.need == 0) (each_plain (paths_at p source T.routes) q m.plain_after c)).1)
         ∙ ap (map (λ q. kind_met T q.need q.kind)) (sym (chosen_after S T p source [] h));
-    marked = maps_same plain_mark (marked T p) (paths_at p source T.routes) (λ q c. mark_is T p q (each_plain (paths_at p source T.routes) q m.plain_after c) (unlooped S T p source [] h)) ∙ ap (map (marked T p)) (sym (chosen_after S T p source [] h));
+    marked = maps_same (plain_mark T) (marked T p) (paths_at p source T.routes) (λ q c. mark_is T p q m.short (each_plain (paths_at p source T.routes) q m.plain_after c) (unlooped S T p source [] h)) ∙ ap (map (marked T p)) (sym (chosen_after S T p source [] h));
     dependants = λ d. (λ c. absurd (none_own d c), λ c. absurd (leaf_after S T p source [] h d c));
     dependants_once = low_own.2.0.once (mid_own.2.0.once (k.rows m.row (contains_at v.rows place m.row m.at)).dependants_once);
   }
@@ -295,17 +304,17 @@ module _ (v w : Known) (S T : Tables) (p : Prefix) (source : FibSource) (place i
       paths_is : paths_at p source T.routes ≡ (pair_of p source (paths_at p source T.routes)).paths
       paths_is = refl
 
-  there_own : Contains w.rows (own_row p source new_id (paths_at p source T.routes) rank low_own.0.dependants)
-  there_own = subst (λ l. Contains l (own_row p source new_id (paths_at p source T.routes) rank low_own.0.dependants)) (sym set) (set_in r.low place (own_row p source new_id (paths_at p source T.routes) rank low_own.0.dependants) low_own.0 low_own.1)
+  there_own : Contains w.rows (own_row T p source new_id (paths_at p source T.routes) rank low_own.0.dependants)
+  there_own = subst (λ l. Contains l (own_row T p source new_id (paths_at p source T.routes) rank low_own.0.dependants)) (sym set) (set_in r.low place (own_row T p source new_id (paths_at p source T.routes) rank low_own.0.dependants) low_own.0 low_own.1)
 
   ordered : IsAscending (map prefix_of w.rows)
   ordered = subst IsAscending (sym names) k.ordered
 
   pub rank_own : rank_of w.rows p ≡ rank
-  rank_own = ap rank_in (row_by w.rows ordered p (own_row p source new_id (paths_at p source T.routes) rank low_own.0.dependants) there_own refl)
+  rank_own = ap rank_in (row_by w.rows ordered p (own_row T p source new_id (paths_at p source T.routes) rank low_own.0.dependants) there_own refl)
 
-  pub plain_was : list_all is_plain (paths_at p source S.routes) ≡ true
-  plain_was = ap (list_all is_plain) (list_before v S T p source place id old k m differ after) ∙ m.plain_before
+  pub shared_was : (z : Adjacency) → Contains (ends_in p (paths_at p source S.routes)) z → HasEnd S (same_prefix p) z
+  shared_was = ends_shared v S k p m.short (paths_at p source S.routes) (ap (list_all (shared_path v.rows p)) (list_before v S T p source place id old k m differ after) ∙ m.shared_before)
 
   pub made_leaf : IsLeafMade v w T p source
   made_leaf = record {
@@ -314,10 +323,10 @@ module _ (v w : Known) (S T : Tables) (p : Prefix) (source : FibSource) (place i
       same = λ e off. (λ c. subst (λ l. Contains l e) (sym names) c, λ c. subst (λ l. Contains l e) names c);
       rows = relinked;
     };
-    there = (λ c. m.some, λ c. map_in prefix_of w.rows (own_row p source new_id (paths_at p source T.routes) rank low_own.0.dependants) there_own);
+    there = (λ c. m.some, λ c. map_in prefix_of w.rows (own_row T p source new_id (paths_at p source T.routes) rank low_own.0.dependants) there_own);
     own = λ s c is. elim (row_from s c) [ inl same ↦ subst (IsRow w.lists T) same own_is_row | inr (away, there) ↦ absurd (away is) ];
     rank = λ t c. (let lt = r.above t (subst (λ l. Contains l t) goals c) in let e = rank_own in omega (arith, lt, e));
     counted = counted;
     stays = stays;
-    objects = r.objects ∙ (k.objects ∙ ap (λ n. min n (2 ^ 32 - 1)) (size_same S T p source h (some_before v S T p source place id old k m differ after) m.some plain_was m.plain_after));
+    objects = r.objects ∙ (k.objects ∙ ap (λ n. min n (2 ^ 32 - 1)) (size_same S T p source h (some_before v S T p source place id old k m differ after) m.some shared_was (ends_shared v S k p m.short (paths_at p source T.routes) m.shared_after)));
   }

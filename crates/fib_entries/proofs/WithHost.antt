@@ -1,7 +1,7 @@
 -- A prefix that comes with its first route and with the host of one of its next hops: what is known stands for the tables afterwards.
 use Rattle.std.proofs.Common.{arith, ◌≡◌, ◌≢◌, ℕ, zero, suc, ◌+◌, ◌-◌, ◌<◌, ◌≤◌, ◌^◌, true, false, List, [], ◌∷◌, map, length, Some, None, ◌⊎◌, inl, inr, refl, sym, ◌∙◌, ap, subst, slice_get, ◌↔◌}
 use Rattle.std.specs.Prelude.{Contains, min, flat_map, filter_map, option_map, slice_set}
-use Rattle.std.specs.List.{list_all, insert, AllZip}
+use Rattle.std.specs.List.{insert, AllZip}
 use Rattle.std.proofs.lemmas.Bool.{false≢true, cases_lt}
 use Rattle.fib_list.proofs.Lists.{either, Contains-nil, Contains-flat_map}
 use Rattle.fib_addr.specs.Prefixes.{Prefix, IsPrefix, same_prefix, contains, host}
@@ -11,7 +11,7 @@ use Rattle.fib_resolve.specs.Edits.{paths_at}
 use Rattle.fib_resolve.specs.Loops.{targets, kind_targets, looped_kind}
 use Rattle.fib_resolve.specs.Pairs.{pairs, entries, chosen, cover, attached_by, attached_of, plain, recursive_of, recursive_hops}
 use Rattle.fib_resolve.specs.Aims.{marked_list}
-use Rattle.fib_resolve.specs.Sizes.{size, kind_adjacency, adjacencies, adjacencies_of}
+use Rattle.fib_resolve.specs.Sizes.{size, adjacencies, adjacencies_of}
 use Rattle.fib_resolve.specs.declared.aims.Aim.TheVariants as aims
 use Rattle.fib_resolve.specs.declared.pairs.Adjacency.{Adjacency}
 use Rattle.fib_resolve.specs.declared.types.Route.{Route}
@@ -40,17 +40,18 @@ use Rattle.fib_entries.specs.Changes.{AreTouched, AreMoved}
 use Rattle.fib_entries.specs.inner.Coming.{blank_row}
 use Rattle.fib_entries.specs.inner.Fields.{AreCounted}
 use Rattle.fib_entries.specs.inner.Hosting.{IsHosting, HasHosted, host_own}
-use Rattle.fib_entries.specs.inner.Leaf.{IsLeafEdit, IsFollowed, AreAttached, goal_of, goals_of, pushed, plain_own, is_plain}
+use Rattle.fib_entries.specs.inner.Leaf.{IsLeafEdit, IsFollowed, AreAttached, goal_of, goals_of, pushed, plain_own}
 use Rattle.fib_entries.specs.inner.Part.{in_part, IsButForPart, IsPartEdit, IsPartMade}
 use Rattle.fib_entries.specs.declared.changes.Followed.{Followed}
 use Rattle.fib_entries.specs.declared.hosting.Late.{Late}
 use Rattle.fib_entries.specs.Rows.{Row}
 use Rattle.fib_entries.proofs.Belonging.{none_was, belonging_edit, came_is_row}
 use Rattle.fib_entries.proofs.Covering.{cover_found}
+use Rattle.fib_entries.proofs.HopEnds.{ends_but}
 use Rattle.fib_entries.proofs.Hosts.{loose_pair, late_pair, late_there, late_entry, late_chosen, late_targets, late_marks, late_touched}
 use Rattle.fib_entries.proofs.LeafRows.{entry_own}
 use Rattle.fib_entries.proofs.Leafing.{late_led, late_cover, late_covered, late_hop, part_cases, part_own, part_host, part_not, part_edit, entry_of_pair, chosen_same, is_not, host_other, only_one}
-use Rattle.fib_entries.proofs.LeafSizes.{plain_targets, none_plain, adjacencies_same}
+use Rattle.fib_entries.proofs.LeafSizes.{HasEnd, ends_by, ends_in, plain_targets, adjacencies_same}
 use Rattle.fib_entries.proofs.BothRows.{AreBoth, both_ordered, both_with, both_others, both_p, both_h, both_ranks, both_rank_p, both_rank_h, both_names, h_names, h_ordered}
 use Rattle.fib_entries.proofs.Linking.{attached_one, but_self}
 use Rattle.fib_entries.proofs.Listing.{listed_route, chosen_before, chosen_after, own_touched, own_before, own_after, counted_own, counted_none, part_holders}
@@ -98,10 +99,6 @@ pub no_source : (U : Tables) (e t : Prefix) → (Contains (entries U) e → ⊥)
 unfolding targets
 no_source U e t absent c = Contains-nil t (subst (λ l. Contains (flat_map (λ q. kind_targets U e q.kind) l) t) (no_list U e absent) c)
 
--- a host that leads to its cover makes no Hop end
-pub no_end : (e : Prefix) (z : Adjacency) → Contains (flat_map (λ q. kind_adjacency e q.kind) (plain kinds.Cover ∷ [])) z → ⊥
-no_end e z c = Contains-nil z c
-
 module _ (v : Known) (S T : Tables) (p : Prefix) (source : FibSource) (place : ℕ) (g : Late) (k : StandsFor v S) (m : IsHosting v.rows v.lists (map prefix_of v.rows) T p source place g) (differ : Differ (changes.Route p source ∷ []) S T) (after : IsSound T) where
   pub no_host : Contains (entries S) (host g.addr) → ⊥
   no_host c = gap_absent (map prefix_of v.rows) g.place (host g.addr) m.late.gap ((k.entries (host g.addr)).1 c)
@@ -124,7 +121,7 @@ module _ (v : Known) (S T : Tables) (p : Prefix) (source : FibSource) (place : �
       (λ a c. subst (λ z. (z < 2 ^ 32) × (contains p z ≡ false) × (Contains (entries S) (host z) → ⊥) × (attached_by S z ≡ None)) (only_one g.addr a c) (m.late.small, m.late.away, no_host, loose))
 
 module _ (v w : Known) (S T : Tables) (p : Prefix) (source : FibSource) (place top made most : ℕ) (g : Late) (f : Followed) (k : StandsFor v S) (m : IsHosting v.rows v.lists (map prefix_of v.rows) T p source place g) (differ : Differ (changes.Route p source ∷ []) S T) (after : IsSound T)
-    (apart : AreInterned v.lists) (c : HasHosted v.rows w.rows v.lists w.lists g p source (paths_at p source T.routes) (top + 1) made f) (count : w.objects ≡ v.objects + made) (fits : w.objects ≤ most) (small : most < 2 ^ 32 - 1)
+    (apart : AreInterned v.lists) (c : HasHosted T v.rows w.rows v.lists w.lists g p source (paths_at p source T.routes) (top + 1) made f) (count : w.objects ≡ v.objects + made) (fits : w.objects ≤ most) (small : most < 2 ^ 32 - 1)
     (above : (t : Prefix) → Contains (goals_of (paths_at p source T.routes)) t → rank_of v.rows t ≤ top) (over : g.rank ≤ top) where
   h : IsLeafEdit S T p source (g.addr ∷ [])
   h = hosting_edit v S T p source place g k m differ after
@@ -156,7 +153,7 @@ module _ (v w : Known) (S T : Tables) (p : Prefix) (source : FibSource) (place t
       (attached_one (host g.addr) v.rows k.ordered g.cover m.late.cover m.late.at m.late.new)
       (but_self (host g.addr) (blank_row (host g.addr) (host_own m.late.cover.prefix g.rank)), (λ d. inl d, λ d. elim d [ inl was ↦ was | inr it ↦ absurd (not_cover (only_one m.late.cover.prefix (host g.addr) it)) ])))
 
-  both : AreBoth v.rows w.rows (host g.addr) p m.late.cover.prefix (goals_of (paths_at p source T.routes)) (host_own m.late.cover.prefix g.rank) (plain_own source (paths_at p source T.routes) (top + 1))
+  both : AreBoth v.rows w.rows (host g.addr) p m.late.cover.prefix (goals_of (paths_at p source T.routes)) (host_own m.late.cover.prefix g.rank) (plain_own T source (paths_at p source T.routes) (top + 1))
       ((sources.RecursiveResolution, g.list) ∷ []) ((source, c.placed.new_id) ∷ [])
   both = record {
     place = g.place;
@@ -242,7 +239,7 @@ module _ (v w : Known) (S T : Tables) (p : Prefix) (source : FibSource) (place t
       → (r : Row) × Contains v.rows r × IsButForPart (in_part p (g.addr ∷ [])) r s × ((d : Prefix) → in_part p (g.addr ∷ []) d ≡ true → Contains s.dependants d ↔ Contains (targets T d) s.prefix)
   relinked s t off =
       let o = out s.prefix off in
-      let x = both_others v.rows w.rows (host g.addr) p m.late.cover.prefix (goals_of (paths_at p source T.routes)) (host_own m.late.cover.prefix g.rank) (plain_own source (paths_at p source T.routes) (top + 1))
+      let x = both_others v.rows w.rows (host g.addr) p m.late.cover.prefix (goals_of (paths_at p source T.routes)) (host_own m.late.cover.prefix g.rank) (plain_own T source (paths_at p source T.routes) (top + 1))
       ((sources.RecursiveResolution, g.list) ∷ []) ((source, c.placed.new_id) ∷ []) both k.ordered not_host (in_part p (g.addr ∷ [])) out s t o.0 o.1 in (
         x.0,
         x.1,
@@ -266,19 +263,19 @@ module _ (v w : Known) (S T : Tables) (p : Prefix) (source : FibSource) (place t
       )
 
   came : (e : Prefix) → Contains (map prefix_of w.rows) e ↔ (Contains (map prefix_of v.rows) e ⊎ (host g.addr ≡ e)) ⊎ (p ≡ e)
-  came = both_with v.rows w.rows (host g.addr) p m.late.cover.prefix (goals_of (paths_at p source T.routes)) (host_own m.late.cover.prefix g.rank) (plain_own source (paths_at p source T.routes) (top + 1))
+  came = both_with v.rows w.rows (host g.addr) p m.late.cover.prefix (goals_of (paths_at p source T.routes)) (host_own m.late.cover.prefix g.rank) (plain_own T source (paths_at p source T.routes) (top + 1))
       ((sources.RecursiveResolution, g.list) ∷ []) ((source, c.placed.new_id) ∷ []) both k.ordered not_host
 
   own_row : (s : Row) → Contains w.rows s → p ≡ s.prefix → IsRow w.lists T s
   own_row s t at =
-      let x = both_p v.rows w.rows (host g.addr) p m.late.cover.prefix (goals_of (paths_at p source T.routes)) (host_own m.late.cover.prefix g.rank) (plain_own source (paths_at p source T.routes) (top + 1))
+      let x = both_p v.rows w.rows (host g.addr) p m.late.cover.prefix (goals_of (paths_at p source T.routes)) (host_own m.late.cover.prefix g.rank) (plain_own T source (paths_at p source T.routes) (top + 1))
       ((sources.RecursiveResolution, g.list) ∷ []) ((source, c.placed.new_id) ∷ []) both k.ordered not_host s t at in
       subst (IsRow w.lists T) x.1 (came_is_row S T p source (g.addr ∷ []) h w.lists c.placed.new_id (top + 1) x.0 x.2.0 x.2.1 own_content m.plain m.belongs.some)
 
   host_row : (s : Row) → Contains w.rows s → host g.addr ≡ s.prefix → IsRow w.lists T s
   unfolding marked_list
   host_row s t at =
-      let x = both_h v.rows w.rows (host g.addr) p m.late.cover.prefix (goals_of (paths_at p source T.routes)) (host_own m.late.cover.prefix g.rank) (plain_own source (paths_at p source T.routes) (top + 1))
+      let x = both_h v.rows w.rows (host g.addr) p m.late.cover.prefix (goals_of (paths_at p source T.routes)) (host_own m.late.cover.prefix g.rank) (plain_own T source (paths_at p source T.routes) (top + 1))
       ((sources.RecursiveResolution, g.list) ∷ []) ((source, c.placed.new_id) ∷ []) both k.ordered not_host s t at not_cover in
       let list = late_chosen S T p source (g.addr ∷ []) h g.addr late_in hop_there in
       let own : s.prefix ≡ host g.addr = sym at in
@@ -310,15 +307,15 @@ module _ (v w : Known) (S T : Tables) (p : Prefix) (source : FibSource) (place t
 
   -- ranks
   rank_beside_both : (e : Prefix) → p ≢ e → host g.addr ≢ e → rank_of w.rows e ≡ rank_of v.rows e
-  rank_beside_both = both_ranks v.rows w.rows (host g.addr) p m.late.cover.prefix (goals_of (paths_at p source T.routes)) (host_own m.late.cover.prefix g.rank) (plain_own source (paths_at p source T.routes) (top + 1))
+  rank_beside_both = both_ranks v.rows w.rows (host g.addr) p m.late.cover.prefix (goals_of (paths_at p source T.routes)) (host_own m.late.cover.prefix g.rank) (plain_own T source (paths_at p source T.routes) (top + 1))
       ((sources.RecursiveResolution, g.list) ∷ []) ((source, c.placed.new_id) ∷ []) both k.ordered not_host
 
   rank_own : rank_of w.rows p ≡ top + 1
-  rank_own = both_rank_p v.rows w.rows (host g.addr) p m.late.cover.prefix (goals_of (paths_at p source T.routes)) (host_own m.late.cover.prefix g.rank) (plain_own source (paths_at p source T.routes) (top + 1))
+  rank_own = both_rank_p v.rows w.rows (host g.addr) p m.late.cover.prefix (goals_of (paths_at p source T.routes)) (host_own m.late.cover.prefix g.rank) (plain_own T source (paths_at p source T.routes) (top + 1))
       ((sources.RecursiveResolution, g.list) ∷ []) ((source, c.placed.new_id) ∷ []) both k.ordered not_host
 
   rank_host : rank_of w.rows (host g.addr) ≡ g.rank
-  rank_host = both_rank_h v.rows w.rows (host g.addr) p m.late.cover.prefix (goals_of (paths_at p source T.routes)) (host_own m.late.cover.prefix g.rank) (plain_own source (paths_at p source T.routes) (top + 1))
+  rank_host = both_rank_h v.rows w.rows (host g.addr) p m.late.cover.prefix (goals_of (paths_at p source T.routes)) (host_own m.late.cover.prefix g.rank) (plain_own T source (paths_at p source T.routes) (top + 1))
       ((sources.RecursiveResolution, g.list) ∷ []) ((source, c.placed.new_id) ∷ []) both k.ordered not_host
 
   rank_cover : rank_of w.rows m.late.cover.prefix ≡ m.late.cover.rank
@@ -348,12 +345,12 @@ module _ (v w : Known) (S T : Tables) (p : Prefix) (source : FibSource) (place t
 
   with_names : map prefix_of c.mid ≡ insert (map prefix_of v.rows) g.place (host g.addr)
   unfolding both
-  with_names = h_names v.rows w.rows (host g.addr) p m.late.cover.prefix (goals_of (paths_at p source T.routes)) (host_own m.late.cover.prefix g.rank) (plain_own source (paths_at p source T.routes) (top + 1))
+  with_names = h_names v.rows w.rows (host g.addr) p m.late.cover.prefix (goals_of (paths_at p source T.routes)) (host_own m.late.cover.prefix g.rank) (plain_own T source (paths_at p source T.routes) (top + 1))
       ((sources.RecursiveResolution, g.list) ∷ []) ((source, c.placed.new_id) ∷ []) both k.ordered not_host
 
   with_ordered : IsAscending (map prefix_of c.mid)
   unfolding both
-  with_ordered = h_ordered v.rows w.rows (host g.addr) p m.late.cover.prefix (goals_of (paths_at p source T.routes)) (host_own m.late.cover.prefix g.rank) (plain_own source (paths_at p source T.routes) (top + 1))
+  with_ordered = h_ordered v.rows w.rows (host g.addr) p m.late.cover.prefix (goals_of (paths_at p source T.routes)) (host_own m.late.cover.prefix g.rank) (plain_own T source (paths_at p source T.routes) (top + 1))
       ((sources.RecursiveResolution, g.list) ∷ []) ((source, c.placed.new_id) ∷ []) both k.ordered not_host
 
   good_with : ArePrefixes (map prefix_of c.mid)
@@ -361,11 +358,11 @@ module _ (v w : Known) (S T : Tables) (p : Prefix) (source : FibSource) (place t
 
   all_names : map prefix_of w.rows ≡ insert (map prefix_of c.mid) c.place p
   unfolding both
-  all_names = both_names v.rows w.rows (host g.addr) p m.late.cover.prefix (goals_of (paths_at p source T.routes)) (host_own m.late.cover.prefix g.rank) (plain_own source (paths_at p source T.routes) (top + 1))
+  all_names = both_names v.rows w.rows (host g.addr) p m.late.cover.prefix (goals_of (paths_at p source T.routes)) (host_own m.late.cover.prefix g.rank) (plain_own T source (paths_at p source T.routes) (top + 1))
       ((sources.RecursiveResolution, g.list) ∷ []) ((source, c.placed.new_id) ∷ []) both k.ordered not_host
 
   ordered : IsAscending (map prefix_of w.rows)
-  ordered = both_ordered v.rows w.rows (host g.addr) p m.late.cover.prefix (goals_of (paths_at p source T.routes)) (host_own m.late.cover.prefix g.rank) (plain_own source (paths_at p source T.routes) (top + 1))
+  ordered = both_ordered v.rows w.rows (host g.addr) p m.late.cover.prefix (goals_of (paths_at p source T.routes)) (host_own m.late.cover.prefix g.rank) (plain_own T source (paths_at p source T.routes) (top + 1))
       ((sources.RecursiveResolution, g.list) ∷ []) ((source, c.placed.new_id) ∷ []) both k.ordered not_host
 
   beside_entry : (e : Prefix) → in_part p (g.addr ∷ []) e ≡ false → Contains (entries S) e ↔ Contains (entries T) e
@@ -389,15 +386,28 @@ module _ (v w : Known) (S T : Tables) (p : Prefix) (source : FibSource) (place t
     )
   ]
 
+  -- a Hop end of the prefix is that of a host that was there
+  own_end : (z : Adjacency) → Contains (ends_in p (paths_at p source T.routes)) z → HasEnd S (in_part p (g.addr ∷ [])) z
+  own_end z i =
+      let s = ends_but v S k p m.belongs.short g.addr (paths_at p source T.routes) m.shared z i in
+      let off : in_part p (g.addr ∷ []) (host z.next_hop) ≡ false = elim (either (in_part p (g.addr ∷ []) (host z.next_hop))) [
+        | inr isnt ↦ isnt
+        | inl is ↦ elim (inside (host z.next_hop) is) [
+          | inl same ↦ absurd (host_other S T p source (g.addr ∷ []) h z.next_hop same)
+          | inr same ↦ absurd (no_host_was (subst (Contains (entries S)) (sym same) s.0))
+        ]
+      ] in
+      (host z.next_hop, off, s.0, s.1)
+
   ends : length (adjacencies S) ≡ length (adjacencies T)
   ends = adjacencies_same S T (in_part p (g.addr ∷ [])) beside_entry (chosen_same S T p source (g.addr ∷ []) h)
       (λ e is z i. elim (inside e is) [
-        | inl same ↦ none_plain S p (ap (list_all is_plain) (chosen_before S T p source (g.addr ∷ []) h ∙ none_was v S T p source place k m.belongs after)) z (subst (λ q. Contains (adjacencies_of S q) z) (sym same) i)
-        | inr same ↦ none_plain S (host g.addr) (ap (list_all is_plain) (no_list S (host g.addr) no_host_was)) z (subst (λ q. Contains (adjacencies_of S q) z) (sym same) i)
+        | inl same ↦ absurd (Contains-nil z (ends_by S p [] (chosen_before S T p source (g.addr ∷ []) h ∙ none_was v S T p source place k m.belongs after) z (subst (λ q. Contains (adjacencies_of S q) z) (sym same) i)))
+        | inr same ↦ absurd (Contains-nil z (ends_by S (host g.addr) [] (no_list S (host g.addr) no_host_was) z (subst (λ q. Contains (adjacencies_of S q) z) (sym same) i)))
       ])
       (λ e is z i. elim (inside e is) [
-        | inl same ↦ none_plain T p (ap (list_all is_plain) (chosen_after S T p source (g.addr ∷ []) h) ∙ m.plain) z (subst (λ q. Contains (adjacencies_of T q) z) (sym same) i)
-        | inr same ↦ no_end (host g.addr) z (subst (λ l. Contains (flat_map (λ q. kind_adjacency (host g.addr) q.kind) l) z) (late_chosen S T p source (g.addr ∷ []) h g.addr late_in hop_there) (subst (λ q. Contains (adjacencies_of T q) z) (sym same) i))
+        | inl same ↦ own_end z (ends_by T p (paths_at p source T.routes) (chosen_after S T p source (g.addr ∷ []) h) z (subst (λ q. Contains (adjacencies_of T q) z) (sym same) i))
+        | inr same ↦ absurd (Contains-nil z (ends_by T (host g.addr) (plain kinds.Cover ∷ []) (late_chosen S T p source (g.addr ∷ []) h g.addr late_in hop_there) z (subst (λ q. Contains (adjacencies_of T q) z) (sym same) i)))
       ])
 
   size_law : size T ≡ size S + made
@@ -498,6 +508,6 @@ module _ (v w : Known) (S T : Tables) (p : Prefix) (source : FibSource) (place t
 
 -- what comes of a prefix that comes with a host is right
 pub followed_hosted : (v w : Known) (T : Tables) (p : Prefix) (source : FibSource) (place top made most : ℕ) (g : Late) (f : Followed) → IsHosting v.rows v.lists (map prefix_of v.rows) T p source place g → AreInterned v.lists
-    → HasHosted v.rows w.rows v.lists w.lists g p source (paths_at p source T.routes) (top + 1) made f → w.objects ≡ v.objects + made → w.objects ≤ most → most < 2 ^ 32 - 1
+    → HasHosted T v.rows w.rows v.lists w.lists g p source (paths_at p source T.routes) (top + 1) made f → w.objects ≡ v.objects + made → w.objects ≤ most → most < 2 ^ 32 - 1
     → ((t : Prefix) → Contains (goals_of (paths_at p source T.routes)) t → rank_of v.rows t ≤ top) → g.rank ≤ top → IsSound T → (S : Tables) → StandsFor v S → Differ (changes.Route p source ∷ []) S T → IsFollowed v w S T most f
 followed_hosted v w T p source place top made most g f m apart c count fits small above over after S k differ = followed_both v w S T p source place top made most g f k m differ after apart c count fits small above over

@@ -1,5 +1,5 @@
 -- Rows after a leaf's row went, and what they name.
-use Rattle.std.proofs.Common.{◌≡◌, ◌≢◌, ℕ, ◌+◌, false, List, [], ◌∷◌, map, Some, refl, sym, ◌∙◌, ap, subst, slice_get, ◌↔◌}
+use Rattle.std.proofs.Common.{◌≡◌, ◌≢◌, ℕ, ◌+◌, List, [], ◌∷◌, map, Some, refl, sym, ◌∙◌, ap, subst, slice_get, ◌↔◌}
 use Rattle.std.specs.Prelude.{Contains}
 use Rattle.std.specs.List.{remove}
 use Rattle.std.specs.Cmp.Lexicographic.{pointwise}
@@ -13,13 +13,12 @@ use Rattle.fib_changes.proofs.Edits.{in_front}
 use Rattle.fib_changes.proofs.SamePairs.{map_in}
 use Rattle.fib_interned.proofs.Finding.{some_is, contains_at}
 use Rattle.fib_entries.specs.Known.{PathKept, content_of, prefix_of, IsHeld}
-use Rattle.fib_entries.specs.inner.Ends.{has_exit, exits_of}
-use Rattle.fib_entries.specs.inner.Fields.{AreFields, AreNamed, count_in}
+use Rattle.fib_entries.specs.inner.Fields.{AreFields, AreNamed, Index, IsIndexed, count_in}
 use Rattle.fib_entries.specs.inner.Going.{IsWithdrawn}
 use Rattle.fib_entries.specs.inner.Leaf.{IsButFor}
 use Rattle.fib_entries.specs.Rows.{Row}
 use Rattle.fib_entries.proofs.Counting.{without, counted_in, kept_in, counts_some}
-use Rattle.fib_entries.proofs.Exits.{exits_gone}
+use Rattle.fib_entries.proofs.Exits.{exit_alike, in_alike, in_index, indexed_each}
 use Rattle.fib_entries.proofs.Linking.{zip_at, zip_from, detached_names}
 use Rattle.fib_entries.proofs.Looking.{one_in_order}
 use Rattle.fib_entries.proofs.Naming.{named_held}
@@ -63,6 +62,9 @@ module _ (old new : List Row) (lists later : List PathKept) (place : ℕ) (p : P
   pub row_was : (s : Row) → Contains new s → (q : Row) × Contains old q × (IsButFor p q s × (Contains s.dependants p ↔ Contains q.dependants p × (Contains goals q.prefix → Contains kept q.prefix)))
   row_was s c = zip_from _ old r.low r.detached s (row_left s c).1
 
+  pub indexed_gone : (x : Index) → IsIndexed old x → IsIndexed new x
+  indexed_gone x h = indexed_each new x (λ s c. (let q = row_was s c in in_alike x q.0 s (in_index old x h q.0 q.1) q.2.0.prefix q.2.0.pairs (exit_alike q.0 s q.2.0.marked)))
+
   module _ (before : List Path) (n : AreNamed old lists) (source : FibSource) (pairs_are : row.pairs ≡ (source, id) ∷ []) (content : content_of lists id ≡ Some before) where
     gone : (x : Pair) × Contains n.pairs x × (row.prefix ≡ x.prefix) × IsHeld lists (source, id) x
     gone = n.each row (source, id) (contains_at old place row at) (subst (λ l. Contains l (source, id)) (sym pairs_are) (in_front (source, id) (source, id) [] refl))
@@ -94,8 +96,8 @@ module _ (old new : List Row) (lists later : List PathKept) (place : ℕ) (p : P
     }
 
     -- the fields still fit together
-    pub fields_gone : (set exits : List Prefix) → IsAscending set → ((e : Prefix) → Contains set e ↔ Contains (map prefix_of old) e × (e ≢ p)) → exits ≡ exits_of old → has_exit row ≡ false → AreFields new later set exits
-    fields_gone set exits set_asc members out inside = record {
+    pub fields_gone : (set : List Prefix) (y : Index) → IsAscending set → ((e : Prefix) → Contains set e ↔ Contains (map prefix_of old) e × (e ≢ p)) → IsIndexed new y → AreFields new later set y
+    fields_gone set y set_asc members indexed = record {
       held = named_held new later named_gone;
       named = named_gone;
       ordered = ordered_gone;
@@ -103,5 +105,5 @@ module _ (old new : List Row) (lists later : List PathKept) (place : ℕ) (p : P
         λ c. (let m = (members e).0 c in (but_for e).1 (m.0, λ same. m.1 (sym same))),
         λ c. (let b = (but_for e).0 c in (members e).1 (b.0, λ same. b.1 (sym same))),
       ));
-      out = out ∙ sym (exits_gone old new lists later place p id goals kept r row at inside);
+      indexed = indexed;
     }

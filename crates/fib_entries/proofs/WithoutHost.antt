@@ -1,7 +1,7 @@
 -- A prefix that goes with its route and with the host of one of its next hops: what is known stands for the tables afterwards.
-use Rattle.std.proofs.Common.{arith, ◌≡◌, ◌≢◌, ℕ, ◌+◌, ◌-◌, ◌<◌, ◌≤◌, ◌^◌, Bool, true, false, not, List, [], ◌∷◌, map, length, Option, Some, None, ◌⊎◌, inl, inr, refl, sym, ◌∙◌, ap, subst, slice_get, ◌↔◌}
-use Rattle.std.specs.Prelude.{Contains, min, flat_map, filter_map}
-use Rattle.std.specs.List.{list_all, list_any}
+use Rattle.std.proofs.Common.{arith, ◌≡◌, ◌≢◌, ℕ, ◌+◌, ◌-◌, ◌<◌, ◌≤◌, ◌^◌, Bool, true, false, not, List, [], ◌∷◌, map, length, Option, Some, None, ◌⊎◌, inl, inr, refl, sym, ◌∙◌, ap, subst, ◌↔◌}
+use Rattle.std.specs.Prelude.{Contains, min, filter_map}
+use Rattle.std.specs.List.{list_any}
 use Rattle.std.proofs.lemmas.Bool.{false≢true, cases_lt}
 use Rattle.fib_list.proofs.Lists.{either, Contains-nil, Contains-flat_map}
 use Rattle.fib_addr.specs.Prefixes.{Prefix, IsPrefix, contains, host}
@@ -9,8 +9,9 @@ use Rattle.fib_cover.specs.Covers.{IsAscending, ArePrefixes}
 use Rattle.fib_resolve.specs.Edits.{paths_at}
 use Rattle.fib_resolve.specs.Loops.{targets, kind_targets, is_kept}
 use Rattle.fib_resolve.specs.Pairs.{pairs, entries, cover, attached_by, derived_pair, derived_kind, plain, recursive_of, recursive_hops, route_pair}
-use Rattle.fib_resolve.specs.Sizes.{size, kind_adjacency, adjacencies, adjacencies_of}
-use Rattle.fib_resolve.specs.Tables.{IsSound}
+use Rattle.fib_resolve.specs.Sizes.{size, adjacencies, adjacencies_of}
+use Rattle.fib_resolve.specs.declared.pairs.Adjacency.{Adjacency}
+use Rattle.fib_resolve.specs.Tables.{IsSound, is_route}
 use Rattle.fib_resolve.specs.Touched.{is_touched}
 use Rattle.fib_resolve.specs.declared.pairs.Pair.{Pair}
 use Rattle.fib_resolve.specs.declared.types.FibSource.{FibSource}
@@ -23,34 +24,36 @@ use Rattle.fib_changes.specs.Differ.{Differ}
 use Rattle.fib_changes.specs.Sources.{all_hops}
 use Rattle.fib_changes.specs.declared.change.Change.TheVariants as changes
 use Rattle.fib_changes.proofs.Edits.{in_cases, in_front, in_rest}
-use Rattle.fib_changes.proofs.SamePairs.{map_from, map_in, from_origin, base, derived, derived_host}
+use Rattle.fib_changes.proofs.SamePairs.{flat_map_from, map_from, map_in, from_origin, base, derived, derived_host}
 use Rattle.fib_interned.specs.Interned.{AreInterned}
 use Rattle.fib_interned.proofs.Finding.{contains_at}
 use Rattle.fib_entries.specs.Known.{Known, content_of, prefix_of, rank_of, rank_in, StandsFor, holders}
 use Rattle.fib_entries.specs.Changes.{AreTouched, AreMoved}
 use Rattle.fib_entries.specs.inner.Fields.{AreCounted}
-use Rattle.fib_entries.specs.inner.Leaf.{IsLeafEdit, IsFollowed, goals_of, is_plain}
+use Rattle.fib_entries.specs.inner.Leaf.{IsLeafEdit, IsFollowed, goals_of}
 use Rattle.fib_entries.specs.inner.Part.{in_part, IsButForPart, IsPartEdit, IsPartMade}
 use Rattle.fib_entries.specs.inner.Parting.{IsParting, HasParted}
 use Rattle.fib_entries.specs.declared.changes.Followed.{Followed}
 use Rattle.fib_entries.specs.declared.parting.Last.{Last}
 use Rattle.fib_entries.specs.Rows.{Row}
 use Rattle.fib_entries.proofs.Covering.{cover_found}
+use Rattle.fib_entries.proofs.HopEnds.{ends_but}
 use Rattle.fib_entries.proofs.Hosts.{loose_pair, loose_before, loose_chosen, late_entry, late_entry_before, late_pair_before, late_there_before, late_targets_before, late_touched_before}
 use Rattle.fib_entries.proofs.LeafRows.{entry_own}
 use Rattle.fib_entries.proofs.Leafing.{routes_beside, from_route, chosen_same, unlooped_before, part_cases, part_own, part_host, part_not, part_edit, entry_of_pair, host_other, only_one}
-use Rattle.fib_entries.proofs.LeafSizes.{plain_targets, none_plain, adjacencies_same}
+use Rattle.fib_entries.proofs.LeafSizes.{HasEnd, ends_by, ends_in, plain_targets, adjacencies_same}
 use Rattle.fib_entries.proofs.Listing.{source_of_route, chosen_before, chosen_after, own_touched, own_before, own_after, counted_own, counted_none, part_holders}
 use Rattle.fib_entries.proofs.Orders.{order_size, size_of_order, order_shrunk}
 use Rattle.fib_entries.proofs.Owning.{owned_all, owned_list, owned_some}
 use Rattle.fib_entries.proofs.PartCounts.{part_counts, host_counted, host_uncounted}
 use Rattle.fib_entries.proofs.PartRows.{no_row, entry_beside, stands_part, touched_inside, moved_inside}
 use Rattle.fib_entries.proofs.Placing.{size_left}
-use Rattle.fib_entries.proofs.Ready.{alone_row}
+use Rattle.fib_entries.proofs.Departing.{unused_but}
+use Rattle.fib_entries.proofs.Ready.{clear_alone}
 use Rattle.fib_entries.proofs.Replacing.{counted_by}
 use Rattle.fib_entries.proofs.Sharing.{led_but, hop_from, path_there}
 use Rattle.fib_entries.proofs.Using.{once, unit_same, counted_given, given_stays}
-use Rattle.fib_entries.proofs.WithHost.{list_hop, no_list, no_source, no_end}
+use Rattle.fib_entries.proofs.WithHost.{list_hop, no_list, no_source}
 use Rattle.fib_entries.proofs.Withdrawing.{order_at, names_gone, ordered_gone, but_for, row_was}
 
 abbrev is_cover : PathKind → Bool
@@ -106,9 +109,8 @@ module _ (v : Known) (S T : Tables) (p : Prefix) (source : FibSource) (place id 
     prefix = m.prefix;
     short = m.short;
     real = λ q c. (let r = real_entry q c in subst IsPrefix r.2 (k.rows r.0 r.1).prefix);
-    alone = λ q c inside longer. (let r = real_entry q c in
-        alone_row v.rows k.ordered place m.row p m.at m.own m.prefix (λ s there. m.next s (subst (λ n. slice_get v.rows n ≡ Some s) (omega arith) there)) r.0 r.1 (subst (λ z. contains p z.bits ≡ true) (sym r.2) inside) (subst (λ z. p.len < z.len) (sym r.2) longer));
-    far = m.far;
+    alone = λ a c inside. clear_alone v S p T.neighbors k m.clear a c inside;
+    far = m.clear.far;
     written = m.written;
     only = λ x c at. (all_own x c at).0;
     leaf = λ d c. Contains-nil d (subst (λ l. Contains l d) m.none (((k.rows m.row own_there).dependants d).1 (subst (Contains (targets S d)) (sym m.own) c)));
@@ -117,7 +119,7 @@ module _ (v : Known) (S T : Tables) (p : Prefix) (source : FibSource) (place id 
       | inr later ↦ absurd (path_there T after p source r later it m.gone)
     ];
     late_out = λ a c. subst (λ z. (z < 2 ^ 32) × (contains p z ≡ false)) (only_one g.addr a c) (m.last.small, m.last.away);
-    late_alone = λ a c r off there hop. m.last.unused (Contains-flat_map recursive_hops T.routes r g.addr ((routes_beside S T p source differ r off).0 there) (subst (Contains (recursive_hops r)) (sym (only_one g.addr a c)) hop));
+    late_alone = λ a c r off there hop. unused_but v S k p source g.addr m.last.row m.last.there m.last.own m.last.alone (λ x d at. (all_own x d at).0) m.last.unhidden r off there (subst (Contains (recursive_hops r)) (sym (only_one g.addr a c)) hop);
     late_derived = λ a c x d is. (host_all x d (ap host (only_one g.addr a c) ∙ sym is)).0;
     late_loose = λ a c. subst (λ z. attached_by S z ≡ None) (only_one g.addr a c) loose;
   }
@@ -140,7 +142,12 @@ module _ (v w : Known) (S T : Tables) (p : Prefix) (source : FibSource) (place i
   host_was = (late_entry_before S T p source (g.addr ∷ []) h g.addr late_in).1 hop_there
 
   no_host_now : Contains (entries T) (host g.addr) → ⊥
-  no_host_now i = m.last.unused ((late_entry S T p source (g.addr ∷ []) h g.addr late_in).0 i)
+  no_host_now i =
+      let r = flat_map_from recursive_hops T.routes g.addr ((late_entry S T p source (g.addr ∷ []) h g.addr late_in).0 i) in
+      elim (either (is_route p source r.0)) [
+        | inl it ↦ path_there T after p source r.0 r.1 it m.gone
+        | inr off ↦ h.late_alone g.addr late_in r.0 off ((routes_beside S T p source differ r.0 off).1 r.1) r.2
+      ]
 
   no_own_now : Contains (entries T) p → ⊥
   no_own_now i = (entry_own S T p source (g.addr ∷ []) h).0 i m.gone
@@ -265,15 +272,32 @@ module _ (v w : Known) (S T : Tables) (p : Prefix) (source : FibSource) (place i
   good_low : ArePrefixes (map prefix_of c.low)
   good_low e i = good e ((left e).0 i).0
 
+  -- the late host's list leads to its cover, so it has no Hop end
+  host_no_end : (z : Adjacency) → Contains (adjacencies_of S (host g.addr)) z → ⊥
+  host_no_end z i = Contains-nil z (ends_by S (host g.addr) (plain kinds.Cover ∷ []) (loose_chosen S g.addr (loose_before S T p source (g.addr ∷ []) h g.addr late_in) hop_there) z i)
+
+  -- and a Hop end of the prefix is that of another host
+  own_end : (z : Adjacency) → Contains (ends_in p old) z → HasEnd S (in_part p (g.addr ∷ [])) z
+  own_end z i =
+      let s = ends_but v S k p m.short g.addr old m.shared z i in
+      let off : in_part p (g.addr ∷ []) (host z.next_hop) ≡ false = elim (either (in_part p (g.addr ∷ []) (host z.next_hop))) [
+        | inr isnt ↦ isnt
+        | inl is ↦ elim (inside (host z.next_hop) is) [
+          | inl same ↦ absurd (host_other S T p source (g.addr ∷ []) h z.next_hop same)
+          | inr same ↦ absurd (host_no_end z (subst (λ q. Contains (adjacencies_of S q) z) (sym same) s.1))
+        ]
+      ] in
+      (host z.next_hop, off, s.0, s.1)
+
   ends : length (adjacencies S) ≡ length (adjacencies T)
   ends = adjacencies_same S T (in_part p (g.addr ∷ [])) beside_entry (chosen_same S T p source (g.addr ∷ []) h)
       (λ e is z i. elim (inside e is) [
-        | inl same ↦ none_plain S p (ap (list_all is_plain) (chosen_before S T p source (g.addr ∷ []) h ∙ list_was v S T p source place id old g k m differ after) ∙ m.plain) z (subst (λ q. Contains (adjacencies_of S q) z) (sym same) i)
-        | inr same ↦ no_end (host g.addr) z (subst (λ l. Contains (flat_map (λ q. kind_adjacency (host g.addr) q.kind) l) z) (loose_chosen S g.addr (loose_before S T p source (g.addr ∷ []) h g.addr late_in) hop_there) (subst (λ q. Contains (adjacencies_of S q) z) (sym same) i))
+        | inl same ↦ own_end z (ends_by S p old (chosen_before S T p source (g.addr ∷ []) h ∙ list_was v S T p source place id old g k m differ after) z (subst (λ q. Contains (adjacencies_of S q) z) (sym same) i))
+        | inr same ↦ absurd (host_no_end z (subst (λ q. Contains (adjacencies_of S q) z) (sym same) i))
       ])
       (λ e is z i. elim (inside e is) [
-        | inl same ↦ none_plain T p (ap (list_all is_plain) (chosen_after S T p source (g.addr ∷ []) h ∙ m.gone)) z (subst (λ q. Contains (adjacencies_of T q) z) (sym same) i)
-        | inr same ↦ none_plain T (host g.addr) (ap (list_all is_plain) (no_list T (host g.addr) no_host_now)) z (subst (λ q. Contains (adjacencies_of T q) z) (sym same) i)
+        | inl same ↦ absurd (Contains-nil z (ends_by T p [] (chosen_after S T p source (g.addr ∷ []) h ∙ m.gone) z (subst (λ q. Contains (adjacencies_of T q) z) (sym same) i)))
+        | inr same ↦ absurd (Contains-nil z (ends_by T (host g.addr) [] (no_list T (host g.addr) no_host_now) z (subst (λ q. Contains (adjacencies_of T q) z) (sym same) i)))
       ])
 
   size_law : size S ≡ size T + made

@@ -12,18 +12,24 @@ use fib_addr::Prefix;
 use fib_effective::is_same_list;
 use fib_list::List;
 use fib_paths::{PathListId, PathLists};
-use fib_resolve::{FibSource, Path};
+use fib_resolve::{FibSource, Path, Tables};
 use std::alloc::{AllocError, Global};
 
 /// What the row gets with that list, where that is plain and not looped.
-pub fn own(alloc: Global, source: FibSource, paths: &[Path], rank: u32) -> Result<Own, AllocError>
-    ensures { IfOk result (λ o. o ≡ plain_own source paths.now rank) }
+pub fn own(
+    alloc: Global,
+    tables: &Tables,
+    source: FibSource,
+    paths: &[Path],
+    rank: u32,
+) -> Result<Own, AllocError>
+    ensures { IfOk result (λ o. o ≡ plain_own tables.now source paths.now rank) }
 {
     Ok(Own {
         source,
         looped: bits(alloc, paths, false)?,
         met: bits(alloc, paths, true)?,
-        marked: plain_marks(alloc, paths)?,
+        marked: plain_marks(alloc, tables, paths)?,
         rank,
     })
 }

@@ -14,12 +14,14 @@ use crate::rows::Row;
 use fib_addr::Prefix;
 use fib_blocks::Blocks;
 use fib_paths::{PathListId, PathLists};
-use fib_resolve::{FibSource, Path};
+use fib_resolve::{FibSource, Path, Tables};
 use std::alloc::{AllocError, Global};
 
 /// What the row at a place gets.
 #[derive(Clone, Copy)]
 pub struct Target<'a> {
+    /// The tables afterwards.
+    pub tables: &'a Tables,
     pub prefix: Prefix,
     pub source: FibSource,
     pub new: &'a [Path],
@@ -53,12 +55,12 @@ pub fn change(
     requires row { (r : RowValue) × (slice_get rows.old at.0 ≡ Some r) × (length r.pairs ≡ 1) }
     requires kept { IsSome (kept_of lists.old at.1) }
     requires room { IsUsedLess lists.old to.new.now (2 ^ 32 - 1) }
-    ensures done { IfOk result (λ f. IsChanged rows.old rows.new lists.old lists.new at.0 to.entry.prefix at.1 to.entry.source to.entry.new.now to.entry.rank f) }
+    ensures done { IfOk result (λ f. IsChanged to.entry.tables.now rows.old rows.new lists.old lists.new at.0 to.entry.prefix at.1 to.entry.source to.entry.new.now to.entry.rank f) }
     ensures rows { OnErr result (rows.new ≡ rows.old) }
     ensures lists { OnErr result (lists.new ≡ lists.old) }
 {
     let old = copied(alloc, lists.content(at.1))?;
-    let own = own(alloc, to.source, to.new, to.rank)?;
+    let own = own(alloc, to.tables, to.source, to.new, to.rank)?;
     let touched = alone(alloc, to.prefix)?;
     let moved = moved(alloc, to.prefix, rank_at(rows, at.0), to.rank)?;
     let swap = Swap {

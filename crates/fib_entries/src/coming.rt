@@ -1,13 +1,13 @@
 // A leaf that comes with its route.
-ghost use Rattle.std.specs.Prelude.{◌≡◌, ◌-◌, ◌^◌, ◌<◌, ◌≤◌, ◌∷◌, [], false, IfOk, IfSome, IsTrue, OnOk, OnErr, Some, length, map, slice_get, slice_set, vec_capacity};
+ghost use Rattle.std.specs.Prelude.{◌≡◌, ◌-◌, ◌^◌, ◌<◌, ◌≤◌, ◌∷◌, [], IfOk, IfSome, IsTrue, OnOk, OnErr, Some, length, map, slice_get, slice_set, vec_capacity};
 ghost use Rattle.std.specs.List.{insert};
-ghost use Rattle.fib_addr.specs.Prefixes.{contains};
 ghost use Rattle.fib_cover.specs.Covers.{IsAscending};
 ghost use Rattle.fib_paths.specs.PathLists.{IsUsedLess};
 ghost use Rattle.fib_resolve.specs.Edits.{paths_at};
 ghost use Rattle.fib_entries.specs.Known.{prefix_of};
 ghost use Rattle.fib_entries.specs.Rows.{Row as RowValue};
 ghost use Rattle.fib_entries.specs.inner.Coming.{IsArriving, IsBelonging, IsPlaced, HasCome, blank_row, with_pairs};
+ghost use Rattle.fib_entries.specs.inner.Leaf.{IsClear};
 ghost use Rattle.fib_entries.specs.inner.Plies.{IsGap};
 
 use crate::apply::{alone, moved, own};
@@ -15,7 +15,7 @@ use crate::change::Target;
 use crate::changes::{Followed, Touched};
 use crate::dependants::Dependants;
 use crate::going::take_out;
-use crate::leaf::{are_far, is_none, is_short, is_written, suits};
+use crate::leaf::{is_none, is_short, is_written, suits};
 use crate::links::attach;
 use crate::replace::Own;
 use crate::rows::{Body, Row};
@@ -38,17 +38,7 @@ pub fn gap_of(rows: &Blocks<Row>, prefix: Prefix) -> Option<usize>
     }
 }
 
-/// Whether the row at that place, if there is one, begins outside the prefix.
-fn is_outside(rows: &Blocks<Row>, place: usize, p: Prefix) -> bool
-    ensures { IsTrue result → (s : RowValue) → slice_get rows.now place ≡ Some s → contains p s.prefix.bits ≡ false }
-{
-    match rows.get(place) {
-        Some(s) => !p.contains(s.prefix.bits()),
-        None => true,
-    }
-}
-
-/// Where the prefix's row belongs, where the route of that source and list is its first and nothing lies in it.
+/// Where the prefix's row belongs, where the route of that source and list is its first.
 pub fn belongs(
     rows: &Blocks<Row>,
     tables: &Tables,
@@ -58,9 +48,11 @@ pub fn belongs(
 ) -> Option<usize>
     requires ascending { IsAscending (map prefix_of rows.now) }
     requires list { new.now ≡ paths_at p source tables.now.routes }
+    requires clear { IsClear rows.now tables.now.neighbors p }
     ensures belongs { IfSome result (λ place. IsBelonging rows.now tables.now p source place) }
     ensures inside { IfSome result (λ place. place ≤ length rows.now) }
 {
+    let _tables = tables;
     if !is_written(source) {
         return None;
     }
@@ -70,12 +62,6 @@ pub fn belongs(
     let Some(place) = gap_of(rows, p) else {
         return None;
     };
-    if !is_outside(rows, place, p) {
-        return None;
-    }
-    if !are_far(p, tables.neighbors.as_slice()) {
-        return None;
-    }
     if is_none(new) {
         return None;
     }
@@ -92,6 +78,7 @@ pub fn arriving(
 ) -> Option<usize>
     requires ascending { IsAscending (map prefix_of rows.now) }
     requires list { new.now ≡ paths_at p source tables.now.routes }
+    requires clear { IsClear rows.now tables.now.neighbors p }
     ensures arriving { IfSome result (λ place. IsArriving rows.now tables.now p source place) }
     ensures inside { IfSome result (λ place. place ≤ length rows.now) }
 {
@@ -204,11 +191,11 @@ pub fn come(
     requires gap { IsGap (map prefix_of rows.old) place to.prefix }
     requires inside { place ≤ length rows.old }
     requires room { IsUsedLess lists.old to.new.now (2 ^ 32 - 1) }
-    ensures done { IfOk result (λ f. HasCome rows.old rows.new lists.old lists.new place to.entry.prefix to.entry.source to.entry.new.now to.entry.rank f) }
+    ensures done { IfOk result (λ f. HasCome to.entry.tables.now rows.old rows.new lists.old lists.new place to.entry.prefix to.entry.source to.entry.new.now to.entry.rank f) }
     ensures rows { OnErr result (rows.new ≡ rows.old) }
     ensures lists { OnErr result (lists.new ≡ lists.old) }
 {
-    let own = own(alloc, to.source, to.new, to.rank)?;
+    let own = own(alloc, to.tables, to.source, to.new, to.rank)?;
     let touched = alone(alloc, to.prefix)?;
     let moved = moved(alloc, to.prefix, 0, to.rank)?;
     place_row(alloc, rows, lists, (place, to.prefix), to.new, own)?;

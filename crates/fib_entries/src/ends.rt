@@ -10,7 +10,8 @@ ghost use Rattle.fib_entries.specs.Known.{prefix_of, row_of};
 ghost use Rattle.fib_entries.specs.Rows.{Row as RowValue};
 ghost use Rattle.fib_entries.specs.inner.Building.{AreHeld};
 ghost use Rattle.fib_entries.specs.inner.Compare.{AreKept};
-ghost use Rattle.fib_entries.specs.inner.Ends.{aim_over, aim_at, is_mac, has_flag, has_mac, renewed, is_exit, has_exit, exits_of, is_old, is_old_row, is_old_in, renewed_row, AreRenewing, IsLink, IsNear};
+ghost use Rattle.fib_entries.specs.inner.Fields.{AreAmong};
+ghost use Rattle.fib_entries.specs.inner.Ends.{aim_over, aim_at, is_mac, has_flag, has_mac, renewed, is_exit, has_exit, is_old, is_old_row, is_old_in, renewed_row, AreRenewing, IsLink, IsNear};
 
 use crate::changes::{Followed, Touched};
 use crate::look::{place_of, row};
@@ -140,7 +141,7 @@ fn is_over(interface: u32, mark: &Marked) -> bool
 }
 
 /// Whether they leave for the neighbor.
-fn is_at(interface: u32, next_hop: Addr, mark: &Marked) -> bool
+pub fn is_at(interface: u32, next_hop: Addr, mark: &Marked) -> bool
     ensures { result ≡ aim_at interface next_hop mark.now.aim }
 {
     match mark.aim {
@@ -220,27 +221,6 @@ pub fn has_exit(row: &Row) -> bool
     ensures { result ≡ has_exit row.now }
 {
     row.marked().iter().any(|mark| is_exit(mark))
-}
-
-/// Appends the row's prefix where that is so.
-fn add_exit(out: &mut List<Prefix>, row: &Row) -> Result<(), AllocError>
-    ensures { OnOk result (out.new ≡ (if has_exit row.now then out.old ++ row.now.prefix ∷ [] else out.old)) }
-{
-    if has_exit(row) {
-        out.push(row.prefix)?;
-    }
-    Ok(())
-}
-
-/// The prefixes of the rows with a path that leaves by an interface, in order: news of an end is news of these alone.
-pub fn exits_of(alloc: Global, rows: &Blocks<Row>) -> Result<List<Prefix>, AllocError>
-    ensures { IfOk result (λ l. l ≡ exits_of rows.now) }
-{
-    let mut out = List::new(alloc);
-    'rows: for place in 0..rows.len() {
-        add_exit(&mut out, &rows[place])?;
-    }
-    Ok(out)
 }
 
 /// Whether the news makes a mark of the prefix's row another.
@@ -335,7 +315,8 @@ fn renew_rows(alloc: Global, rows: &mut Blocks<Row>, touched: &[Prefix], news: &
     }
 }
 
-/// Renews the marks of all rows, and tells the prefixes of the rows of which one is another. Looks at the rows of the exits alone. After want
+/// Renews the marks of all rows, and tells the prefixes of the rows of which one is another. Looks at the rows of the exits alone, which
+/// are all those with a path that leaves by an interface, in order. After want
 /// of memory all is as before.
 pub fn follow(
     alloc: Global,
@@ -344,7 +325,8 @@ pub fn follow(
     news: &News,
 ) -> Result<Followed, AllocError>
     requires ascending { IsAscending (map prefix_of rows.old) }
-    requires exits { exits.now ≡ exits_of rows.old }
+    requires ordered { IsAscending exits.now }
+    requires exits { AreAmong has_exit rows.old exits.now }
     ensures rows { OnOk result (rows.new ≡ map (renewed_row news.now) rows.old) }
     ensures touched { IfOk result (λ f. f.touched ≡ map prefix_of (filter (is_old_row news.now) rows.old)) }
     ensures moved { IfOk result (λ f. f.moved ≡ []) }

@@ -1,5 +1,5 @@
 // Entries that stand for tables.
-ghost use Rattle.std.specs.Prelude.{◌∷◌, ◌-◌, ◌^◌, IfNone, OnErr, ◌≡◌, ◌<◌, ◌↔◌, IfOk, IfSome, IsSome, Some, ℕ, [], length, map, option_copied, slice_get, min, Contains, List as Items};
+ghost use Rattle.std.specs.Prelude.{◌∷◌, ◌-◌, ◌^◌, IfNone, OnErr, ◌≡◌, ◌<◌, ◌↔◌, IfOk, IfSome, IsSome, IsTrue, Some, ℕ, [], length, map, option_copied, slice_get, min, Contains, List as Items};
 ghost use Rattle.fib_reach.specs.Walks.{AllDiffer};
 ghost use Rattle.fib_addr.specs.Prefixes.{Prefix as PrefixValue, IsPrefix};
 ghost use Rattle.fib_resolve.specs.Aims.{marked_list};
@@ -16,7 +16,7 @@ ghost use Rattle.fib_interned.specs.Interned.{kept_of};
 ghost use Rattle.fib_entries.specs.inner.Compare.{AreKept};
 ghost use Rattle.fib_entries.specs.inner.Ends.{IsNews};
 ghost use Rattle.fib_entries.specs.inner.Hosting.{IsHosting};
-ghost use Rattle.fib_entries.specs.inner.Leaf.{IsFollowed};
+ghost use Rattle.fib_entries.specs.inner.Leaf.{IsClear, IsFollowed};
 ghost use Rattle.fib_entries.specs.inner.Parting.{IsParting};
 ghost use Rattle.fib_changes.specs.Differ.{Differ};
 ghost use Rattle.fib_changes.specs.declared.change.Change.TheVariants as changes;
@@ -29,7 +29,8 @@ use crate::coming::{arriving, belongs, come};
 use crate::ends::News;
 use crate::going::{leave, leaving, size_at};
 use crate::hosting::{Late, MOST_OF_TWO, come_hosted, greater, insert_both, late_for, remove_both};
-use crate::leaf::{is_none, leaf_place, only_list, ready, top_rank};
+use crate::index::Index;
+use crate::leaf::{are_far, is_none, leaf_place, only_list, ready, top_rank};
 use crate::look::row;
 use crate::parting::{Last, last_for, leave_parting};
 use crate::plies::{beyond, lowered, own_size, raised};
@@ -40,7 +41,6 @@ use fib_addr::{Addr, Prefix};
 use fib_blocks::Blocks;
 use fib_changes::Change;
 use fib_cover::PrefixSet;
-use fib_list::List;
 use fib_paths::{PathListId, PathLists};
 use fib_plain::Meaning;
 use fib_resolve::{FibSource, Marked, Path, Tables};
@@ -53,8 +53,7 @@ pub struct Entries {
     rows: Blocks<Row>,
     lists: PathLists,
     order: PrefixSet,
-    /// The prefixes of the rows with a path that leaves by an interface, in order.
-    exits: List<Prefix>,
+    index: Index,
     objects: u32,
     alloc: Global,
 }
@@ -66,7 +65,7 @@ impl Drop for Entries {
             rows: _,
             lists: _,
             order: _,
-            exits: _,
+            index: _,
             objects: _,
             alloc: _,
         } = self;
@@ -82,7 +81,7 @@ impl Model for Entries {
 
     ghost use Rattle.fib_entries.specs.inner.Fields.{AreFields};
 
-    ghost invariant = { λ s. AreFields s.rows s.lists s.order s.exits };
+    ghost invariant = { λ s. AreFields s.rows s.lists s.order s.index };
 }
 
 impl Entries {
@@ -105,14 +104,14 @@ impl Entries {
         let _count = lists.count();
         let made = whole::rows_anew(alloc, &meaning, &lists, ids.as_slice(), listed.as_slice())?;
         let rows = Blocks::of(alloc, made)?;
-        let exits = ends::exits_of(alloc, &rows)?;
+        let index = Index::of(alloc, &rows)?;
         let objects = size_of(alloc, &meaning, listed.as_slice())?;
         let order = meaning.into_entries();
         Ok(Entries {
             rows,
             lists,
             order,
-            exits,
+            index,
             objects,
             alloc,
         })
@@ -134,6 +133,7 @@ impl Entries {
     ) -> Result<Option<Followed>, AllocError>
         requires sound { IsSound tables.now }
         requires list { new.now ≡ paths_at prefix source tables.now.routes }
+        requires clear { IsClear self.old.rows tables.now.neighbors prefix }
         requires most { most < 2 ^ 32 - 1 }
         ensures followed { IfOk result (λ o. IfSome o (λ f. (S : TablesValue) → StandsFor self.old S →
             Differ (changes.Route prefix source ∷ []) S tables.now → IsFollowed self.old self.new S tables.now most f)) }
@@ -151,12 +151,15 @@ impl Entries {
             return Ok(None);
         }
         let to = Target {
+            tables,
             prefix,
             source,
             new,
             rank: top + 1,
         };
+        self.index.note(prefix, new, None)?;
         let followed = change(self.alloc, &mut self.rows, &mut self.lists, at, to)?;
+        self.index.forget(prefix, new, None);
         Ok(Some(followed))
     }
 
@@ -211,7 +214,8 @@ impl Entries {
         let Some(news) = self.news_of(tables, change) else {
             return Ok(None);
         };
-        let followed = ends::follow(self.alloc, &mut self.rows, self.exits.as_slice(), &news)?;
+        let exits = self.index.exits(self.alloc)?;
+        let followed = ends::follow(self.alloc, &mut self.rows, exits.as_slice(), &news)?;
         Ok(Some(followed))
     }
 
@@ -357,6 +361,7 @@ impl Entries {
     ) -> Result<Option<Followed>, AllocError>
         requires sound { IsSound tables.now }
         requires list { new.now ≡ paths_at prefix source tables.now.routes }
+        requires clear { IsClear self.old.rows tables.now.neighbors prefix }
         requires most { most < 2 ^ 32 - 1 }
         ensures followed { IfOk result (λ o. IfSome o (λ f. (S : TablesValue) → StandsFor self.old S →
             Differ (changes.Route prefix source ∷ []) S tables.now → IsFollowed self.old self.new S tables.now most f)) }
@@ -372,6 +377,7 @@ impl Entries {
         };
         let followed = leave(self.alloc, &mut self.rows, &mut self.lists, at, prefix, new)?;
         self.order.remove(prefix);
+        self.index.forget(prefix, &[], None);
         self.objects = objects;
         Ok(Some(followed))
     }
@@ -388,6 +394,7 @@ impl Entries {
     ) -> Result<Option<Followed>, AllocError>
         requires sound { IsSound tables.now }
         requires list { new.now ≡ paths_at prefix source tables.now.routes }
+        requires clear { IsClear self.old.rows tables.now.neighbors prefix }
         requires most { most < 2 ^ 32 - 1 }
         ensures followed { IfOk result (λ o. IfSome o (λ f. (S : TablesValue) → StandsFor self.old S →
             Differ (changes.Route prefix source ∷ []) S tables.now → IsFollowed self.old self.new S tables.now most f)) }
@@ -409,11 +416,13 @@ impl Entries {
             return Ok(None);
         };
         let to = Target {
+            tables,
             prefix,
             source,
             new,
             rank: top + 1,
         };
+        self.index.note(prefix, new, None)?;
         self.order.insert(prefix)?;
         match come(self.alloc, &mut self.rows, &mut self.lists, place, to) {
             Ok(followed) => {
@@ -422,6 +431,7 @@ impl Entries {
             }
             Err(e) => {
                 self.order.remove(prefix);
+                self.index.forget(prefix, &[], None);
                 Err(e)
             }
         }
@@ -437,6 +447,7 @@ impl Entries {
         new: &[Path],
     ) -> Option<(usize, Late)>
         requires list { new.now ≡ paths_at prefix source tables.now.routes }
+        requires clear { IsClear self.now.rows tables.now.neighbors prefix }
         ensures { IfSome result (λ x. IsHosting self.now.rows self.now.lists (map prefix_of self.now.rows) tables.now prefix source x.0 x.1) }
     {
         let Some(place) = belongs(&self.rows, tables, prefix, source, new) else {
@@ -461,6 +472,7 @@ impl Entries {
     ) -> Result<Option<Followed>, AllocError>
         requires sound { IsSound tables.now }
         requires list { new.now ≡ paths_at prefix source tables.now.routes }
+        requires clear { IsClear self.old.rows tables.now.neighbors prefix }
         requires most { most < 2 ^ 32 - 1 }
         ensures followed { IfOk result (λ o. IfSome o (λ f. (S : TablesValue) → StandsFor self.old S →
             Differ (changes.Route prefix source ∷ []) S tables.now → IsFollowed self.old self.new S tables.now most f)) }
@@ -481,12 +493,14 @@ impl Entries {
             return Ok(None);
         };
         let to = Target {
+            tables,
             prefix,
             source,
             new,
             rank: top + 1,
         };
         let host = Prefix::host(late.addr);
+        self.index.note(prefix, new, Some(host))?;
         insert_both(&mut self.order, host, prefix)?;
         match come_hosted(self.alloc, &mut self.rows, &mut self.lists, late, place, to) {
             Ok((followed, size)) => {
@@ -495,6 +509,7 @@ impl Entries {
             }
             Err(e) => {
                 remove_both(&mut self.order, host, prefix);
+                self.index.forget(prefix, &[], Some(host));
                 Err(e)
             }
         }
@@ -511,6 +526,7 @@ impl Entries {
     ) -> Result<Option<Followed>, AllocError>
         requires sound { IsSound tables.now }
         requires list { new.now ≡ paths_at prefix source tables.now.routes }
+        requires clear { IsClear self.old.rows tables.now.neighbors prefix }
         requires most { most < 2 ^ 32 - 1 }
         ensures followed { IfOk result (λ o. IfSome o (λ f. (S : TablesValue) → StandsFor self.old S →
             Differ (changes.Route prefix source ∷ []) S tables.now → IsFollowed self.old self.new S tables.now most f)) }
@@ -521,6 +537,19 @@ impl Entries {
             Some(followed) => Ok(Some(followed)),
             None => self.follow_hosting(tables, prefix, source, new, most),
         }
+    }
+
+    /// Whether no host's row and no neighbor lies in the prefix.
+    fn is_clear(&self, tables: &Tables, prefix: Prefix) -> Result<bool, AllocError>
+        ensures { IfOk result (λ b. IsTrue b → IsClear self.now.rows tables.now.neighbors prefix) }
+    {
+        // Read so that the proof knows its range.
+        let _len = prefix.len();
+        if !are_far(prefix, tables.neighbors.as_slice()) {
+            return Ok(false);
+        }
+        let may_have = self.index.may_have_host(self.alloc, prefix)?;
+        Ok(!may_have)
     }
 
     /// Follows the change of the route of that prefix and source, where rows and neighbors tell that it touches that prefix alone, whether
@@ -541,6 +570,9 @@ impl Entries {
         ensures none { IfOk result (λ o. IfNone o (self.new ≡ self.old)) }
         ensures err { OnErr result (self.new ≡ self.old) }
     {
+        if !self.is_clear(tables, prefix)? {
+            return Ok(None);
+        }
         match self.follow_leaf(tables, prefix, source, new, most)? {
             Some(followed) => Ok(Some(followed)),
             None => self.follow_coming_or_going(tables, prefix, source, new, most),
@@ -557,9 +589,11 @@ impl Entries {
         new: &[Path],
     ) -> Option<((usize, PathListId), Last)>
         requires list { new.now ≡ paths_at prefix source tables.now.routes }
+        requires clear { IsClear self.now.rows tables.now.neighbors prefix }
         ensures { IfSome result (λ x. (old : Items PathValue) × IsParting self.now.rows self.now.lists (map prefix_of self.now.rows) tables.now prefix source x.0.0 x.0.1 old x.1) }
     {
-        let Some(place) = leaf_place(&self.rows, tables.neighbors.as_slice(), prefix, source) else {
+        let _tables = tables;
+        let Some(place) = leaf_place(&self.rows, prefix, source) else {
             return None;
         };
         let Some(id) = only_list(&self.rows[place], source) else {
@@ -569,7 +603,8 @@ impl Entries {
             return None;
         }
         let old = self.lists.content(id);
-        let Some(last) = last_for(&self.rows, &self.lists, &self.order, tables, prefix, old) else {
+        let index = &self.index;
+        let Some(last) = last_for(&self.rows, &self.lists, &self.order, index, prefix, old) else {
             return None;
         };
         Some(((place, id), last))
@@ -588,6 +623,7 @@ impl Entries {
     ) -> Result<Option<Followed>, AllocError>
         requires sound { IsSound tables.now }
         requires list { new.now ≡ paths_at prefix source tables.now.routes }
+        requires clear { IsClear self.old.rows tables.now.neighbors prefix }
         requires most { most < 2 ^ 32 - 1 }
         ensures followed { IfOk result (λ o. IfSome o (λ f. (S : TablesValue) → StandsFor self.old S →
             Differ (changes.Route prefix source ∷ []) S tables.now → IsFollowed self.old self.new S tables.now most f)) }
@@ -610,6 +646,7 @@ impl Entries {
             &last,
         )?;
         remove_both(&mut self.order, host, prefix);
+        self.index.forget(prefix, &[], Some(host));
         self.objects -= parted.1;
         Ok(Some(parted.0))
     }
@@ -625,6 +662,7 @@ impl Entries {
     ) -> Result<Option<Followed>, AllocError>
         requires sound { IsSound tables.now }
         requires list { new.now ≡ paths_at prefix source tables.now.routes }
+        requires clear { IsClear self.old.rows tables.now.neighbors prefix }
         requires most { most < 2 ^ 32 - 1 }
         ensures followed { IfOk result (λ o. IfSome o (λ f. (S : TablesValue) → StandsFor self.old S →
             Differ (changes.Route prefix source ∷ []) S tables.now → IsFollowed self.old self.new S tables.now most f)) }
@@ -648,6 +686,7 @@ impl Entries {
     ) -> Result<Option<Followed>, AllocError>
         requires sound { IsSound tables.now }
         requires list { new.now ≡ paths_at prefix source tables.now.routes }
+        requires clear { IsClear self.old.rows tables.now.neighbors prefix }
         requires most { most < 2 ^ 32 - 1 }
         ensures followed { IfOk result (λ o. IfSome o (λ f. (S : TablesValue) → StandsFor self.old S →
             Differ (changes.Route prefix source ∷ []) S tables.now → IsFollowed self.old self.new S tables.now most f)) }
@@ -668,19 +707,22 @@ impl Entries {
         source: FibSource,
         new: &[Path],
         most: u32,
-    ) -> Option<u32>
+    ) -> Result<Option<u32>, AllocError>
         requires sound { IsSound tables.now }
         requires list { new.now ≡ paths_at prefix source tables.now.routes }
-        ensures { IfSome result (λ n. (S : TablesValue) → StandsFor self.now S →
-            Differ (changes.Route prefix source ∷ []) S tables.now → (most < size tables.now) × (n ≡ min (size tables.now) (2 ^ 32 - 1))) }
+        ensures { IfOk result (λ o. IfSome o (λ n. (S : TablesValue) → StandsFor self.now S →
+            Differ (changes.Route prefix source ∷ []) S tables.now → (most < size tables.now) × (n ≡ min (size tables.now) (2 ^ 32 - 1)))) }
     {
+        if !self.is_clear(tables, prefix)? {
+            return Ok(None);
+        }
         let Some(place) = arriving(&self.rows, tables, prefix, source, new) else {
-            return None;
+            return Ok(None);
         };
         let size = own_size(&self.rows, place, place, prefix);
         let Some(objects) = beyond(self.objects, size, most) else {
-            return None;
+            return Ok(None);
         };
-        Some(objects)
+        Ok(Some(objects))
     }
 }

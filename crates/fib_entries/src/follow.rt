@@ -213,23 +213,28 @@ impl Entries {
             Differ changes.now S after.now.tables → IsTooMany (size after.now.tables) most e) }
         ensures err { OnErr result (self.new ≡ self.old) }
     {
-        match self.too_many(after, changes, most) {
+        match self.too_many(after, changes, most)? {
             Some(size) => Err(FollowError::TooMany(size)),
             None => self.follow_anew(after, changes, most),
         }
     }
 
     /// The size of the tables, where a change alone made it greater than the most that is allowed, and the rows tell so.
-    fn too_many(&self, after: &Config, changes: &[Change], most: u32) -> Option<u32>
-        ensures { IfSome result (λ n. (S : TablesValue) → StandsFor self.now S →
-            Differ changes.now S after.now.tables → (most < size after.now.tables) × (n ≡ min (size after.now.tables) (2 ^ 32 - 1))) }
+    fn too_many(
+        &self,
+        after: &Config,
+        changes: &[Change],
+        most: u32,
+    ) -> Result<Option<u32>, AllocError>
+        ensures { IfOk result (λ o. IfSome o (λ n. (S : TablesValue) → StandsFor self.now S →
+            Differ changes.now S after.now.tables → (most < size after.now.tables) × (n ≡ min (size after.now.tables) (2 ^ 32 - 1)))) }
     {
         match changes {
             [Change::Route { prefix, source }] => {
                 let new = after.paths_of(*prefix, *source);
                 self.too_many_with(after.tables(), *prefix, *source, new, most)
             }
-            _ => None,
+            _ => Ok(None),
         }
     }
 

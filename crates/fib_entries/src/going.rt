@@ -9,7 +9,7 @@ ghost use Rattle.fib_entries.specs.Known.{content_of, prefix_of};
 ghost use Rattle.fib_entries.specs.Rows.{Row as RowValue};
 ghost use Rattle.fib_entries.specs.inner.Building.{AreHeld};
 ghost use Rattle.fib_entries.specs.inner.Going.{IsLeaving, IsWithdrawn, HasLeft};
-ghost use Rattle.fib_entries.specs.inner.Leaf.{goals_of};
+ghost use Rattle.fib_entries.specs.inner.Leaf.{IsClear, goals_of};
 ghost use Rattle.fib_entries.specs.inner.Plies.{own_size, entry_at, entry_before};
 
 use crate::apply::{alone, moved};
@@ -37,10 +37,12 @@ pub fn leaving(
     requires ascending { IsAscending (map prefix_of rows.now) }
     requires held { AreHeld rows.now lists.now }
     requires list { new.now ≡ paths_at p source tables.now.routes }
+    requires clear { IsClear rows.now tables.now.neighbors p }
     ensures leaving { IfSome result (λ x. (old : Items PathValue) × IsLeaving rows.now lists.now tables.now p source x.0 x.1 old) }
     ensures inside { IfSome result (λ x. x.0 < length rows.now) }
 {
-    let Some(place) = leaf_place(rows, tables.neighbors.as_slice(), p, source) else {
+    let _tables = tables;
+    let Some(place) = leaf_place(rows, p, source) else {
         return None;
     };
     let Some(id) = only_list(&rows[place], source) else {

@@ -22,7 +22,7 @@ use crate::change::Target;
 use crate::changes::{Followed, Moved, Touched};
 use crate::coming::{blank, filled, gap_of, place_row, put_in, room, set_pairs};
 use crate::going::take_out;
-use crate::leaf::{are_plain, bits, has_other};
+use crate::leaf::{are_plain, bits, has_end, has_other};
 use crate::links::{has, push_at, unlink};
 use crate::look::{place_of, row};
 use crate::plies::own_size;
@@ -89,7 +89,7 @@ fn late_hop(rows: &Blocks<Row>, paths: &[Path]) -> Option<Addr>
     }
 }
 
-/// Whether the path's next hop is that address, or another leads to its entry.
+/// Whether the path's next hop is that address, or another leads to its entry; and whether another has the same Hop end.
 fn is_shared_but(rows: &Blocks<Row>, p: Prefix, a: Addr, path: &Path) -> bool
     requires { IsAscending (map prefix_of rows.now) }
     ensures { result ≡ shared_but rows.now p a path.now.kind }
@@ -102,6 +102,10 @@ fn is_shared_but(rows: &Blocks<Row>, p: Prefix, a: Addr, path: &Path) -> bool
                     None => false,
                 }
         }
+        PathKind::Hop {
+            next_hop,
+            interface,
+        } => has_end(rows, interface, next_hop),
         _ => true,
     }
 }
@@ -345,14 +349,14 @@ pub fn come_hosted(
     requires gap { IsGap (map prefix_of rows.old) place to.prefix }
     requires late { IsComing rows.old lists.old g }
     requires room { IsUsedLess lists.old to.new.now (2 ^ 32 - 1) }
-    ensures done { IfOk result (λ x. HasHosted rows.old rows.new lists.old lists.new g to.entry.prefix to.entry.source to.entry.new.now to.entry.rank x.1 x.0) }
+    ensures done { IfOk result (λ x. HasHosted to.entry.tables.now rows.old rows.new lists.old lists.new g to.entry.prefix to.entry.source to.entry.new.now to.entry.rank x.1 x.0) }
     ensures few { IfOk result (λ x. x.1 ≤ 18) }
     ensures rows { OnErr result (rows.new ≡ rows.old) }
     ensures lists { OnErr result (lists.new ≡ lists.old) }
 {
     let host = Prefix::host(g.addr);
     let prefix = to.prefix;
-    let own = own(alloc, to.source, to.new, to.rank)?;
+    let own = own(alloc, to.tables, to.source, to.new, to.rank)?;
     let touched = both(alloc, prefix, host)?;
     let moved = both_moved(alloc, prefix, host)?;
     let room = room(alloc)?;

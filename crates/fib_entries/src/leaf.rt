@@ -1,34 +1,35 @@
-// A route of a prefix that nothing leads to, and in which nothing lies: what it takes to see that, and what its row gets.
+// A route of a prefix that nothing leads to: what it takes to see that, and what its row gets.
 ghost use Rattle.std.specs.Prelude.{◌≡◌, ◌↔◌, ◌⊎◌, ◌+◌, ◌∷◌, [], ◌≤◌, ◌<◌, ◌^◌, true, false, IsTrue, IfOk, IfSome, Some, map, length, slice_get, Contains, List as Items};
 ghost use Rattle.fib_resolve.specs.declared.types.Path.{Path as PathValue};
 ghost use Rattle.fib_entries.specs.inner.Building.{AreHeld};
 ghost use Rattle.std.specs.List.{list_all, list_any};
-ghost use Rattle.fib_addr.specs.Prefixes.{Prefix as PrefixValue, IsPrefix, contains};
+ghost use Rattle.fib_addr.specs.Prefixes.{Prefix as PrefixValue, IsPrefix, contains, host};
 ghost use Rattle.fib_cover.specs.Covers.{IsAscending};
 ghost use Rattle.fib_resolve.specs.Edits.{paths_at};
 ghost use Rattle.fib_resolve.specs.Keys.{source_rank};
 ghost use Rattle.fib_entries.specs.Rows.{Row as RowValue};
 ghost use Rattle.fib_resolve.specs.declared.types.Neighbor.{Neighbor as NeighborValue};
 ghost use Rattle.fib_entries.specs.Known.{prefix_of, row_of, rank_of};
-ghost use Rattle.fib_entries.specs.inner.Leaf.{is_plain, plain_aim, plain_mark, goal_of, goals_of, has_other, shared_kind, shared_path, IsLeaf, IsLeafAt, IsReady};
+ghost use Rattle.fib_entries.specs.inner.Leaf.{is_plain, plain_aim, plain_counts, plain_mark, goal_of, goals_of, has_end, has_other, shared_kind, shared_path, IsClear, IsLeafAt, IsReady};
 
-use crate::ends::has_exit;
+use crate::ends::{is_at, is_up, mac_of};
 use crate::look::{is_same, place_of, row};
 use crate::rows::Row;
-use fib_addr::Prefix;
+use fib_addr::{Addr, Prefix};
 use fib_blocks::Blocks;
 use fib_list::List;
 use fib_paths::{PathListId, PathLists};
 use fib_resolve::{Aim, End, FibSource, Marked, Neighbor, Path, PathKind, Tables, keys};
 use std::alloc::{AllocError, Global};
 
-/// Whether the path is over no interface and needs nothing.
+/// Whether the path needs nothing and doesn't lead to its cover.
 fn is_plain(path: &Path) -> bool
     ensures { result ≡ is_plain path.now }
 {
     let is_kind = match path.kind {
         PathKind::Drop | PathKind::Local | PathKind::Recursive(_) => true,
-        PathKind::Attached(_) | PathKind::Hop { .. } | PathKind::Cover => false,
+        PathKind::Attached(_) | PathKind::Hop { .. } => true,
+        PathKind::Cover => false,
     };
     is_kind && path.need.rank() == 0
 }
@@ -69,7 +70,27 @@ pub fn has_other(r: &Row, p: Prefix) -> bool
     r.dependants().as_slice().iter().any(|d| !is_same(p, *d))
 }
 
-/// Whether another has an edge to the entry of the path's next hop, where it has one.
+/// Whether a path of the row ends at the neighbor on the interface.
+fn ends_at(r: &Row, interface: u32, next_hop: Addr) -> bool
+    ensures { result ≡ has_end interface next_hop (Some r.now) }
+{
+    r.marked()
+        .iter()
+        .any(|mark| is_at(interface, next_hop, mark))
+}
+
+/// Whether the host of that next hop has the Hop end too.
+pub fn has_end(rows: &Blocks<Row>, interface: u32, next_hop: Addr) -> bool
+    requires { IsAscending (map prefix_of rows.now) }
+    ensures { result ≡ has_end interface next_hop (row_of rows.now (host next_hop)) }
+{
+    match row(rows, Prefix::host(next_hop)) {
+        Some(r) => ends_at(r, interface, next_hop),
+        None => false,
+    }
+}
+
+/// Whether another has an edge to the entry of the path's next hop, or the same Hop end, where the path has one.
 fn is_shared(rows: &Blocks<Row>, p: Prefix, path: &Path) -> bool
     requires { IsAscending (map prefix_of rows.now) }
     ensures { result ≡ shared_kind rows.now p path.now.kind }
@@ -79,6 +100,10 @@ fn is_shared(rows: &Blocks<Row>, p: Prefix, path: &Path) -> bool
             Some(r) => has_other(r, p),
             None => false,
         },
+        PathKind::Hop {
+            next_hop,
+            interface,
+        } => has_end(rows, interface, next_hop),
         _ => true,
     }
 }
@@ -120,38 +145,65 @@ pub fn top_rank(rows: &Blocks<Row>, paths: &[Path]) -> u32
     }
 }
 
-fn plain_aim(path: &Path) -> Aim
-    ensures { result ≡ plain_aim path.now.kind }
+fn plain_aim(tables: &Tables, path: &Path) -> Aim
+    ensures { result ≡ plain_aim tables.now path.now.kind }
 {
     match path.kind {
         PathKind::Local => Aim::Ends(End::Receive),
+        PathKind::Attached(interface) => Aim::Ends(End::Glean(interface)),
+        PathKind::Hop {
+            next_hop,
+            interface,
+        } => Aim::Ends(End::Hop {
+            interface,
+            next_hop,
+            mac: mac_of(tables, interface, next_hop),
+        }),
         PathKind::Recursive(a) => Aim::On(Prefix::host(a)),
         _ => Aim::Ends(End::Drop),
     }
 }
 
-fn plain_mark(path: &Path) -> Marked
-    ensures { result ≡ plain_mark path.now }
+fn plain_counts(tables: &Tables, path: &Path) -> bool
+    ensures { result ≡ plain_counts tables.now path.now.kind }
+{
+    match path.kind {
+        PathKind::Local | PathKind::Recursive(_) => true,
+        PathKind::Attached(interface) => is_up(tables, interface),
+        PathKind::Hop { interface, .. } => is_up(tables, interface),
+        PathKind::Drop | PathKind::Cover => false,
+    }
+}
+
+fn plain_mark(tables: &Tables, path: &Path) -> Marked
+    ensures { result ≡ plain_mark tables.now path.now }
 {
     Marked {
-        aim: plain_aim(path),
-        counts: matches!(path.kind, PathKind::Local | PathKind::Recursive(_)),
+        aim: plain_aim(tables, path),
+        counts: plain_counts(tables, path),
         weight: path.weight,
         preference: path.preference,
     }
 }
 
-fn marks(alloc: Global, paths: &[Path]) -> Result<Vec<Marked>, AllocError>
-    ensures { IfOk result (λ v. v.items ≡ map plain_mark paths.now) }
+fn marks(alloc: Global, tables: &Tables, paths: &[Path]) -> Result<Vec<Marked>, AllocError>
+    ensures { IfOk result (λ v. v.items ≡ map (plain_mark tables.now) paths.now) }
 {
-    paths.iter().map(|path| plain_mark(path)).collect(alloc)
+    paths
+        .iter()
+        .map(|path| plain_mark(tables, path))
+        .collect(alloc)
 }
 
-/// What the paths are for, where they are plain and aren't looped.
-pub fn plain_marks(alloc: Global, paths: &[Path]) -> Result<List<Marked>, AllocError>
-    ensures { IfOk result (λ v. v ≡ map plain_mark paths.now) }
+/// What the paths of a prefix shorter than a host are for, where they are plain and aren't looped.
+pub fn plain_marks(
+    alloc: Global,
+    tables: &Tables,
+    paths: &[Path],
+) -> Result<List<Marked>, AllocError>
+    ensures { IfOk result (λ v. v ≡ map (plain_mark tables.now) paths.now) }
 {
-    let marks = marks(alloc, paths)?;
+    let marks = marks(alloc, tables, paths)?;
     Ok(List::from_vec(marks))
 }
 
@@ -187,19 +239,6 @@ pub fn is_short(p: Prefix) -> bool
     p.len() < 32
 }
 
-/// Whether the row after that place, if there is one, begins outside the prefix.
-fn is_last_in(rows: &Blocks<Row>, place: usize, p: Prefix) -> bool
-    requires { place < length rows.now }
-    ensures { IsTrue result → (s : RowValue) → slice_get rows.now (place + 1) ≡ Some s → contains p s.prefix.bits ≡ false }
-{
-    // Read so that the proof knows its range.
-    let _count = rows.len();
-    match rows.get(place + 1) {
-        Some(s) => !p.contains(s.prefix.bits()),
-        None => true,
-    }
-}
-
 /// The number of the row's list, where it is the only one and of that source.
 pub fn only_list(r: &Row, source: FibSource) -> Option<PathListId>
     ensures { IfSome result (λ id. r.now.pairs ≡ (source, id) ∷ []) }
@@ -221,32 +260,18 @@ pub fn suits(rows: &Blocks<Row>, p: Prefix, paths: &[Path]) -> bool
     are_plain(paths) && are_shared(rows, p, paths)
 }
 
-/// Whether nothing leads to the row at that place, nothing lies in its prefix, and no path of it leaves by an interface.
-fn is_leaf(rows: &Blocks<Row>, neighbors: &[Neighbor], place: usize, p: Prefix) -> bool
+/// Whether nothing leads to the row at that place.
+fn is_leaf(rows: &Blocks<Row>, place: usize) -> bool
     requires { place < length rows.now }
-    ensures { IsTrue result → (r : RowValue) → slice_get rows.now place ≡ Some r → IsLeaf rows.now neighbors.now place p r }
+    ensures { IsTrue result → (r : RowValue) → slice_get rows.now place ≡ Some r → r.dependants ≡ [] }
 {
-    if !rows[place].dependants().is_empty() {
-        return false;
-    }
-    if has_exit(&rows[place]) {
-        return false;
-    }
-    if !is_last_in(rows, place, p) {
-        return false;
-    }
-    are_far(p, neighbors)
+    rows[place].dependants().is_empty()
 }
 
-/// The place of the prefix's row, where nothing leads to it and nothing lies in its prefix.
-pub fn leaf_place(
-    rows: &Blocks<Row>,
-    neighbors: &[Neighbor],
-    p: Prefix,
-    source: FibSource,
-) -> Option<usize>
+/// The place of the prefix's row, where nothing leads to it.
+pub fn leaf_place(rows: &Blocks<Row>, p: Prefix, source: FibSource) -> Option<usize>
     requires { IsAscending (map prefix_of rows.now) }
-    ensures leaf { IfSome result (λ place. IsLeafAt rows.now neighbors.now place p source) }
+    ensures leaf { IfSome result (λ place. IsLeafAt rows.now place p source) }
     ensures inside { IfSome result (λ place. place < length rows.now) }
 {
     if !is_written(source) {
@@ -258,7 +283,7 @@ pub fn leaf_place(
     let Some(place) = place_of(rows, p) else {
         return None;
     };
-    if !is_leaf(rows, neighbors, place, p) {
+    if !is_leaf(rows, place) {
         return None;
     }
     Some(place)
@@ -284,9 +309,11 @@ pub fn ready(
     requires ascending { IsAscending (map prefix_of rows.now) }
     requires held { AreHeld rows.now lists.now }
     requires list { new.now ≡ paths_at p source tables.now.routes }
+    requires clear { IsClear rows.now tables.now.neighbors p }
     ensures { IfSome result (λ x. (old : Items PathValue) × IsReady rows.now lists.now tables.now p source x.0 x.1 old) }
 {
-    let Some(place) = leaf_place(rows, tables.neighbors.as_slice(), p, source) else {
+    let _tables = tables;
+    let Some(place) = leaf_place(rows, p, source) else {
         return None;
     };
     let Some(id) = only_list(&rows[place], source) else {

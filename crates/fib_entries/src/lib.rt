@@ -18,6 +18,7 @@ mod follow;
 mod going;
 mod groups;
 mod hosting;
+mod index;
 mod leaf;
 mod links;
 mod look;

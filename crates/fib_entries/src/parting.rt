@@ -6,22 +6,24 @@ ghost use Rattle.fib_cover.specs.Covers.{IsAscending};
 ghost use Rattle.fib_interned.specs.Interned.{kept_of};
 ghost use Rattle.fib_resolve.specs.Edits.{paths_at};
 ghost use Rattle.fib_resolve.specs.Pairs.{plain, recursive_of};
+ghost use Rattle.fib_resolve.specs.declared.types.FibSource.{FibSource as FibSourceValue};
 ghost use Rattle.fib_resolve.specs.declared.types.FibSource.TheVariants as sources;
 ghost use Rattle.fib_resolve.specs.declared.types.Path.{Path as PathValue};
 ghost use Rattle.fib_resolve.specs.declared.types.PathKind.TheVariants as kinds;
-ghost use Rattle.fib_changes.specs.Sources.{all_hops};
 ghost use Rattle.fib_entries.specs.Known.{content_of, prefix_of, rank_of};
 ghost use Rattle.fib_entries.specs.Rows.{Row as RowValue};
 ghost use Rattle.fib_entries.specs.inner.Building.{AreHeld};
+ghost use Rattle.fib_entries.specs.inner.Compare.{AreKept};
+ghost use Rattle.fib_entries.specs.inner.Fields.{AreAmong, has_several};
 ghost use Rattle.fib_entries.specs.inner.Going.{IsWithdrawn};
 ghost use Rattle.fib_entries.specs.inner.Hosting.{shared_path_but};
 ghost use Rattle.fib_entries.specs.inner.Leaf.{is_plain};
-ghost use Rattle.fib_entries.specs.inner.Parting.{HasParted, IsLast, IsParted, hop_at, path_at, route_at};
+ghost use Rattle.fib_entries.specs.inner.Parting.{HasParted, IsLast, IsNotIn, IsParted, hop_at, path_at};
 
 use crate::changes::{Followed, Moved, Touched};
-use crate::ends::has_exit;
 use crate::going::{size_at, take_out, withdraw};
 use crate::hosting::{are_shared_but, both, cover_path};
+use crate::index::Index;
 use crate::leaf::{are_plain, has_other, only_list};
 use crate::links::remove_at;
 use crate::look::{is_same, place_of, row};
@@ -32,7 +34,7 @@ use fib_cover::PrefixSet;
 use fib_effective::is_same_list;
 use fib_list::List;
 use fib_paths::{PathListId, PathLists};
-use fib_resolve::{FibSource, Path, PathKind, Route, Tables};
+use fib_resolve::{FibSource, Path, PathKind};
 use std::alloc::{AllocError, Global};
 
 /// A next hop whose host goes with a route, and is attached to no interface.
@@ -91,18 +93,50 @@ fn is_hop(path: &Path, a: Addr) -> bool
     }
 }
 
-/// Whether the route has that next hop.
-fn has_hop(route: &Route, a: Addr) -> bool
-    ensures { result ≡ list_any (path_at a) route.now.paths }
+/// Whether a path of the list has that next hop.
+fn has_hop(paths: &[Path], a: Addr) -> bool
+    ensures { result ≡ list_any (path_at a) paths.now }
 {
-    route.paths.as_slice().iter().any(|path| is_hop(path, a))
+    paths.iter().any(|path| is_hop(path, a))
 }
 
-/// Whether a route has it.
-fn is_used(routes: &[Route], a: Addr) -> bool
-    ensures { result ≡ list_any (route_at a) routes.now }
+/// Whether one of these lists has it.
+fn is_in_list(lists: &PathLists, held: &[(FibSource, PathListId)], a: Addr) -> bool
+    requires { AreKept lists.now held.now }
+    ensures { result ≡ false → (q : FibSourceValue × ℕ) (paths : Items PathValue) → Contains held.now q → content_of lists.now q.1 ≡ Some paths → list_any (path_at a) paths ≡ false }
 {
-    routes.iter().any(|route| has_hop(route, a))
+    for pair in held {
+        if has_hop(lists.content(pair.1), a) {
+            return true;
+        }
+    }
+    false
+}
+
+/// Whether one of the lists of the prefix's row has it.
+fn is_in_row(rows: &Blocks<Row>, lists: &PathLists, e: Prefix, a: Addr) -> bool
+    requires ascending { IsAscending (map prefix_of rows.now) }
+    requires held { AreHeld rows.now lists.now }
+    ensures { result ≡ false → IsNotIn rows.now lists.now e a }
+{
+    match row(rows, e) {
+        Some(r) => is_in_list(lists, r.pairs(), a),
+        None => false,
+    }
+}
+
+/// Whether one of the lists of these rows has it.
+fn is_hidden(rows: &Blocks<Row>, lists: &PathLists, several: &[Prefix], a: Addr) -> bool
+    requires ascending { IsAscending (map prefix_of rows.now) }
+    requires held { AreHeld rows.now lists.now }
+    ensures { result ≡ false → (e : PrefixValue) → Contains several.now e → IsNotIn rows.now lists.now e a }
+{
+    for e in several {
+        if is_in_row(rows, lists, *e, a) {
+            return true;
+        }
+    }
+    false
 }
 
 /// Whether the prefix alone leads to the row's entry.
@@ -130,18 +164,19 @@ fn host_list(lists: &PathLists, r: &Row) -> Option<PathListId>
     Some(id)
 }
 
-/// The next hop of the paths whose host goes with their route, and it alone, where that route is no longer in the tables.
+/// The next hop of the paths whose host goes with their route, and it alone.
 pub fn last_for(
     rows: &Blocks<Row>,
     lists: &PathLists,
     order: &PrefixSet,
-    tables: &Tables,
+    index: &Index,
     p: Prefix,
     paths: &[Path],
 ) -> Option<Last>
     requires ascending { IsAscending (map prefix_of rows.now) }
     requires held { AreHeld rows.now lists.now }
-    ensures last { IfSome result (λ g. IsLast rows.now lists.now order.now tables.now p g) }
+    requires several { AreAmong has_several rows.now index.now.several }
+    ensures last { IfSome result (λ g. IsLast rows.now lists.now order.now p g) }
     ensures hop { IfSome result (λ g. Contains (filter_map recursive_of paths.now) g.addr) }
     ensures suits { IfSome result (λ g. (list_all is_plain paths.now ≡ true) × (list_all (shared_path_but rows.now p g.addr) paths.now ≡ true)) }
 {
@@ -158,12 +193,9 @@ pub fn last_for(
     if !is_alone(r, p) {
         return None;
     }
-    if has_exit(r) {
-        return None;
-    }
     let list = host_list(lists, r)?;
     let cover = order.cover(addr)?;
-    if is_used(tables.routes.as_slice(), addr) {
+    if is_hidden(rows, lists, index.several(), addr) {
         return None;
     }
     Some(Last { addr, cover, list })

@@ -1,29 +1,27 @@
 -- A leaf that comes with its one route. No contract of a public call rests on this.
-use Rattle.std.specs.Prelude.{◌≡◌, ◌≢◌, ◌⊎◌, ◌<◌, ◌^◌, ℕ, true, false, List, [], ◌∷◌, map, Contains, Some, slice_get, slice_set}
+use Rattle.std.specs.Prelude.{◌≡◌, ◌≢◌, ◌⊎◌, ◌<◌, ℕ, true, List, [], ◌∷◌, map, Some, slice_get, slice_set}
 use Rattle.std.specs.List.{list_all, insert}
-use Rattle.fib_addr.specs.Prefixes.{Prefix, IsPrefix, contains}
+use Rattle.fib_addr.specs.Prefixes.{Prefix, IsPrefix}
 use Rattle.fib_interned.specs.Interned.{AreInterned, Takes}
 use Rattle.fib_resolve.specs.Edits.{paths_at}
 use Rattle.fib_resolve.specs.Keys.{source_rank}
 use Rattle.fib_resolve.specs.declared.types.FibSource.{FibSource}
-use Rattle.fib_resolve.specs.declared.types.Neighbor.{Neighbor}
 use Rattle.fib_resolve.specs.declared.types.Path.{Path}
 use Rattle.fib_resolve.specs.declared.types.Tables.{Tables}
 use Rattle.fib_entries.specs.Known.{PathKept, prefix_of}
-use Rattle.fib_entries.specs.inner.Leaf.{AreAttached, goals_of, is_plain, plain_own, shared_path, moved_at}
+use Rattle.fib_entries.specs.inner.Leaf.{AreAttached, IsClear, goals_of, is_plain, plain_own, shared_path, moved_at}
 use Rattle.fib_entries.specs.inner.Plies.{IsGap}
 use Rattle.fib_entries.specs.declared.replace.Own.{Own}
 use Rattle.fib_entries.specs.Rows.{Row}
 use Rattle.fib_entries.specs.declared.changes.Followed.{Followed}
 
--- the prefix has no row and belongs at that place, nothing lies in it, and its route is there
+-- the prefix has no row and belongs at that place, no host and no neighbor lies in it, and its route is there
 pub record IsBelonging (rows : List Row) (T : Tables) (p : Prefix) (source : FibSource) (place : ℕ) : Type 0 where
   pub gap : IsGap (map prefix_of rows) place p
   pub prefix : IsPrefix p
   pub short : p.len < 32
   pub written : (source_rank source ≡ 2) ⊎ (source_rank source ≡ 3)
-  pub next : (s : Row) → slice_get rows place ≡ Some s → contains p s.prefix.bits ≡ false
-  pub far : (n : Neighbor) → Contains T.neighbors n → (n.addr < 2 ^ 32) × (contains p n.addr ≡ false)
+  pub clear : IsClear rows T.neighbors p
   pub some : paths_at p source T.routes ≢ []
 
 -- the same, and its route suits
@@ -32,8 +30,7 @@ pub record IsArriving (rows : List Row) (T : Tables) (p : Prefix) (source : FibS
   pub prefix : IsPrefix p
   pub short : p.len < 32
   pub written : (source_rank source ≡ 2) ⊎ (source_rank source ≡ 3)
-  pub next : (s : Row) → slice_get rows place ≡ Some s → contains p s.prefix.bits ≡ false
-  pub far : (n : Neighbor) → Contains T.neighbors n → (n.addr < 2 ^ 32) × (contains p n.addr ≡ false)
+  pub clear : IsClear rows T.neighbors p
   pub plain : list_all is_plain (paths_at p source T.routes) ≡ true
   pub shared : list_all (shared_path rows p) (paths_at p source T.routes) ≡ true
   pub some : paths_at p source T.routes ≢ []
@@ -55,7 +52,7 @@ pub record IsPlaced (old new : List Row) (lists later : List PathKept) (place : 
   pub apart : AreInterned later
 
 -- that, and what is told is the prefix, and that it had no rank
-pub record HasCome (old new : List Row) (lists later : List PathKept) (place : ℕ) (p : Prefix) (source : FibSource) (after : List Path) (rank : ℕ) (f : Followed) : Type 0 where
-  pub placed : IsPlaced old new lists later place p after (plain_own source after rank)
+pub record HasCome (T : Tables) (old new : List Row) (lists later : List PathKept) (place : ℕ) (p : Prefix) (source : FibSource) (after : List Path) (rank : ℕ) (f : Followed) : Type 0 where
+  pub placed : IsPlaced old new lists later place p after (plain_own T source after rank)
   pub touched : f.touched ≡ p ∷ []
   pub moved : f.moved ≡ moved_at p 0 rank

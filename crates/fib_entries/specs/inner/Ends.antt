@@ -118,10 +118,6 @@ is_exit m = aim_exit m.aim
 unfoldable pub has_exit : Row → Bool
 has_exit r = list_any is_exit r.marked
 
--- the prefixes of these rows: news of an end makes no mark of another row new
-abbrev pub exits_of : List Row → List Prefix
-exits_of rows = map prefix_of (filter has_exit rows)
-
 -- a mark of the row, where there is one, becomes another
 abbrev pub is_old_in : News → Option Row → Bool
 is_old_in n None = false

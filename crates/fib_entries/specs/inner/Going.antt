@@ -1,17 +1,15 @@
 -- A leaf that goes with its one route. No contract of a public call rests on this.
-use Rattle.std.specs.Prelude.{◌≡◌, ◌⊎◌, ◌+◌, ◌<◌, ◌^◌, ℕ, true, false, List, [], ◌∷◌, Contains, Some, slice_get}
+use Rattle.std.specs.Prelude.{◌≡◌, ◌⊎◌, ◌<◌, ℕ, true, List, [], ◌∷◌, Some, slice_get}
 use Rattle.std.specs.List.{list_all, remove}
-use Rattle.fib_addr.specs.Prefixes.{Prefix, IsPrefix, contains}
+use Rattle.fib_addr.specs.Prefixes.{Prefix, IsPrefix}
 use Rattle.fib_interned.specs.Interned.{AreInterned, Gives}
 use Rattle.fib_resolve.specs.Edits.{paths_at}
 use Rattle.fib_resolve.specs.Keys.{source_rank}
 use Rattle.fib_resolve.specs.declared.types.FibSource.{FibSource}
-use Rattle.fib_resolve.specs.declared.types.Neighbor.{Neighbor}
 use Rattle.fib_resolve.specs.declared.types.Path.{Path}
 use Rattle.fib_resolve.specs.declared.types.Tables.{Tables}
 use Rattle.fib_entries.specs.Known.{PathKept, content_of}
-use Rattle.fib_entries.specs.inner.Ends.{has_exit}
-use Rattle.fib_entries.specs.inner.Leaf.{AreDetached, goals_of, is_plain, shared_path, moved_at}
+use Rattle.fib_entries.specs.inner.Leaf.{AreDetached, IsClear, goals_of, is_plain, shared_path, moved_at}
 use Rattle.fib_entries.specs.Rows.{Row}
 use Rattle.fib_entries.specs.declared.changes.Followed.{Followed}
 
@@ -22,13 +20,11 @@ pub record IsLeaving (rows : List Row) (lists : List PathKept) (T : Tables) (p :
   pub own : row.prefix ≡ p
   pub pairs : row.pairs ≡ (source, id) ∷ []
   pub none : row.dependants ≡ []
-  pub inside : has_exit row ≡ false
   pub content : content_of lists id ≡ Some old
   pub prefix : IsPrefix p
   pub short : p.len < 32
   pub written : (source_rank source ≡ 2) ⊎ (source_rank source ≡ 3)
-  pub next : (s : Row) → slice_get rows (place + 1) ≡ Some s → contains p s.prefix.bits ≡ false
-  pub far : (n : Neighbor) → Contains T.neighbors n → (n.addr < 2 ^ 32) × (contains p n.addr ≡ false)
+  pub clear : IsClear rows T.neighbors p
   pub plain : list_all is_plain old ≡ true
   pub shared : list_all (shared_path rows p) old ≡ true
   pub gone : paths_at p source T.routes ≡ []

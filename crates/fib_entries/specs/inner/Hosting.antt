@@ -18,7 +18,7 @@ use Rattle.fib_resolve.specs.declared.types.PathKind.TheVariants as kinds
 use Rattle.fib_resolve.specs.declared.types.Tables.{Tables}
 use Rattle.fib_entries.specs.Known.{PathKept, content_of, prefix_of, row_of}
 use Rattle.fib_entries.specs.inner.Coming.{IsBelonging, IsPlaced, blank_row, with_pairs}
-use Rattle.fib_entries.specs.inner.Leaf.{has_other, is_plain, plain_own, pushed}
+use Rattle.fib_entries.specs.inner.Leaf.{has_end, has_other, is_plain, plain_own, pushed}
 use Rattle.fib_entries.specs.inner.Plies.{IsGap, entry_at, entry_before, own_size}
 use Rattle.fib_entries.specs.declared.changes.Followed.{Followed}
 use Rattle.fib_entries.specs.declared.hosting.Late.{Late}
@@ -31,7 +31,7 @@ shared_but rows p a (kinds.Recursive b) = (b == a) || has_other p (row_of rows (
 shared_but rows p a kinds.Drop = true
 shared_but rows p a kinds.Local = true
 shared_but rows p a (kinds.Attached i) = true
-shared_but rows p a (kinds.Hop b i) = true
+shared_but rows p a (kinds.Hop b i) = has_end i b (row_of rows (host b))
 shared_but rows p a kinds.Cover = true
 
 abbrev pub shared_path_but : List Row → Prefix → ℕ → Path → Bool
@@ -109,14 +109,14 @@ pub record IsListed (old new : List Row) (lists later : List PathKept) (g : Late
   pub apart : AreInterned later
 
 -- the host came, and then the prefix; what is told are both, which had no rank
-pub record HasHosted (old new : List Row) (lists later : List PathKept) (g : Late) (p : Prefix) (source : FibSource) (after : List Path) (rank made : ℕ) (f : Followed) : Type 0 where
+pub record HasHosted (T : Tables) (old new : List Row) (lists later : List PathKept) (g : Late) (p : Prefix) (source : FibSource) (after : List Path) (rank made : ℕ) (f : Followed) : Type 0 where
   pub mid : List Row
   pub hosted : IsHosted old mid g
   pub place : ℕ
   pub gap : IsGap (map prefix_of mid) place p
   pub low : List Row
   pub between : List PathKept
-  pub placed : IsPlaced mid low lists between place p after (plain_own source after rank)
+  pub placed : IsPlaced mid low lists between place p after (plain_own T source after rank)
   pub listed : IsListed low new between later g
   pub size : made ≡ own_size (host g.addr) (entry_before old g.place) (entry_at old g.place) + own_size p (entry_before mid place) (entry_at mid place)
   pub touched : f.touched ≡ p ∷ host g.addr ∷ []

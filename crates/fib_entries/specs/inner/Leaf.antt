@@ -1,11 +1,13 @@
--- The change of one route of a prefix that nothing leads to and nothing lies in. No contract of a public call rests on this.
-use Rattle.std.specs.Prelude.{◌≡◌, ◌≢◌, ◌↔◌, ◌⊎◌, ◌+◌, ◌≤◌, if◌then◌else◌, map, ◌<◌, ◌^◌, ℕ, true, false, List, [], ◌∷◌, Contains}
+-- The change of one route of a prefix that nothing leads to and no host lies in. No contract of a public call rests on this.
+use Rattle.std.specs.Prelude.{◌≡◌, ◌≢◌, ◌↔◌, ◌⊎◌, ◌≤◌, if◌then◌else◌, map, ◌<◌, ◌^◌, ℕ, true, false, List, [], ◌∷◌, Contains}
 use Rattle.fib_resolve.specs.Keys.{source_rank}
 use Rattle.fib_resolve.specs.Pairs.{pairs, attached_by}
 use Rattle.fib_resolve.specs.declared.pairs.Pair.{Pair}
 use Rattle.fib_addr.specs.Prefixes.{Prefix, IsPrefix, contains, host, same_prefix}
 use Rattle.fib_resolve.specs.Pairs.{entries, recursive_hops}
 use Rattle.fib_resolve.specs.Loops.{targets}
+use Rattle.fib_resolve.specs.Forwarding.{is_up}
+use Rattle.fib_resolve.specs.Resolution.{hop_end}
 use Rattle.fib_resolve.specs.Tables.{IsSound, is_route}
 use Rattle.fib_resolve.specs.declared.types.FibSource.{FibSource}
 use Rattle.fib_resolve.specs.declared.types.FibSource.TheVariants as sources
@@ -30,7 +32,7 @@ use Rattle.fib_entries.specs.Known.{Known, StandsFor, PathKept, prefix_of, row_o
 use Rattle.fib_interned.specs.Interned.{AreInterned, Takes, Gives}
 use Rattle.fib_resolve.specs.Edits.{paths_at}
 use Rattle.fib_entries.specs.inner.Dependants.{IsWithout}
-use Rattle.fib_entries.specs.inner.Ends.{has_exit}
+use Rattle.fib_entries.specs.inner.Ends.{aim_at}
 use Rattle.fib_entries.specs.Rows.{Row}
 use Rattle.fib_entries.specs.declared.replace.Own.{Own}
 use Rattle.fib_entries.specs.declared.changes.Moved.{Moved}
@@ -39,7 +41,7 @@ use Rattle.fib_entries.specs.Changes.{AreTouched, AreMoved}
 use Rattle.fib_resolve.specs.Sizes.{size}
 use Rattle.fib_changes.specs.declared.change.Change.TheVariants as changes
 
--- the routes of one prefix and source alone can differ; no entry has an edge to the prefix or lies in it, no neighbor lies in it, and
+-- the routes of one prefix and source alone can differ; no entry has an edge to the prefix, no host and no neighbor lies in it, and
 -- each next hop of these routes is one of another entry's list too, or a late one: no other route has it, no other pair is at its host,
 -- and its cover doesn't attach it
 pub record IsLeafEdit (S T : Tables) (p : Prefix) (source : FibSource) (late : List ℕ) : Type 0 where
@@ -49,7 +51,7 @@ pub record IsLeafEdit (S T : Tables) (p : Prefix) (source : FibSource) (late : L
   pub prefix : IsPrefix p
   pub short : p.len < 32
   pub real : (q : Prefix) → Contains (entries S) q → IsPrefix q
-  pub alone : (q : Prefix) → Contains (entries S) q → contains p q.bits ≡ true → p.len < q.len → ⊥
+  pub alone : (a : ℕ) → Contains (entries S) (host a) → contains p a ≡ true → ⊥
   pub far : (n : Neighbor) → Contains T.neighbors n → (n.addr < 2 ^ 32) × (contains p n.addr ≡ false)
   pub written : (source_rank source ≡ 2) ⊎ (source_rank source ≡ 3)
   pub only : (x : Pair) → Contains (pairs S) x → p ≡ x.prefix → x.source ≡ source
@@ -78,12 +80,12 @@ pub record AreRelinked (p : Prefix) (goals : List Prefix) (old new : List Row) :
   pub same : (e : Prefix) → p ≢ e → Contains (map prefix_of old) e ↔ Contains (map prefix_of new) e
   pub rows : (s : Row) → Contains new s → p ≢ s.prefix → (r : Row) × Contains old r × IsButFor p r s × (Contains s.dependants p ↔ Contains goals s.prefix)
 
--- a path over no interface that needs nothing
+-- a path that needs nothing and doesn't lead to its cover
 abbrev pub plain_kind : PathKind → Bool
 plain_kind kinds.Drop = true
 plain_kind kinds.Local = true
-plain_kind (kinds.Attached i) = false
-plain_kind (kinds.Hop a i) = false
+plain_kind (kinds.Attached i) = true
+plain_kind (kinds.Hop a i) = true
 plain_kind (kinds.Recursive a) = true
 plain_kind kinds.Cover = false
 
@@ -102,25 +104,25 @@ goal_of kinds.Cover = []
 abbrev pub goals_of : List Path → List Prefix
 goals_of paths = flat_map (λ q. goal_of q.kind) paths
 
--- the marks of plain paths that aren't looped
-abbrev pub plain_aim : PathKind → Aim
-plain_aim kinds.Drop = aims.Ends answers.Drop
-plain_aim kinds.Local = aims.Ends answers.Receive
-plain_aim (kinds.Attached i) = aims.Ends answers.Drop
-plain_aim (kinds.Hop a i) = aims.Ends answers.Drop
-plain_aim (kinds.Recursive a) = aims.On (host a)
-plain_aim kinds.Cover = aims.Ends answers.Drop
+-- the marks of plain paths of a prefix shorter than a host that aren't looped
+abbrev pub plain_aim : Tables → PathKind → Aim
+plain_aim T kinds.Drop = aims.Ends answers.Drop
+plain_aim T kinds.Local = aims.Ends answers.Receive
+plain_aim T (kinds.Attached i) = aims.Ends (answers.Glean i)
+plain_aim T (kinds.Hop a i) = aims.Ends (hop_end T i a)
+plain_aim T (kinds.Recursive a) = aims.On (host a)
+plain_aim T kinds.Cover = aims.Ends answers.Drop
 
-abbrev pub plain_counts : PathKind → Bool
-plain_counts kinds.Drop = false
-plain_counts kinds.Local = true
-plain_counts (kinds.Attached i) = false
-plain_counts (kinds.Hop a i) = false
-plain_counts (kinds.Recursive a) = true
-plain_counts kinds.Cover = false
+abbrev pub plain_counts : Tables → PathKind → Bool
+plain_counts T kinds.Drop = false
+plain_counts T kinds.Local = true
+plain_counts T (kinds.Attached i) = is_up T i
+plain_counts T (kinds.Hop a i) = is_up T i
+plain_counts T (kinds.Recursive a) = true
+plain_counts T kinds.Cover = false
 
-abbrev pub plain_mark : Path → Marked
-plain_mark q = record { aim = plain_aim q.kind; counts = plain_counts q.kind; weight = q.weight; preference = q.preference }
+abbrev pub plain_mark : Tables → Path → Marked
+plain_mark T q = record { aim = plain_aim T q.kind; counts = plain_counts T q.kind; weight = q.weight; preference = q.preference }
 
 -- the row with other dependants
 abbrev pub with_dependants : Row → List Prefix → Row
@@ -161,33 +163,37 @@ abbrev pub has_other : Prefix → Option Row → Bool
 has_other p None = false
 has_other p (Some r) = list_any (λ d. not (same_prefix p d)) r.dependants
 
--- and to that of the next hop, where there is one
+-- a path of the row ends at the neighbor on the interface
+abbrev pub has_end : ℕ → ℕ → Option Row → Bool
+has_end i a None = false
+has_end i a (Some r) = list_any (λ m. aim_at i a m.aim) r.marked
+
+-- another entry has an edge to that of the next hop, where there is one; a Hop end is that of the neighbor's host too
 abbrev pub shared_kind : List Row → Prefix → PathKind → Bool
 shared_kind rows p (kinds.Recursive a) = has_other p (row_of rows (host a))
 shared_kind rows p kinds.Drop = true
 shared_kind rows p kinds.Local = true
 shared_kind rows p (kinds.Attached i) = true
-shared_kind rows p (kinds.Hop a i) = true
+shared_kind rows p (kinds.Hop a i) = has_end i a (row_of rows (host a))
 shared_kind rows p kinds.Cover = true
 
 abbrev pub shared_path : List Row → Prefix → Path → Bool
 shared_path rows p q = shared_kind rows p q.kind
 
--- nothing leads to the row at that place, nothing lies in its prefix, and no path of it leaves by an interface
-pub record IsLeaf (rows : List Row) (neighbors : List Neighbor) (place : ℕ) (p : Prefix) (r : Row) : Type 0 where
-  pub none : r.dependants ≡ []
-  pub inside : has_exit r ≡ false
-  pub next : (s : Row) → slice_get rows (place + 1) ≡ Some s → contains p s.prefix.bits ≡ false
+-- no host's row and no neighbor lies in the prefix
+pub record IsClear (rows : List Row) (neighbors : List Neighbor) (p : Prefix) : Type 0 where
+  pub hosts : (r : Row) → Contains rows r → contains p r.prefix.bits ≡ true → r.prefix.len ≢ 32
   pub far : (n : Neighbor) → Contains neighbors n → (n.addr < 2 ^ 32) × (contains p n.addr ≡ false)
 
-pub record IsLeafAt (rows : List Row) (neighbors : List Neighbor) (place : ℕ) (p : Prefix) (source : FibSource) : Type 0 where
+-- nothing leads to the prefix's row, which lies at that place
+pub record IsLeafAt (rows : List Row) (place : ℕ) (p : Prefix) (source : FibSource) : Type 0 where
   pub row : Row
   pub at : slice_get rows place ≡ Some row
   pub own : row.prefix ≡ p
+  pub none : row.dependants ≡ []
   pub prefix : IsPrefix p
   pub short : p.len < 32
   pub written : (source_rank source ≡ 2) ⊎ (source_rank source ≡ 3)
-  pub leaf : IsLeaf rows neighbors place p row
 
 -- the row and the lists are such that the change of the route's list touches that row alone
 pub record IsReady (rows : List Row) (lists : List PathKept) (T : Tables) (p : Prefix) (source : FibSource) (place id : ℕ) (old : List Path) : Type 0 where
@@ -196,32 +202,30 @@ pub record IsReady (rows : List Row) (lists : List PathKept) (T : Tables) (p : P
   pub own : row.prefix ≡ p
   pub pairs : row.pairs ≡ (source, id) ∷ []
   pub none : row.dependants ≡ []
-  pub inside : has_exit row ≡ false
   pub content : content_of lists id ≡ Some old
   pub prefix : IsPrefix p
   pub short : p.len < 32
   pub written : (source_rank source ≡ 2) ⊎ (source_rank source ≡ 3)
-  pub next : (s : Row) → slice_get rows (place + 1) ≡ Some s → contains p s.prefix.bits ≡ false
-  pub far : (n : Neighbor) → Contains T.neighbors n → (n.addr < 2 ^ 32) × (contains p n.addr ≡ false)
+  pub clear : IsClear rows T.neighbors p
   pub plain_before : list_all is_plain old ≡ true
   pub plain_after : list_all is_plain (paths_at p source T.routes) ≡ true
   pub shared_before : list_all (shared_path rows p) old ≡ true
   pub shared_after : list_all (shared_path rows p) (paths_at p source T.routes) ≡ true
   pub some : paths_at p source T.routes ≢ []
 
-abbrev pub own_row : Prefix → FibSource → ℕ → List Path → ℕ → List Prefix → Row
-own_row p source id paths rank dependants =
-    record { prefix = p; pairs = (source, id) ∷ []; looped = map (λ _. false) paths; met = map (λ _. true) paths; marked = map plain_mark paths; dependants = dependants; rank = rank }
+abbrev pub own_row : Tables → Prefix → FibSource → ℕ → List Path → ℕ → List Prefix → Row
+own_row T p source id paths rank dependants =
+    record { prefix = p; pairs = (source, id) ∷ []; looped = map (λ _. false) paths; met = map (λ _. true) paths; marked = map (plain_mark T) paths; dependants = dependants; rank = rank }
 
 -- the new list was taken, the row got it, the row's prefix came to the dependants of its next hops and left those of the old one's, and
 -- the old list was given
-pub record IsReplaced (v w : Known) (p : Prefix) (source : FibSource) (place id new_id : ℕ) (old new : List Path) (rank : ℕ) : Type 0 where
+pub record IsReplaced (v w : Known) (T : Tables) (p : Prefix) (source : FibSource) (place id new_id : ℕ) (old new : List Path) (rank : ℕ) : Type 0 where
   pub mid : List Row
   pub low : List Row
   pub lists : List PathKept
   pub attached : AreAttached p (goals_of new) v.rows mid
   pub detached : AreDetached p (goals_of old) (goals_of new) mid low
-  pub set : (r : Row) → slice_get low place ≡ Some r → w.rows ≡ slice_set low place (own_row p source new_id new rank r.dependants)
+  pub set : (r : Row) → slice_get low place ≡ Some r → w.rows ≡ slice_set low place (own_row T p source new_id new rank r.dependants)
   pub taken : Takes v.lists lists new new_id
   pub apart : AreInterned lists
   pub given : Gives lists w.lists id
@@ -248,18 +252,18 @@ pub record AreReplaced (old new : List Row) (lists later : List PathKept) (place
   pub given : Gives between later id
   pub apart_after : AreInterned later
 
-abbrev pub plain_own : FibSource → List Path → ℕ → Own
-plain_own source paths rank = record { source = source; looped = map (λ _. false) paths; met = map (λ _. true) paths; marked = map plain_mark paths; rank = rank }
+abbrev pub plain_own : Tables → FibSource → List Path → ℕ → Own
+plain_own T source paths rank = record { source = source; looped = map (λ _. false) paths; met = map (λ _. true) paths; marked = map (plain_mark T) paths; rank = rank }
 
 -- the prefix with the rank that it had, where it gets another
 abbrev pub moved_at : Prefix → ℕ → ℕ → List Moved
 moved_at p rank new = if rank == new then [] else record { prefix = p; rank = rank } ∷ []
 
 -- the list was replaced, and what is told is the prefix, and its rank where that is another
-pub record IsChanged (old new : List Row) (lists later : List PathKept) (place : ℕ) (p : Prefix) (id : ℕ) (source : FibSource) (paths : List Path) (rank : ℕ) (f : Followed) : Type 0 where
+pub record IsChanged (T : Tables) (old new : List Row) (lists later : List PathKept) (place : ℕ) (p : Prefix) (id : ℕ) (source : FibSource) (paths : List Path) (rank : ℕ) (f : Followed) : Type 0 where
   pub before : List Path
   pub content : content_of lists id ≡ Some before
-  pub replaced : AreReplaced old new lists later place p id before paths (plain_own source paths rank)
+  pub replaced : AreReplaced old new lists later place p id before paths (plain_own T source paths rank)
   pub touched : f.touched ≡ p ∷ []
   pub moved : (r : Row) → slice_get old place ≡ Some r → f.moved ≡ moved_at p r.rank rank
 

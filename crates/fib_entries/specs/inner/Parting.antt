@@ -8,18 +8,15 @@ use Rattle.fib_resolve.specs.Keys.{source_rank}
 use Rattle.fib_resolve.specs.Pairs.{plain, recursive_of}
 use Rattle.fib_resolve.specs.declared.types.FibSource.{FibSource}
 use Rattle.fib_resolve.specs.declared.types.FibSource.TheVariants as sources
-use Rattle.fib_resolve.specs.declared.types.Neighbor.{Neighbor}
 use Rattle.fib_resolve.specs.declared.types.Path.{Path}
 use Rattle.fib_resolve.specs.declared.types.PathKind.{PathKind}
 use Rattle.fib_resolve.specs.declared.types.PathKind.TheVariants as kinds
-use Rattle.fib_resolve.specs.declared.types.Route.{Route}
 use Rattle.fib_resolve.specs.declared.types.Tables.{Tables}
-use Rattle.fib_changes.specs.Sources.{all_hops}
 use Rattle.fib_entries.specs.Known.{PathKept, content_of, rank_of}
-use Rattle.fib_entries.specs.inner.Ends.{has_exit}
+use Rattle.fib_entries.specs.inner.Fields.{has_several}
 use Rattle.fib_entries.specs.inner.Going.{IsWithdrawn}
 use Rattle.fib_entries.specs.inner.Hosting.{shared_path_but}
-use Rattle.fib_entries.specs.inner.Leaf.{goals_of, is_plain}
+use Rattle.fib_entries.specs.inner.Leaf.{IsClear, goals_of, is_plain}
 use Rattle.fib_entries.specs.inner.Plies.{entry_at, entry_before, own_size}
 use Rattle.fib_entries.specs.declared.changes.Followed.{Followed}
 use Rattle.fib_entries.specs.declared.parting.Last.{Last}
@@ -37,23 +34,23 @@ hop_at a kinds.Cover = false
 abbrev pub path_at : ℕ → Path → Bool
 path_at a q = hop_at a q.kind
 
--- whether a path of the route has it
-abbrev pub route_at : ℕ → Route → Bool
-route_at a r = list_any (path_at a) r.paths
+-- no list of the prefix's row has it
+abbrev pub IsNotIn : List Row → List PathKept → Prefix → ℕ → Type 0
+IsNotIn rows lists e a = (r : Row) (q : FibSource × ℕ) (paths : List Path) → Contains rows r → r.prefix ≡ e → Contains r.pairs q → content_of lists q.1 ≡ Some paths → list_any (path_at a) paths ≡ false
 
--- the host's row has the one pair of a next hop that its cover doesn't attach, p alone leads to it, and no route has it in the tables
-pub record IsLast (rows : List Row) (lists : List PathKept) (order : List Prefix) (T : Tables) (p : Prefix) (g : Last) : Type 0 where
+-- the host's row has the one pair of a next hop that its cover doesn't attach, p alone leads to it, and no row with several lists has it in
+-- one of them, as that of a route that isn't chosen would
+pub record IsLast (rows : List Row) (lists : List PathKept) (order : List Prefix) (p : Prefix) (g : Last) : Type 0 where
   pub row : Row
   pub there : Contains rows row
   pub own : row.prefix ≡ host g.addr
   pub pairs : row.pairs ≡ (sources.RecursiveResolution, g.list) ∷ []
   pub listed : content_of lists g.list ≡ Some (plain kinds.Cover ∷ [])
   pub alone : row.dependants ≡ p ∷ []
-  pub inside : has_exit row ≡ false
   pub small : g.addr < 2 ^ 32
   pub away : contains p g.addr ≡ false
   pub longest : IsLongestMatch order 32 g.addr (Some g.cover)
-  pub unused : Contains (all_hops T) g.addr → ⊥
+  pub unhidden : (r : Row) → Contains rows r → has_several r ≡ true → IsNotIn rows lists r.prefix g.addr
 
 -- the row at that place is a leaf's, with the one list of that source, the route is gone, and with it goes the host of one of its next hops
 pub record IsParting (rows : List Row) (lists : List PathKept) (order : List Prefix) (T : Tables) (p : Prefix) (source : FibSource) (place id : ℕ) (old : List Path) (g : Last) : Type 0 where
@@ -62,17 +59,15 @@ pub record IsParting (rows : List Row) (lists : List PathKept) (order : List Pre
   pub own : row.prefix ≡ p
   pub pairs : row.pairs ≡ (source, id) ∷ []
   pub none : row.dependants ≡ []
-  pub inside : has_exit row ≡ false
   pub content : content_of lists id ≡ Some old
   pub prefix : IsPrefix p
   pub short : p.len < 32
   pub written : (source_rank source ≡ 2) ⊎ (source_rank source ≡ 3)
-  pub next : (s : Row) → slice_get rows (place + 1) ≡ Some s → contains p s.prefix.bits ≡ false
-  pub far : (n : Neighbor) → Contains T.neighbors n → (n.addr < 2 ^ 32) × (contains p n.addr ≡ false)
+  pub clear : IsClear rows T.neighbors p
   pub plain : list_all is_plain old ≡ true
   pub shared : list_all (shared_path_but rows p g.addr) old ≡ true
   pub hop : Contains (filter_map recursive_of old) g.addr
-  pub last : IsLast rows lists order T p g
+  pub last : IsLast rows lists order p g
   pub gone : paths_at p source T.routes ≡ []
 
 -- the host left the dependants of its cover, its row went, and its list was given

@@ -5,7 +5,6 @@ use Rattle.fib_changes.proofs.Edits.{in_front}
 use Rattle.fib_interned.proofs.Finding.{some_is, contains_at}
 use Rattle.fib_resolve.specs.declared.types.FibSource.{FibSource}
 use Rattle.fib_entries.specs.Rows.{Row}
-use Rattle.fib_entries.specs.inner.Leaf.{IsLeafAt}
 use Rattle.fib_entries.proofs.going.leaving.Goals as goal
 
 pub content-requires : goal.content-requires
@@ -18,7 +17,7 @@ content-requires c =
 pub returns-clause-leaving : goal.returns-clause-leaving
 returns-clause-leaving c =
     let at = slice_get_read c.args.rows.now _ c.in-Some.place c.index.result.now refl c.in-Some.ensures.inside c.index.ensures in
-    let m = subst (λ l. IsLeafAt c.args.rows.now l c.in-Some.place c.args.p c.args.source) c.as_slice.ensures c.in-Some.ensures.leaf in
+    let m = c.in-Some.ensures.leaf in
     let list = c.requires.list in
     let old = c.suits.ensures c.if-not-suits.false in (
       c.content.result.now,
@@ -27,14 +26,12 @@ returns-clause-leaving c =
         at = m.at;
         own = m.own;
         pairs = ap (λ (z : Row). z.pairs) (some_is m.row c.index.result.now (sym m.at ∙ at)) ∙ c.in-Some-only_list.ensures;
-        none = m.leaf.none;
-        inside = m.leaf.inside;
+        none = m.none;
         content = c.content.ensures;
         prefix = m.prefix;
         short = m.short;
         written = m.written;
-        next = m.leaf.next;
-        far = m.leaf.far;
+        clear = c.requires.clear;
         plain = old.0;
         shared = old.1;
         gone = sym list ∙ c.is_none.ensures.0 c.if-not-is_none.false;

@@ -14,5 +14,5 @@ returns-clause-leaf c =
       prefix = c.is_short.ensures.prefix;
       short = c.is_short.ensures.short c.if-not-is_short.false;
       written = c.is_written.ensures c.if-not-is_written.false;
-      leaf = c.is_leaf.ensures c.if-not-is_leaf.false r.0 r.1;
+      none = c.is_leaf.ensures c.if-not-is_leaf.false r.0 r.1;
     }

@@ -8,7 +8,7 @@ use Rattle.fib_interned.proofs.Finding.{some_is, contains_at}
 use Rattle.fib_resolve.specs.declared.types.FibSource.{FibSource}
 use Rattle.fib_resolve.specs.declared.types.Path.{Path}
 use Rattle.fib_entries.specs.Rows.{Row}
-use Rattle.fib_entries.specs.inner.Leaf.{IsLeafAt, is_plain, shared_path}
+use Rattle.fib_entries.specs.inner.Leaf.{is_plain, shared_path}
 use Rattle.fib_entries.proofs.leaf.ready.Goals as goal
 
 pub content-requires : goal.content-requires
@@ -21,7 +21,7 @@ content-requires c =
 pub returns : goal.returns
 returns c =
     let at = slice_get_read c.args.rows.now _ c.in-Some.place c.index.result.now refl c.in-Some.ensures.inside c.index.ensures in
-    let m = subst (λ l. IsLeafAt c.args.rows.now l c.in-Some.place c.args.p c.args.source) c.as_slice.ensures c.in-Some.ensures.leaf in
+    let m = c.in-Some.ensures.leaf in
     let list = c.requires.list in
     let new = c.suits.ensures c.if-not-suits.false in
     let old = c.suits-2.ensures c.if-not-suits-2.false in (
@@ -31,14 +31,12 @@ returns c =
         at = m.at;
         own = m.own;
         pairs = ap (λ (z : Row). z.pairs) (some_is m.row c.index.result.now (sym m.at ∙ at)) ∙ c.in-Some-only_list.ensures;
-        none = m.leaf.none;
-        inside = m.leaf.inside;
+        none = m.none;
         content = c.content.ensures;
         prefix = m.prefix;
         short = m.short;
         written = m.written;
-        next = m.leaf.next;
-        far = m.leaf.far;
+        clear = c.requires.clear;
         plain_before = old.0;
         plain_after = subst (λ (l : List Path). list_all is_plain l ≡ true) list new.0;
         shared_before = old.1;

@@ -1,11 +1,9 @@
-use Rattle.std.proofs.Common.{List, ℕ, [], refl, sym, ap, ◌∙◌, subst}
+use Rattle.std.proofs.Common.{List, ℕ, [], refl, sym, ◌∙◌, subst}
 use Rattle.std.specs.Prelude.{Contains}
-use Rattle.std.specs.List.{list_any}
 use Rattle.fib_changes.proofs.Edits.{in_front}
 use Rattle.fib_resolve.specs.declared.types.FibSource.{FibSource}
 use Rattle.fib_resolve.specs.declared.types.FibSource.TheVariants as sources
-use Rattle.fib_entries.specs.inner.Parting.{route_at}
-use Rattle.fib_entries.proofs.Departing.{not_used}
+use Rattle.fib_addr.specs.Prefixes.{Prefix}
 use Rattle.fib_entries.proofs.Standing.{row_there}
 use Rattle.fib_entries.proofs.parting.last_for.Goals as goal
 
@@ -25,9 +23,8 @@ returns-clause-last c =
       pairs = c.in_ok-list.ensures.pairs;
       listed = c.in_ok-list.ensures.listed;
       alone = c.is_alone.ensures c.if-not-is_alone.false;
-      inside = sym c.has_exit.ensures ∙ c.if-has_exit.false;
       small = c.in_ok-addr.ensures.small;
       away = sym c.contains.ensures ∙ c.if-contains.false;
       longest = c.in_ok-cover.ensures;
-      unused = not_used c.args.tables.now.routes c.in_ok-addr.addr (ap (list_any (route_at c.in_ok-addr.addr)) (sym c.as_slice.ensures) ∙ (sym c.is_used.ensures ∙ c.if-is_used.false));
+      unhidden = λ r there several. c.is_hidden.ensures c.if-is_hidden.false r.prefix (subst (λ (l : List Prefix). Contains l r.prefix) (sym c.several.ensures) (c.requires.several r there several));
     }

@@ -20,9 +20,9 @@ leave-requires-clause-kept c = leaving_kept c.self.inside.rows c.self.inside.lis
 
 pub invariant_of-self-2 : goal.invariant_of-self-2
 invariant_of-self-2 c =
-    left_fields c.self.inside.rows c.leave.new.rows c.self.inside.lists c.leave.new.lists c.self.inside.order c.self.inside.exits c.remove.new.self c.args.tables.now c.args.prefix c.args.source c.in-Some.at.0 c.in-Some.at.1 c.in-Some.ensures.leaving.0
+    left_fields c.self.inside.rows c.leave.new.rows c.self.inside.lists c.leave.new.lists c.self.inside.order c.remove.new.self c.self.inside.index c.forget.new.self c.args.tables.now c.args.prefix c.args.source c.in-Some.at.0 c.in-Some.at.1 c.in-Some.ensures.leaving.0
     c.args.new.now c.in_ok-followed.followed c.self.invariant
-    (c.in-Some.ensures.leaving.1) c.in_ok-followed.ensures.done
+    (c.in-Some.ensures.leaving.1) c.in_ok-followed.ensures.done c.forget.ensures
     c.remove.ensures.ordered c.remove.ensures.members
 
 pub returns-clause-followed : goal.returns-clause-followed

@@ -1,20 +1,27 @@
-use Rattle.std.proofs.Common.{arith, ◌≤◌, List, ◌∷◌, [], sym, subst}
+use Rattle.std.proofs.Common.{arith, ◌≤◌, List, ◌∷◌, [], sym, ◌∙◌, subst}
+use Rattle.fib_cover.specs.Covers.{IsAscending}
 use Rattle.fib_resolve.specs.declared.types.Tables.{Tables}
 use Rattle.fib_changes.specs.Differ.{Differ}
 use Rattle.fib_entries.specs.Rows.{Row}
 use Rattle.fib_entries.specs.Known.{Known, StandsFor}
-use Rattle.fib_entries.specs.inner.Ends.{IsNews}
-use Rattle.fib_entries.specs.inner.Fields.{AreFields}
+use Rattle.fib_entries.specs.inner.Ends.{IsNews, has_exit}
+use Rattle.fib_entries.specs.inner.Fields.{AreAmong, AreFields}
 use Rattle.fib_entries.specs.inner.Leaf.{IsFollowed}
 use Rattle.fib_entries.proofs.EndNews.{followed_news}
 use Rattle.fib_entries.proofs.Renewing.{fields_renewed}
 use Rattle.fib_entries.proofs.Following.{known}
 use Rattle.fib_entries.proofs.entries.Entries.follow_news.Goals as goal
 
+pub follow-requires-clause-ordered : goal.follow-requires-clause-ordered
+follow-requires-clause-ordered c = subst IsAscending (sym c.as_slice.ensures.value) c.in_ok-exits.ensures.ordered
+
+pub follow-requires-clause-exits : goal.follow-requires-clause-exits
+follow-requires-clause-exits c = subst (AreAmong has_exit c.self.inside.rows) (sym (c.as_slice.ensures.value ∙ c.in_ok-exits.ensures.listed)) c.self.invariant.indexed.exits
+
 pub invariant_of-self-2 : goal.invariant_of-self-2
 invariant_of-self-2 c =
-    subst (λ (l : List Row). AreFields l c.self.inside.lists c.self.inside.order c.self.inside.exits) (sym c.in_ok-followed.ensures.rows)
-    (fields_renewed c.self.inside.rows c.self.inside.lists c.self.inside.order c.self.inside.exits c.in-Some.news c.self.invariant)
+    subst (λ (l : List Row). AreFields l c.self.inside.lists c.self.inside.order c.self.inside.index) (sym c.in_ok-followed.ensures.rows)
+    (fields_renewed c.self.inside.rows c.self.inside.lists c.self.inside.order c.self.inside.index c.in-Some.news c.self.invariant)
 
 pub returns-clause-followed : goal.returns-clause-followed
 returns-clause-followed c =

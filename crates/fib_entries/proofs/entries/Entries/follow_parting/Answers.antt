@@ -1,4 +1,4 @@
-use Rattle.std.proofs.Common.{arith, ◌≡◌, ◌≢◌, ◌↔◌, ◌+◌, ◌-◌, ◌≤◌, ◌∷◌, [], map, sym, subst}
+use Rattle.std.proofs.Common.{arith, ◌≡◌, ◌≢◌, ◌↔◌, ◌+◌, ◌-◌, ◌≤◌, ◌∷◌, [], Some, map, sym, subst}
 use Rattle.std.specs.Prelude.{Contains}
 use Rattle.std.proofs.lemmas.Bool.Decides.{nat_tests}
 use Rattle.fib_addr.specs.Prefixes.{Prefix}
@@ -6,19 +6,26 @@ use Rattle.fib_resolve.specs.declared.types.Tables.{Tables}
 use Rattle.fib_changes.specs.Differ.{Differ}
 use Rattle.fib_changes.specs.declared.change.Change.TheVariants as changes
 use Rattle.fib_entries.specs.Known.{Known, StandsFor, prefix_of}
+use Rattle.fib_entries.specs.inner.Fields.{IsForgotten}
 use Rattle.fib_entries.specs.inner.Leaf.{IsFollowed}
 use Rattle.fib_entries.specs.inner.Parting.{IsParting}
 use Rattle.fib_entries.proofs.Following.{known}
-use Rattle.fib_entries.proofs.PartedFields.{fields_parted}
+use Rattle.fib_entries.proofs.PartedFields.{fields_parted, host_there}
 use Rattle.fib_entries.proofs.WithoutHost.{followed_parted}
 use Rattle.fib_entries.proofs.entries.Entries.follow_parting.Goals as goal
+
+pub leave_parting-requires-clause-there : goal.leave_parting-requires-clause-there
+leave_parting-requires-clause-there c =
+    let m = subst (λ (v : Known). IsParting v.rows v.lists (map prefix_of v.rows) c.args.tables.now c.args.prefix c.args.source c.in-Some.at.0 c.in-Some.at.1 c.in-Some.ensures.0 c.in-Some.last) (sym c.self.view_is) c.in-Some.ensures.1 in
+    host_there c.self.inside.rows c.self.inside.lists c.self.inside.order c.self.inside.index c.args.tables.now c.args.prefix c.args.source c.in-Some.at.0 c.in-Some.at.1 c.in-Some.ensures.0 c.in-Some.last c.self.invariant m
 
 pub invariant_of-self-2 : goal.invariant_of-self-2
 invariant_of-self-2 c =
     let old = c.in-Some.ensures.0 in
     let m = subst (λ (v : Known). IsParting v.rows v.lists (map prefix_of v.rows) c.args.tables.now c.args.prefix c.args.source c.in-Some.at.0 c.in-Some.at.1 old c.in-Some.last) (sym c.self.view_is) c.in-Some.ensures.1 in
-    fields_parted c.self.inside.rows c.self.inside.lists c.self.inside.order c.self.inside.exits c.args.tables.now c.args.prefix c.args.source c.in-Some.at.0 c.in-Some.at.1 old c.in-Some.last c.self.invariant m
-    c.leave_parting.new.rows c.leave_parting.new.lists c.in_ok-parted.parted.1 c.in_ok-parted.parted.0 (c.in_ok-parted.ensures.done old m.content) c.remove_both.new.order c.remove_both.ensures.ordered
+    fields_parted c.self.inside.rows c.self.inside.lists c.self.inside.order c.self.inside.index c.args.tables.now c.args.prefix c.args.source c.in-Some.at.0 c.in-Some.at.1 old c.in-Some.last c.self.invariant m
+    c.leave_parting.new.rows c.leave_parting.new.lists c.in_ok-parted.parted.1 c.in_ok-parted.parted.0 (c.in_ok-parted.ensures.done old m.content) c.remove_both.new.order c.forget.new.self
+    (subst (λ (q : Prefix). IsForgotten c.self.inside.index c.forget.new.self c.args.prefix [] (Some q)) c.host-host.ensures c.forget.ensures) c.remove_both.ensures.ordered
     (subst (λ (q : Prefix). (e : Prefix) → Contains c.remove_both.new.order e ↔ (Contains c.self.inside.order e × (e ≢ c.args.prefix)) × (e ≢ q)) c.host-host.ensures c.remove_both.ensures.members)
 
 pub returns-clause-followed : goal.returns-clause-followed

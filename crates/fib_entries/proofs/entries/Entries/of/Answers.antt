@@ -10,8 +10,7 @@ use Rattle.fib_resolve.specs.declared.types.Tables.{Tables}
 use Rattle.fib_entries.specs.Rows.{Row}
 use Rattle.fib_entries.specs.Known.{PathKept, StandsFor, prefix_of}
 use Rattle.fib_entries.specs.inner.Building.{AreTaken, AreAnew}
-use Rattle.fib_entries.specs.inner.Ends.{exits_of}
-use Rattle.fib_entries.specs.inner.Fields.{AreFields}
+use Rattle.fib_entries.specs.inner.Fields.{AreFields, Index, IsIndexed}
 use Rattle.fib_interned.specs.Interned.{AreInterned}
 use Rattle.fib_entries.proofs.Anew.{stands_anew, all_held, in_place}
 use Rattle.fib_entries.proofs.Naming.{named_by}
@@ -37,10 +36,10 @@ all_stands lists S T rows order listed ids xs objects is h p ordered all x taken
     subst (StandsFor (record { rows = rows; lists = lists; objects = objects })) is
     (stands_anew lists S order rows ids objects h (subst IsAscending (sym p) ordered) (all_in S order listed p all) (subst (λ q. AreTaken lists q ids) x taken) counted sound)
 
-fields_of : (lists : List PathKept) (S : Tables) (rows : List Row) (order listed set exits : List Prefix) (objects : ℕ) → AreAnew lists S order rows → order ≡ listed → IsAscending listed → IsAscending set
+fields_of : (lists : List PathKept) (S : Tables) (rows : List Row) (order listed set : List Prefix) (x : Index) (objects : ℕ) → AreAnew lists S order rows → order ≡ listed → IsAscending listed → IsAscending set
     → ((e : Prefix) → Contains listed e ↔ Contains (entries S) e) → ((e : Prefix) → Contains set e ↔ Contains (entries S) e)
-    → StandsFor (record { rows = rows; lists = lists; objects = objects }) S → AreInterned lists → exits ≡ exits_of rows → AreFields rows lists set exits
-fields_of lists S rows order listed set exits objects h p ordered set_ordered all set_all stands apart out =
+    → StandsFor (record { rows = rows; lists = lists; objects = objects }) S → AreInterned lists → IsIndexed rows x → AreFields rows lists set x
+fields_of lists S rows order listed set x objects h p ordered set_ordered all set_all stands apart indexed =
     let same = in_place lists S order h.ranks [] rows h.made ∙ p in
     let asc = subst IsAscending (sym same) ordered in
     record {
@@ -51,7 +50,7 @@ fields_of lists S rows order listed set exits objects h p ordered set_ordered al
         λ c. subst (λ l. Contains l e) (sym same) ((all e).1 ((set_all e).0 c)),
         λ c. (set_all e).1 ((all e).0 (subst (λ l. Contains l e) same c)),
       ));
-      out = out;
+      indexed = indexed;
     }
 
 anew_as : (lists : List PathKept) (S : Tables) (order : List Prefix) (rows made : List Row) → rows ≡ made → AreAnew lists S order made → AreAnew lists S order rows
@@ -69,11 +68,11 @@ invariant_of-result c =
     let lists = c.take_all.new.lists in
     let rows = c.in_ok-rows.rows in
     let anew = anew_as lists S c.as_slice-2.result.now rows c.in_ok-made.made.items c.in_ok-rows.ensures c.in_ok-made.ensures in
-    fields_of lists S rows c.as_slice-2.result.now c.in_ok-listed.listed.items c.into_entries-order.result c.in_ok-exits.exits c.in_ok-objects.objects anew c.as_slice-2.ensures.value
+    fields_of lists S rows c.as_slice-2.result.now c.in_ok-listed.listed.items c.into_entries-order.result c.in_ok-index.index c.in_ok-objects.objects anew c.as_slice-2.ensures.value
     c.in_ok-listed.ensures.ordered c.into_entries-order.ensures.ordered c.in_ok-listed.ensures.all c.into_entries-order.ensures.all
     (all_stands lists S S rows c.as_slice-2.result.now c.in_ok-listed.listed.items c.in_ok-ids.ids.items c.pairs.result.now c.in_ok-objects.objects refl anew c.as_slice-2.ensures.value
     c.in_ok-listed.ensures.ordered c.in_ok-listed.ensures.all c.pairs.ensures c.in_ok-ids.ensures c.in_ok-objects.ensures (subst IsSound (sym c.in_ok-meaning.ensures) c.requires))
-    c.count-count.ensures.interned c.in_ok-exits.ensures
+    c.count-count.ensures.interned c.in_ok-index.ensures
 
 pub returns : goal.returns
 returns c =

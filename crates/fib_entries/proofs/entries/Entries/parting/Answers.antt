@@ -8,7 +8,7 @@ use Rattle.fib_resolve.specs.declared.types.FibSource.{FibSource}
 use Rattle.fib_resolve.specs.declared.types.Path.{Path}
 use Rattle.fib_entries.specs.Known.{Known, prefix_of}
 use Rattle.fib_entries.specs.Rows.{Row}
-use Rattle.fib_entries.specs.inner.Leaf.{IsLeafAt}
+use Rattle.fib_entries.specs.inner.Leaf.{IsClear}
 use Rattle.fib_entries.specs.inner.Parting.{IsParting, IsLast}
 use Rattle.fib_entries.proofs.entries.Entries.parting.Goals as goal
 
@@ -22,7 +22,7 @@ content-old-requires c =
 pub returns : goal.returns
 returns c =
     let at = slice_get_read c.self.inside.rows _ c.in-Some.place c.index.result.now refl c.in-Some.ensures.inside c.index.ensures in
-    let m = subst (λ l. IsLeafAt c.self.inside.rows l c.in-Some.place c.args.prefix c.args.source) c.as_slice.ensures c.in-Some.ensures.leaf in
+    let m = c.in-Some.ensures.leaf in
     let list = c.requires.list in
     subst (λ (v : Known). (x : List Path) × IsParting v.rows v.lists (map prefix_of v.rows) c.args.tables.now c.args.prefix c.args.source c.in-Some.place c.in-Some-only_list.id x c.in-Some-last_for.last) c.self.view_is (
       c.content-old.result.now,
@@ -31,18 +31,16 @@ returns c =
         at = m.at;
         own = m.own;
         pairs = ap (λ (z : Row). z.pairs) (some_is m.row c.index.result.now (sym m.at ∙ at)) ∙ c.in-Some-only_list.ensures;
-        none = m.leaf.none;
-        inside = m.leaf.inside;
+        none = m.none;
         content = c.content-old.ensures;
         prefix = m.prefix;
         short = m.short;
         written = m.written;
-        next = m.leaf.next;
-        far = m.leaf.far;
+        clear = subst (λ (v : Known). IsClear v.rows c.args.tables.now.neighbors c.args.prefix) (sym c.self.view_is) c.requires.clear;
         plain = c.in-Some-last_for.ensures.suits.0;
         shared = c.in-Some-last_for.ensures.suits.1;
         hop = c.in-Some-last_for.ensures.hop;
-        last = subst (λ (o : List Prefix). IsLast c.self.inside.rows c.self.inside.lists o c.args.tables.now c.args.prefix c.in-Some-last_for.last) c.self.invariant.same c.in-Some-last_for.ensures.last;
+        last = subst (λ (o : List Prefix). IsLast c.self.inside.rows c.self.inside.lists o c.args.prefix c.in-Some-last_for.last) c.self.invariant.same c.in-Some-last_for.ensures.last;
         gone = sym list ∙ c.is_none.ensures.0 c.if-not-is_none.false;
       },
     )
