@@ -128,13 +128,7 @@ fn edit_via(
     ensures { IfOk result IsWritten }
 {
     let prefix = Prefix::masked(Addr(route), 8);
-    edit_by(
-        alloc,
-        comes,
-        prefix,
-        SpecKind::Recursive(Addr(hop)),
-        weight,
-    )
+    edit_by(alloc, comes, prefix, SpecKind::Recursive(Addr(hop)), weight)
 }
 
 /// The second route goes.
