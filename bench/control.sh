@@ -48,9 +48,9 @@ const LINKS: [&str; 12] = [
 
 /// The changes that are measured one by one. With the first one the lists that are full grow. Then a route comes behind all others and one
 /// before them; a route gets a path by way of the other next hop and loses its old one; the route before all others goes; a route comes
-/// with the host of a next hop that no other has, and both go; an uplink's neighbor has another address, and the uplink goes down and
+/// with the host of a next hop that no other has, and both go; a route over an uplink comes, and goes; an uplink's neighbor has another address, and the uplink goes down and
 /// up; the first route that was loaded goes.
-const CHANGES: [&str; 12] = [
+const CHANGES: [&str; 14] = [
     "ip route add 101.0.0.0/24 via 192.168.255.1",
     "ip route add 101.0.1.0/24 via 192.168.255.1",
     "ip route add 99.0.0.0/24 via 192.168.255.1",
@@ -58,6 +58,8 @@ const CHANGES: [&str; 12] = [
     "ip route del 100.0.9.0/24 via 192.168.255.1",
     "ip route del 99.0.0.0/24",
     "ip route add 101.0.2.0/24 via 192.168.255.3",
+    "ip route del 101.0.2.0/24",
+    "ip route add 101.0.2.0/24 via 10.1.0.2 up0",
     "ip route del 101.0.2.0/24",
     "set ip neighbor up1 10.2.0.2 02:00:00:00:00:03",
     "set interface state up1 down",
