@@ -119,10 +119,10 @@ module _ (S T : Tables) (p : Prefix) (source : FibSource) (late : List ℕ) (h :
         (sym (ap (λ z. z.0) (only_pair q c)) ∙ source_is, ap (λ z. content_of lists z.1) (sym (only_pair q c)) ∙ (content ∙ ap Some paths_is)),
       );
     };
-    looped = but.looped ∙ (maps_same (λ q. false) (λ q. looped_kind T p q.kind) (paths_at p source T.routes) (λ q c. loop_is T p q.kind (unlooped S T p source late h)) ∙ own_map (λ e l. map (λ q. looped_kind T e q.kind) l));
+    looped = but.looped ∙ (maps_same (λ q. false) (λ q. looped_kind T p q.kind) (paths_at p source T.routes) (λ q c. loop_is T p q.kind (λ a is. unlooped S T p source late h a)) ∙ own_map (λ e l. map (λ q. looped_kind T e q.kind) l));
     met = but.met ∙ (maps_same (λ q. true) (λ q. kind_met T q.need q.kind) (paths_at p source T.routes) (λ q c. met_is T q.need q.kind (and_both (plain_kind q.kind) (need_rank q.need == 0) (each_plain (paths_at p source T.routes) q plain c)).1)
         ∙ own_map (λ e l. map (λ q. kind_met T q.need q.kind) l));
-    marked = but.marked ∙ (maps_same (plain_mark T) (marked T p) (paths_at p source T.routes) (λ q c. mark_is T p q h.short (each_plain (paths_at p source T.routes) q plain c) (unlooped S T p source late h)) ∙ own_map (λ e l. map (marked T e) l));
+    marked = but.marked ∙ (maps_same (plain_mark T) (marked T p) (paths_at p source T.routes) (λ q c. mark_is T p q (λ i is. h.short) (each_plain (paths_at p source T.routes) q plain c) (λ a is. unlooped S T p source late h a)) ∙ own_map (λ e l. map (marked T e) l));
     dependants = λ d. (λ c. absurd (none_own d c), λ c. absurd (leaf_after S T p source late h d (subst (Contains (targets T d)) but.prefix c)));
     dependants_once = but.once tt;
   }

@@ -3,6 +3,7 @@ use Rattle.std.proofs.Common.{arith, ◌≡◌, ◌≢◌, ℕ, ◌+◌, ◌-◌
 use Rattle.std.specs.Prelude.{Contains, slice_set, min}
 use Rattle.std.proofs.lemmas.Bool.{false≢true, cases_lt}
 use Rattle.std.proofs.lemmas.Bool.Decides.{Decides-eqb}
+use Rattle.fib_list.proofs.Lists.{Contains-nil}
 use Rattle.fib_addr.specs.Prefixes.{Prefix}
 use Rattle.fib_resolve.specs.Edits.{paths_at}
 use Rattle.fib_resolve.specs.Sizes.{size}
@@ -24,7 +25,7 @@ use Rattle.fib_entries.specs.inner.Leaf.{IsReady, IsReplaced, AreReplaced, IsCha
 use Rattle.fib_entries.specs.Rows.{Row}
 use Rattle.fib_entries.specs.declared.changes.Followed.{Followed}
 use Rattle.fib_entries.proofs.Exits.{exit_alike, in_alike, in_index, in_more, in_own, indexed_each, indexed_less, own_leaves}
-use Rattle.fib_entries.proofs.LeafRows.{stands_leaf, touched_leaf, moved_leaf, still_leaf}
+use Rattle.fib_entries.proofs.LeafRows.{IsLeafMade, stands_leaf, touched_leaf, moved_leaf, still_leaf}
 use Rattle.fib_entries.proofs.PartRows.{row_by}
 use Rattle.fib_entries.proofs.HopEnds.{ends_shared}
 use Rattle.fib_entries.proofs.LeafSizes.{size_same}
@@ -35,14 +36,16 @@ use Rattle.fib_entries.proofs.Replacing.{made_leaf, rank_own, shared_was}
 module _ (v w : Known) (S T : Tables) (p : Prefix) (source : FibSource) (place id : ℕ) (before : List Path) (top most : ℕ) (f : Followed) (k : StandsFor v S) (m : IsReady v.rows v.lists T p source place id before)
     (differ : Differ (changes.Route p source ∷ []) S T) (after : IsSound T) (apart : AreInterned v.lists) (r : AreReplaced v.rows w.rows v.lists w.lists place p id before (paths_at p source T.routes) (plain_own T source (paths_at p source T.routes) (top + 1)))
     (objects : w.objects ≡ v.objects) (above : (t : Prefix) → Contains (goals_of (paths_at p source T.routes)) t → rank_of v.rows t ≤ top) where
-  set_own : (s : Row) → slice_get r.low place ≡ Some s → w.rows ≡ slice_set r.low place (own_row T p source r.new_id (paths_at p source T.routes) (top + 1) s.dependants)
+  set_own : (s : Row) → slice_get r.low place ≡ Some s → w.rows ≡ slice_set r.low place (own_row p ((source, r.new_id) ∷ []) (plain_own T source (paths_at p source T.routes) (top + 1)) s.dependants)
   set_own s at =
       let a = zip_at _ v.rows r.mid place m.row r.attached m.at in
       let b = zip_at _ r.mid r.low place a.0 r.detached a.1 in
       let same : s.prefix ≡ p = ap (λ z. z.prefix) (some_is s b.0 (sym at ∙ b.1)) ∙ (b.2.0.prefix ∙ a.2.0.prefix ∙ m.own) in
-      r.set s at ∙ ap (λ q. slice_set r.low place (own_row T q source r.new_id (paths_at p source T.routes) (top + 1) s.dependants)) same
+      let first : s.pairs ≡ (source, id) ∷ [] = ap (λ z. z.pairs) (some_is s b.0 (sym at ∙ b.1)) ∙ (b.2.0.pairs ∙ a.2.0.pairs ∙ m.pairs) in
+      r.set s at ∙ ap (λ l. slice_set r.low place (own_row s.prefix (slice_set l 0 (source, r.new_id)) (plain_own T source (paths_at p source T.routes) (top + 1)) s.dependants)) first
+      ∙ ap (λ q. slice_set r.low place (own_row q ((source, r.new_id) ∷ []) (plain_own T source (paths_at p source T.routes) (top + 1)) s.dependants)) same
 
-  replaced : IsReplaced v w T p source place id r.new_id before (paths_at p source T.routes) (top + 1)
+  replaced : IsReplaced v w p ((source, r.new_id) ∷ []) place id r.new_id before (paths_at p source T.routes) (plain_own T source (paths_at p source T.routes) (top + 1))
   replaced = record {
     mid = r.mid;
     low = r.low;
@@ -55,14 +58,16 @@ module _ (v w : Known) (S T : Tables) (p : Prefix) (source : FibSource) (place i
     given = r.given;
     apart_after = r.apart_after;
     objects = objects;
-    above = λ t c. (let le = above t c in omega (arith, le));
   }
 
+  made : IsLeafMade v w T p source
+  made = made_leaf v w S T p source place id r.new_id before (top + 1) k m differ after apart replaced (λ t c. (let le = above t c in omega (arith, le)))
+
   pub stands_after : StandsFor w T
-  stands_after = stands_leaf v w S T p source (ready_edit v S T p source place id before k m differ after) k (made_leaf v w S T p source place id r.new_id before (top + 1) k m differ after apart replaced)
+  stands_after = stands_leaf v w S T p source (ready_edit v S T p source place id before k m differ after) k made
 
   pub touched_after : before ≢ paths_at p source T.routes → AreTouched S T (p ∷ [])
-  touched_after other = touched_leaf v w S T p source (ready_edit v S T p source place id before k m differ after) k (made_leaf v w S T p source place id r.new_id before (top + 1) k m differ after apart replaced)
+  touched_after other = touched_leaf v w S T p source (ready_edit v S T p source place id before k m differ after) k made
       (λ e. other (sym (list_before v S T p source place id before k m differ after) ∙ e))
 
   rank_was : rank_of v.rows p ≡ m.row.rank
@@ -72,10 +77,10 @@ module _ (v w : Known) (S T : Tables) (p : Prefix) (source : FibSource) (place i
   moved_after = by (m.row.rank == top + 1) refl
     where
       by : (b : Bool) → (m.row.rank == top + 1) ≡ b → AreMoved v.rows w.rows (if b then [] else record { prefix = p; rank = m.row.rank } ∷ [])
-      by true e = still_leaf v w S T p source (ready_edit v S T p source place id before k m differ after) k (made_leaf v w S T p source place id r.new_id before (top + 1) k m differ after apart replaced)
+      by true e = still_leaf v w S T p source (ready_edit v S T p source place id before k m differ after) k made
           (rank_was ∙ (Decides-eqb m.row.rank (top + 1)).0 e ∙ sym (rank_own v w S T p source place id r.new_id before (top + 1) k m differ after apart replaced))
       by false e = subst (λ n. AreMoved v.rows w.rows (record { prefix = p; rank = n } ∷ [])) rank_was
-          (moved_leaf v w S T p source (ready_edit v S T p source place id before k m differ after) k (made_leaf v w S T p source place id r.new_id before (top + 1) k m differ after apart replaced)
+          (moved_leaf v w S T p source (ready_edit v S T p source place id before k m differ after) k made
           (λ same. false≢true (sym e ∙ (Decides-eqb m.row.rank (top + 1)).1 (sym rank_was ∙ same ∙ rank_own v w S T p source place id r.new_id before (top + 1) k m differ after apart replaced))))
 
   pub fits_after : v.objects ≤ most → most < 2 ^ 32 - 1 → size T ≤ most
@@ -94,9 +99,9 @@ module _ (v w : Known) (S T : Tables) (p : Prefix) (source : FibSource) (place i
 pub fields_after : (rows new : List Row) (lists later : List PathKept) (order : List Prefix) (x y z : Index) (T : Tables) (p : Prefix) (source : FibSource) (place id : ℕ) (old paths : List Path) (rank : ℕ) (f : Followed)
     → AreFields rows lists order x → IsReady rows lists T p source place id old → IsChanged T rows new lists later place p id source paths rank f → IsNoted x y p paths None → IsForgotten y z p paths None → AreFields new later order z
 fields_after rows new lists later order x y z T p source place id old paths rank f h m c noted forgotten =
-    let names = replaced_names rows new lists later place p id c.before paths (plain_own T source paths rank) c.replaced h.named h.ordered m.row m.at m.own source m.pairs c.content in
-    let named = named_replaced rows new lists later place p id c.before paths (plain_own T source paths rank) c.replaced h.named h.ordered m.row m.at m.own source m.pairs c.content in
-    let from = replaced_from rows new lists later place p id c.before paths (plain_own T source paths rank) c.replaced h.named h.ordered m.row m.at m.own source m.pairs c.content in
+    let names = replaced_names rows new lists later place p id c.before paths (plain_own T source paths rank) c.replaced h.named h.ordered m.row m.at m.own source [] m.pairs (λ q none. absurd (Contains-nil q none)) c.content in
+    let named = named_replaced rows new lists later place p id c.before paths (plain_own T source paths rank) c.replaced h.named h.ordered m.row m.at m.own source [] m.pairs (λ q none. absurd (Contains-nil q none)) c.content in
+    let from = replaced_from rows new lists later place p id c.before paths (plain_own T source paths rank) c.replaced h.named h.ordered m.row m.at m.own source [] m.pairs (λ q none. absurd (Contains-nil q none)) c.content in
     record {
       held = named_held new later named;
       named = named;
@@ -112,8 +117,8 @@ fields_after rows new lists later order x y z T p source place id old paths rank
 pub ready_kept : (rows : List Row) (lists : List PathKept) (T : Tables) (p : Prefix) (source : FibSource) (place id : ℕ) (old : List Path) → IsReady rows lists T p source place id old → IsSome (kept_of lists id)
 ready_kept rows lists T p source place id old m = some_content (kept_of lists id) old m.content
 
-pub ready_row : (rows : List Row) (lists : List PathKept) (T : Tables) (p : Prefix) (source : FibSource) (place id : ℕ) (old : List Path) → IsReady rows lists T p source place id old → (r : Row) × (slice_get rows place ≡ Some r) × (length r.pairs ≡ 1)
-ready_row rows lists T p source place id old m = (m.row, m.at, ap length m.pairs)
+pub ready_row : (rows : List Row) (lists : List PathKept) (T : Tables) (p : Prefix) (source : FibSource) (place id : ℕ) (old : List Path) → IsReady rows lists T p source place id old → (r : Row) × (slice_get rows place ≡ Some r) × (0 < length r.pairs)
+ready_row rows lists T p source place id old m = (m.row, m.at, subst (λ n. 0 < n) (sym (ap length m.pairs)) (omega arith))
 
 -- and what comes of it is right
 pub followed_leaf : (v w : Known) (T : Tables) (p : Prefix) (source : FibSource) (place id : ℕ) (old : List Path) (top most : ℕ) (f : Followed) → IsReady v.rows v.lists T p source place id old → AreInterned v.lists

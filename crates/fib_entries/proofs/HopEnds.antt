@@ -1,10 +1,11 @@
 -- Hop ends of paths of a leaf that the lists of their neighbors' hosts have too.
-use Rattle.std.proofs.Common.{arith, ◌≡◌, ℕ, ◌<◌, Bool, true, false, ◌==◌, List, [], ◌∷◌, Option, Some, None, inl, inr, refl, sym, ap, subst, if◌then◌else◌}
+use Rattle.std.proofs.Common.{arith, ◌≡◌, ℕ, ◌<◌, Bool, true, false, not, ◌&&◌, ◌==◌, List, [], ◌∷◌, Option, Some, None, inl, inr, refl, sym, ◌∙◌, ap, subst, if◌then◌else◌}
 use Rattle.std.specs.Prelude.{Contains}
 use Rattle.std.specs.List.{list_all}
 use Rattle.std.proofs.lemmas.Bool.{false≢true}
 use Rattle.std.proofs.lemmas.Bool.Decides.{Decides-eqb}
-use Rattle.fib_list.proofs.Lists.{Contains-nil, Contains-flat_map}
+use Rattle.fib_list.proofs.Lists.{either, Contains-nil, Contains-flat_map}
+use Rattle.fib_list.proofs.Booleans.{and_both}
 use Rattle.fib_addr.specs.Prefixes.{Prefix, same_prefix, host}
 use Rattle.fib_resolve.specs.Aims.{marked, marked_list, kind_aim}
 use Rattle.fib_resolve.specs.Pairs.{entries, chosen}
@@ -16,6 +17,7 @@ use Rattle.fib_resolve.specs.declared.types.Path.{Path}
 use Rattle.fib_resolve.specs.declared.types.PathKind.{PathKind}
 use Rattle.fib_resolve.specs.declared.types.PathKind.TheVariants as kinds
 use Rattle.fib_resolve.specs.declared.types.Tables.{Tables}
+use Rattle.fib_resolve.proofs.KeptEdges.{not_true}
 use Rattle.fib_changes.proofs.CauseLaws.{any_from}
 use Rattle.fib_changes.proofs.Edits.{in_cases, in_front}
 use Rattle.fib_changes.proofs.SamePairs.{map_in, map_from, flat_map_from}
@@ -23,6 +25,7 @@ use Rattle.fib_entries.specs.Known.{Known, prefix_of, row_of, StandsFor}
 use Rattle.fib_entries.specs.inner.Ends.{aim_at, end_at}
 use Rattle.fib_entries.specs.inner.Hosting.{shared_but, shared_path_but}
 use Rattle.fib_entries.specs.inner.Leaf.{has_end, shared_kind, shared_path}
+use Rattle.fib_entries.specs.inner.Led.{ends_beside, path_beside}
 use Rattle.fib_entries.specs.Rows.{Row}
 use Rattle.fib_entries.proofs.Leafing.{not_it}
 use Rattle.fib_entries.proofs.LeafSizes.{HasEnd, adjacency_with, adjacency_is, ends_in}
@@ -41,6 +44,9 @@ end_of S e (kinds.Attached i) z h = by (e.len == 32) h
 end_of S e (kinds.Hop a i) z h = in_front (adjacency_with i a) z [] (adjacency_is (adjacency_with i a) z h)
 end_of S e (kinds.Recursive a) z h = absurd (false≢true h)
 end_of S e kinds.Cover z h = absurd (false≢true h)
+
+both_hold : (a b : Bool) → a ≡ true → b ≡ true → (a && b) ≡ true
+both_hold a b x y = rw (x, y) refl
 
 -- the row of the neighbor's host has a path that ends there
 abbrev HasHop : List Row → Adjacency → Type 0
@@ -66,32 +72,51 @@ module _ (v : Known) (S : Tables) (k : StandsFor v S) where
             Contains-flat_map (λ x. kind_adjacency r.prefix x.kind) (chosen S r.prefix) q.0 z q.1 (end_of S r.prefix q.0.kind z (subst (λ x. aim_at z.interface z.next_hop x.aim ≡ true) (sym q.2) m.2)),
           )
 
+  -- what is told of the Hop ends of such paths, none of which ends at the prefix's own host
+  hop_of : (p : Prefix) (f : PathKind → Bool) (P : Adjacency → Type 0) → ((i : ℕ) → f (kinds.Attached i) ≡ true → (p.len == 32) ≡ false) → ((a i : ℕ) → f (kinds.Hop a i) ≡ true → P (adjacency_with i a))
+      → (kind : PathKind) (z : Adjacency) → f kind ≡ true → Contains (kind_adjacency p kind) z → P z
+  hop_of p f P glean tells kinds.Drop z h c = absurd (Contains-nil z c)
+  hop_of p f P glean tells kinds.Local z h c = absurd (Contains-nil z c)
+  hop_of p f P glean tells (kinds.Attached i) z h c = absurd (Contains-nil z (rw (glean i h) at c))
+  hop_of p f P glean tells (kinds.Hop a i) z h c = elim (in_cases (adjacency_with i a) z [] c) [ inl is ↦ subst P is (tells a i h) | inr none ↦ absurd (Contains-nil z none) ]
+  hop_of p f P glean tells (kinds.Recursive a) z h c = absurd (Contains-nil z c)
+  hop_of p f P glean tells kinds.Cover z h c = absurd (Contains-nil z c)
+
   module _ (p : Prefix) (short : p.len < 32) where
-    hop_of : (f : PathKind → Bool) → ((a i : ℕ) → f (kinds.Hop a i) ≡ true → has_end i a (row_of v.rows (host a)) ≡ true) → (kind : PathKind) (z : Adjacency) → f kind ≡ true → Contains (kind_adjacency p kind) z → HasHop v.rows z
-    hop_of f tells kinds.Drop z h c = absurd (Contains-nil z c)
-    hop_of f tells kinds.Local z h c = absurd (Contains-nil z c)
-    hop_of f tells (kinds.Attached i) z h c = by (p.len == 32) refl c
-      where
-        by : (b : Bool) → (p.len == 32) ≡ b → Contains (if b then adjacency_with i p.bits ∷ [] else []) z → HasHop v.rows z
-        by true e c = absurd (let n = (Decides-eqb p.len 32).0 e in omega (arith, n, short))
-        by false e c = absurd (Contains-nil z c)
-    hop_of f tells (kinds.Hop a i) z h c = elim (in_cases (adjacency_with i a) z [] c) [ inl is ↦ subst (HasHop v.rows) is (tells a i h) | inr none ↦ absurd (Contains-nil z none) ]
-    hop_of f tells (kinds.Recursive a) z h c = absurd (Contains-nil z c)
-    hop_of f tells kinds.Cover z h c = absurd (Contains-nil z c)
+    no_host : (p.len == 32) ≡ false
+    no_host = elim (either (p.len == 32)) [ inl is ↦ absurd (let n = (Decides-eqb p.len 32).0 is in omega (arith, n, short)) | inr isnt ↦ isnt ]
 
     -- the Hop ends of a shared list are those of their neighbors' hosts
     ends_of_hosts : (paths : List Path) → list_all (shared_path v.rows p) paths ≡ true → (z : Adjacency) → Contains (ends_in p paths) z → IsHostEnd S z
     ends_of_hosts paths shared z c =
         let q = flat_map_from (λ x. kind_adjacency p x.kind) paths z c in
-        host_end z (hop_of (shared_kind v.rows p) (λ a i is. is) q.0.kind z (each_true (shared_path v.rows p) paths q.0 shared q.1) q.2)
+        host_end z (hop_of p (shared_kind v.rows p) (HasHop v.rows) (λ i is. no_host) (λ a i is. is) q.0.kind z (each_true (shared_path v.rows p) paths q.0 shared q.1) q.2)
 
     pub ends_but : (g : ℕ) (paths : List Path) → list_all (shared_path_but v.rows p g) paths ≡ true → (z : Adjacency) → Contains (ends_in p paths) z → IsHostEnd S z
     ends_but g paths shared z c =
         let q = flat_map_from (λ x. kind_adjacency p x.kind) paths z c in
-        host_end z (hop_of (shared_but v.rows p g) (λ a i is. is) q.0.kind z (each_true (shared_path_but v.rows p g) paths q.0 shared q.1) q.2)
+        host_end z (hop_of p (shared_but v.rows p g) (HasHop v.rows) (λ i is. no_host) (λ a i is. is) q.0.kind z (each_true (shared_path_but v.rows p g) paths q.0 shared q.1) q.2)
 
     -- so they are those of other entries
     pub ends_shared : (paths : List Path) → list_all (shared_path v.rows p) paths ≡ true → (z : Adjacency) → Contains (ends_in p paths) z → HasEnd S (same_prefix p) z
     ends_shared paths shared z c =
         let s = ends_of_hosts paths shared z c in
         (host z.next_hop, not_it p (host z.next_hop) (λ is. (let l = ap (λ e. e.len) is in omega (arith, l, short))), s.0, s.1)
+
+  -- and so are those of any prefix whose paths end elsewhere than at its own host
+  ends_any : (p : Prefix) (share : PathKind → Bool) → ((a i : ℕ) → share (kinds.Hop a i) ≡ has_end i a (row_of v.rows (host a))) → (paths : List Path) → list_all (λ q. share q.kind) paths ≡ true → list_all (path_beside p) paths ≡ true
+      → (z : Adjacency) → Contains (ends_in p paths) z → HasEnd S (same_prefix p) z
+  ends_any p share hop paths shared beside z c =
+      let q = flat_map_from (λ x. kind_adjacency p x.kind) paths z c in
+      let both = both_hold (share q.0.kind) (ends_beside p q.0.kind) (each_true (λ x. share x.kind) paths q.0 shared q.1) (each_true (path_beside p) paths q.0 beside q.1) in
+      let t = hop_of p (λ kind. share kind && ends_beside p kind) (λ y. HasHop v.rows y × (same_prefix p (host y.next_hop) ≡ false)) (λ i is. not_true (p.len == 32) (and_both (share (kinds.Attached i)) (not (p.len == 32)) is).1)
+      (λ a i is. (let h = and_both (share (kinds.Hop a i)) (not (same_prefix p (host a))) is in (sym (hop a i) ∙ h.0, not_true (same_prefix p (host a)) h.1))) q.0.kind z both q.2 in
+      let s = host_end z t.0 in
+      (host z.next_hop, t.1, s.0, s.1)
+
+  pub ends_others : (p : Prefix) (paths : List Path) → list_all (shared_path v.rows p) paths ≡ true → list_all (path_beside p) paths ≡ true → (z : Adjacency) → Contains (ends_in p paths) z → HasEnd S (same_prefix p) z
+  ends_others p = ends_any p (shared_kind v.rows p) (λ a i. refl)
+
+  -- also where one next hop is no other's
+  pub ends_others_but : (p : Prefix) (g : ℕ) (paths : List Path) → list_all (shared_path_but v.rows p g) paths ≡ true → list_all (path_beside p) paths ≡ true → (z : Adjacency) → Contains (ends_in p paths) z → HasEnd S (same_prefix p) z
+  ends_others_but p g = ends_any p (shared_but v.rows p g) (λ a i. refl)

@@ -34,7 +34,7 @@ use Rattle.fib_entries.proofs.Naming.{named_held, once_more}
 use Rattle.fib_entries.proofs.Orders.{inserted_members}
 use Rattle.fib_entries.proofs.Placing.{gap_absent, inserted_from, length_map, same_order}
 use Rattle.fib_entries.proofs.Putting.{paired_names, paired_ordered, paired_from}
-use Rattle.fib_entries.proofs.Replacing.{set_from}
+use Rattle.fib_entries.proofs.Settling.{set_from}
 use Rattle.fib_entries.proofs.Using.{once, recounted, counted_taken, taken_stays}
 
 -- the host's row came, without its list

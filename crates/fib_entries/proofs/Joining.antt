@@ -37,7 +37,7 @@ use Rattle.fib_entries.proofs.LeafSizes.{plain_targets, ends_by}
 use Rattle.fib_entries.proofs.Leafing.{chosen_same, outside}
 use Rattle.fib_entries.proofs.Listing.{own_before, own_after, chosen_before, chosen_after, counted_own, counted_none, holders_are}
 use Rattle.fib_entries.proofs.Placing.{gap_absent, size_came}
-use Rattle.fib_entries.proofs.Replacing.{counted_by}
+use Rattle.fib_entries.proofs.Settling.{counted_by}
 use Rattle.fib_entries.proofs.Sharing.{led_by}
 use Rattle.fib_entries.proofs.Using.{once, recounted, counted_taken, taken_stays, content_taken}
 

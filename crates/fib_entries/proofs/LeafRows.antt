@@ -26,7 +26,7 @@ use Rattle.fib_entries.proofs.Standing.{row_there}
 
 module _ (S T : Tables) (p : Prefix) (source : FibSource) (h : IsLeafEdit S T p source []) where
   pub entry_same : (e : Prefix) → p ≢ e → Contains (entries S) e ↔ Contains (entries T) e
-  entry_same e off = entry_beside S T (in_part p []) (part_edit S T p source [] h) e (outside p e off)
+  entry_same e off = entry_beside S T (in_part p []) (part_edit S T p source [] h).beside e (outside p e off)
 
 module _ (S T : Tables) (p : Prefix) (source : FibSource) (late : List ℕ) (h : IsLeafEdit S T p source late) where
   pub entry_own : Contains (entries T) p ↔ (paths_at p source T.routes ≢ [])
@@ -78,19 +78,21 @@ module _ (v w : Known) (S T : Tables) (p : Prefix) (source : FibSource) (h : IsL
 
   part_made : IsPartMade v w T (in_part p [])
   part_made = record {
-    ordered = m.rows.ordered;
-    same = λ e off. m.rows.same e (part_not p [] e off);
-    rows = λ s c off. (let r = m.rows.rows s c (part_not p [] s.prefix off) in
-        (r.0, r.1, but_part p r.0 s r.2, λ d is. subst (λ z. Contains s.dependants z ↔ Contains (targets T z) s.prefix) (own_part p d is) r.3));
-    there = λ e is. subst (λ z. Contains (map prefix_of w.rows) z ↔ Contains (entries T) z) (own_part p e is)
-        (λ c. (entry_own S T p source [] h).1 (m.there.0 c), λ c. m.there.1 ((entry_own S T p source [] h).0 c));
-    own = λ s c is. m.own s c (own_part p s.prefix is);
+    kept = record {
+      ordered = m.rows.ordered;
+      same = λ e off. m.rows.same e (part_not p [] e off);
+      rows = λ s c off. (let r = m.rows.rows s c (part_not p [] s.prefix off) in
+          (r.0, r.1, but_part p r.0 s r.2, λ d is. subst (λ z. Contains s.dependants z ↔ Contains (targets T z) s.prefix) (own_part p d is) r.3));
+      there = λ e is. subst (λ z. Contains (map prefix_of w.rows) z ↔ Contains (entries T) z) (own_part p e is)
+          (λ c. (entry_own S T p source [] h).1 (m.there.0 c), λ c. m.there.1 ((entry_own S T p source [] h).0 c));
+      own = λ s c is. m.own s c (own_part p s.prefix is);
+      counted = m.counted;
+      stays = m.stays;
+      objects = m.objects;
+    };
     rank = λ e t is c. (let at = own_part p e is in
         let away : p ≢ t = λ same. leaf_after S T p source [] h e (subst (Contains (targets T e)) (sym same) c) in
         subst (λ z. rank_of w.rows t < rank_of w.rows z) at (subst (λ n. n < rank_of w.rows p) (sym (rank_stays t away)) (m.rank t (subst (λ z. Contains (targets T z) t) (sym at) c))));
-    counted = m.counted;
-    stays = m.stays;
-    objects = m.objects;
   }
 
   pub stands_leaf : StandsFor w T
@@ -102,7 +104,7 @@ module _ (v w : Known) (S T : Tables) (p : Prefix) (source : FibSource) (h : IsL
     once = (tt, tt);
     touched = λ e. (
       λ c. elim (in_cases p e [] c) [ inl is ↦ subst (λ z. is_touched S T z ≡ true) is (own_touched S T p source [] h other) | inr none ↦ absurd (Contains-nil e none) ],
-      λ is. in_front p e [] (own_part p e (touched_inside v w S T (in_part p []) (part_edit S T p source [] h) k part_made e is)),
+      λ is. in_front p e [] (own_part p e (touched_inside v w S T (in_part p []) (part_edit S T p source [] h).beside k part_made.kept e is)),
     );
   }
 

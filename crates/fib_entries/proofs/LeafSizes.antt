@@ -145,7 +145,7 @@ ends_same S T p same lists before after = adjacencies_same S T (same_prefix p) (
     own : (U : Tables) → ((z : Adjacency) → Contains (adjacencies_of U p) z → HasEnd S (same_prefix p) z) → (e : Prefix) → same_prefix p e ≡ true → (z : Adjacency) → Contains (adjacencies_of U e) z → HasEnd S (same_prefix p) z
     own U shared e is z c = shared z (subst (λ q. Contains (adjacencies_of U q) z) (sym ((same_prefix-Decides p e).0 is)) c)
 
-goal_kind : (U : Tables) (e : Prefix) (k : PathKind) → plain_kind k ≡ true → kind_targets U e k ≡ goal_of k
+pub goal_kind : (U : Tables) (e : Prefix) (k : PathKind) → plain_kind k ≡ true → kind_targets U e k ≡ goal_of k
 goal_kind U e kinds.Drop h = refl
 goal_kind U e kinds.Local h = refl
 goal_kind U e (kinds.Attached i) h = refl

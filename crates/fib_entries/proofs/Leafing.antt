@@ -328,74 +328,114 @@ last_step E (suc n) x y w = let r = last_step E n w.0 y w.2 in (r.0, (w.0, w.1, 
 pub routes_beside : (S T : Tables) (p : Prefix) (source : FibSource) → Differ (changes.Route p source ∷ []) S T → (r : Route) → is_route p source r ≡ false → Contains S.routes r ↔ Contains T.routes r
 routes_beside S T p source differ r off = differ.routes r (λ k. (let is = route_is p r.prefix source r.source (only_one (changes.Route p source) (changes.Route r.prefix r.source) k) in false≢true (sym off ∙ is_it p source r (sym is.0) (sym is.1))))
 
+pub its_prefix : (p : Prefix) (s : FibSource) (r : Route) → is_route p s r ≡ true → r.prefix ≡ p
+its_prefix p s r it = (same_prefix-Decides r.prefix p).0 (and_both (same_prefix r.prefix p) _ it).0
+
+-- what a change of one route leaves
+module _ (S T : Tables) (p : Prefix) (source : FibSource) (h : Differ (changes.Route p source ∷ []) S T) where
+  elsewhere : (c : Change) → (changes.Route p source ≡ c → ⊥) → Contains (changes.Route p source ∷ []) c → ⊥
+  elsewhere c off k = off (only_one (changes.Route p source) c k)
+
+  addresses_beside : (a : Address) → Contains S.addresses a ↔ Contains T.addresses a
+  addresses_beside a = h.addresses a (elsewhere (changes.Address a) (λ e. address_not p source a e))
+
+  flags_beside : (i : ℕ) → is_up S i ≡ is_up T i
+  flags_beside i = h.flags i (elsewhere (changes.Flag i) (λ e. flag_not p source i e))
+
+  macs_beside : (i a : ℕ) → mac_of S i a ≡ mac_of T i a
+  macs_beside i a = h.neighbors i a (elsewhere (changes.Neighbor i a) (λ e. neighbor_not p source i a e))
+
+  pub near_beside : NeighborsCaught S T (λ _. false)
+  near_beside a i quiet = (near_half S T i a (macs_beside i a), near_half T S i a (sym (macs_beside i a)))
+
+  pub kept_beside : (x : Pair) → Contains (base_pairs S) x → Contains (base_pairs T) x ⊎ ((r : Route) × Contains S.routes r × (is_route p source r ≡ true) × (route_pair r ≡ x))
+  kept_beside x c = elim (base_cases S x c) [
+    | inl early ↦ inl (from_front T x (front_half S.addresses T.addresses addresses_beside x early))
+    | inr (r, k, is) ↦ elim (either (is_route p source r)) [
+      | inl it ↦ inr (r, k, it, is)
+      | inr off ↦ inl (subst (Contains (base_pairs T)) is (from_route T r ((routes_beside S T p source h r off).0 k)))
+    ]
+  ]
+
+  pub came_beside : (x : Pair) → Contains (base_pairs T) x → Contains (base_pairs S) x ⊎ ((r : Route) × Contains T.routes r × (is_route p source r ≡ true) × (route_pair r ≡ x))
+  came_beside x c = elim (base_cases T x c) [
+    | inl early ↦ inl (from_front S x (front_half T.addresses S.addresses (λ a. ((addresses_beside a).1, (addresses_beside a).0)) x early))
+    | inr (r, k, is) ↦ elim (either (is_route p source r)) [
+      | inl it ↦ inr (r, k, it, is)
+      | inr off ↦ inl (subst (Contains (base_pairs S)) is (from_route S r ((routes_beside S T p source h r off).1 k)))
+    ]
+  ]
+
+  pub base_beside : BaseCaught S T (same_prefix p)
+  base_beside x quiet = (
+    λ c. elim (kept_beside x c) [ inl there ↦ there | inr (r, k, it, is) ↦ absurd (is_not p x.prefix quiet (sym (its_prefix p source r it) ∙ ap (λ z. z.prefix) is)) ],
+    λ c. elim (came_beside x c) [ inl there ↦ there | inr (r, k, it, is) ↦ absurd (is_not p x.prefix quiet (sym (its_prefix p source r it) ∙ ap (λ z. z.prefix) is)) ],
+  )
+
+  -- a next hop to which another prefix leads is another route's, which stays
+  stays_hop : (a : ℕ) → (d : Prefix) × (d ≢ p) × Contains (targets S d) (host a) → (q : Route) × Contains S.routes q × Contains T.routes q × Contains (recursive_hops q) a
+  stays_hop a d = let q = hop_route S d.0 a d.2 in (q.0, q.1, (routes_beside S T p source h q.0 (other_route p source q.0 (λ e. d.1 (sym q.2 ∙ e)))).0 q.1, q.3)
+
+  -- where each next hop of these routes is such a one, it is a next hop before and after
+  pub hops_beside : (a : ℕ) → ((r : Route) → is_route p source r ≡ true → Contains S.routes r ⊎ Contains T.routes r → Contains (recursive_hops r) a → (d : Prefix) × (d ≢ p) × Contains (targets S d) (host a))
+      → Contains (all_hops S) a ↔ Contains (all_hops T) a
+  hops_beside a led = (
+    λ c. (let r = flat_map_from recursive_hops S.routes a c in elim (either (is_route p source r.0)) [
+      | inl it ↦ (let q = stays_hop a (led r.0 it (inl r.1) r.2) in Contains-flat_map recursive_hops T.routes q.0 a q.2 q.3)
+      | inr off ↦ Contains-flat_map recursive_hops T.routes r.0 a ((routes_beside S T p source h r.0 off).0 r.1) r.2
+    ]),
+    λ c. (let r = flat_map_from recursive_hops T.routes a c in elim (either (is_route p source r.0)) [
+      | inl it ↦ (let q = stays_hop a (led r.0 it (inr r.1) r.2) in Contains-flat_map recursive_hops S.routes q.0 a q.1 q.3)
+      | inr off ↦ Contains-flat_map recursive_hops S.routes r.0 a ((routes_beside S T p source h r.0 off).1 r.1) r.2
+    ]),
+  )
+
+  same_flag : (i : ℕ) → other_flag S T i ≡ true → ⊥
+  same_flag i is = differ_self (is_up T i) (subst (λ b. differ b (is_up T i) ≡ true) (flags_beside i) is)
+
+  same_end : (i a : ℕ) → other_mac S T i a ≡ true → ⊥
+  same_end i a is = far_mac (mac_of T i a) (subst (λ o. not (same_mac o (mac_of T i a)) ≡ true) (macs_beside i a) is)
+
+  -- no flag and no MAC is another
+  pub means_beside : (e : Prefix) (k : PathKind) → means_else S T e k ≡ true → ⊥
+  means_beside e kinds.Drop is = false≢true is
+  means_beside e kinds.Local is = false≢true is
+  means_beside e (kinds.Attached i) is = elim (or_cases (other_flag S T i) ((e.len == 32) && other_mac S T i e.bits) is) [
+    | inl flag ↦ same_flag i flag
+    | inr mac ↦ same_end i e.bits (and_both (e.len == 32) (other_mac S T i e.bits) mac).1
+  ]
+  means_beside e (kinds.Hop a i) is = elim (or_cases (other_flag S T i) (other_mac S T i a) is) [ inl flag ↦ same_flag i flag | inr mac ↦ same_end i a mac ]
+  means_beside e (kinds.Recursive a) is = false≢true is
+  means_beside e kinds.Cover is = false≢true is
+
+  pub good_beside : IsPrefix p → ((q : Prefix) → Contains (entries S) q → IsPrefix q) → ArePrefixes T
+  good_beside prefix real q c = (let r = short_from T q c in elim (either (same_prefix p q)) [
+    | inl is ↦ subst IsPrefix ((same_prefix-Decides p q).0 is) prefix
+    | inr off ↦ real q (entry_of_pair S r.0 q (from_origin S r.0 (base ((base_beside r.0 (subst (λ z. same_prefix p z ≡ false) (sym r.2) off)).1 r.1))) r.2)
+  ])
+
 module _ (S T : Tables) (p : Prefix) (source : FibSource) (late : List ℕ) (h : IsLeafEdit S T p source late) where
   no_late : (a : ℕ) → list_any (λ b. b == a) late ≡ false → Contains late a → ⊥
   no_late a off c = false≢true (sym off ∙ any_in (λ b. b == a) late a c ((Decides-eqb a a).1 refl))
 
-  elsewhere : (c : Change) → (changes.Route p source ≡ c → ⊥) → Contains (changes.Route p source ∷ []) c → ⊥
-  elsewhere c off k = off (only_one (changes.Route p source) c k)
-
   pub routes_same : (r : Route) → is_route p source r ≡ false → Contains S.routes r ↔ Contains T.routes r
   routes_same = routes_beside S T p source h.differ
 
-  addresses_same : (a : Address) → Contains S.addresses a ↔ Contains T.addresses a
-  addresses_same a = h.differ.addresses a (elsewhere (changes.Address a) (λ e. address_not p source a e))
-
-  flags_same : (i : ℕ) → is_up S i ≡ is_up T i
-  flags_same i = h.differ.flags i (elsewhere (changes.Flag i) (λ e. flag_not p source i e))
-
-  macs_same : (i a : ℕ) → mac_of S i a ≡ mac_of T i a
-  macs_same i a = h.differ.neighbors i a (elsewhere (changes.Neighbor i a) (λ e. neighbor_not p source i a e))
-
   near : NeighborsCaught S T (λ _. false)
-  near a i quiet = (near_half S T i a (macs_same i a), near_half T S i a (sym (macs_same i a)))
-
-  pub base_kept : (x : Pair) → Contains (base_pairs S) x → Contains (base_pairs T) x ⊎ ((r : Route) × Contains S.routes r × (is_route p source r ≡ true) × (route_pair r ≡ x))
-  base_kept x c = elim (base_cases S x c) [
-    | inl early ↦ inl (from_front T x (front_half S.addresses T.addresses addresses_same x early))
-    | inr (r, k, is) ↦ elim (either (is_route p source r)) [
-      | inl it ↦ inr (r, k, it, is)
-      | inr off ↦ inl (subst (Contains (base_pairs T)) is (from_route T r ((routes_same r off).0 k)))
-    ]
-  ]
+  near = near_beside S T p source h.differ
 
   pub base_came : (x : Pair) → Contains (base_pairs T) x → Contains (base_pairs S) x ⊎ ((r : Route) × Contains T.routes r × (is_route p source r ≡ true) × (route_pair r ≡ x))
-  base_came x c = elim (base_cases T x c) [
-    | inl early ↦ inl (from_front S x (front_half T.addresses S.addresses (λ a. ((addresses_same a).1, (addresses_same a).0)) x early))
-    | inr (r, k, is) ↦ elim (either (is_route p source r)) [
-      | inl it ↦ inr (r, k, it, is)
-      | inr off ↦ inl (subst (Contains (base_pairs S)) is (from_route S r ((routes_same r off).1 k)))
-    ]
-  ]
+  base_came = came_beside S T p source h.differ
 
   pub own_prefix : (r : Route) → is_route p source r ≡ true → r.prefix ≡ p
-  own_prefix r it = (same_prefix-Decides r.prefix p).0 (and_both (same_prefix r.prefix p) _ it).0
+  own_prefix = its_prefix p source
 
   base_caught : BaseCaught S T (same_prefix p)
-  base_caught x quiet = (
-    λ c. elim (base_kept x c) [ inl there ↦ there | inr (r, k, it, is) ↦ absurd (is_not p x.prefix quiet (sym (own_prefix r it) ∙ ap (λ z. z.prefix) is)) ],
-    λ c. elim (base_came x c) [ inl there ↦ there | inr (r, k, it, is) ↦ absurd (is_not p x.prefix quiet (sym (own_prefix r it) ∙ ap (λ z. z.prefix) is)) ],
-  )
+  base_caught = base_beside S T p source h.differ
 
   -- each next hop that isn't late is another route's too
-  still : (r : Route) (a : ℕ) → list_any (λ b. b == a) late ≡ false → is_route p source r ≡ true → Contains S.routes r ⊎ Contains T.routes r → Contains (recursive_hops r) a
-      → (q : Route) × Contains S.routes q × Contains T.routes q × Contains (recursive_hops q) a
-  still r a off it c m = elim (h.hops r a it c m) [
-    | inl is ↦ absurd (no_late a off is)
-    | inr d ↦ (let q = hop_route S d.0 a d.2 in (q.0, q.1, (routes_same q.0 (other_route p source q.0 (λ e. d.1 (sym q.2 ∙ e)))).0 q.1, q.3))
-  ]
-
   pub hops_same : (a : ℕ) → list_any (λ b. b == a) late ≡ false → Contains (all_hops S) a ↔ Contains (all_hops T) a
-  hops_same a early = (
-    λ c. (let r = flat_map_from recursive_hops S.routes a c in elim (either (is_route p source r.0)) [
-      | inl it ↦ (let q = still r.0 a early it (inl r.1) r.2 in Contains-flat_map recursive_hops T.routes q.0 a q.2 q.3)
-      | inr off ↦ Contains-flat_map recursive_hops T.routes r.0 a ((routes_same r.0 off).0 r.1) r.2
-    ]),
-    λ c. (let r = flat_map_from recursive_hops T.routes a c in elim (either (is_route p source r.0)) [
-      | inl it ↦ (let q = still r.0 a early it (inr r.1) r.2 in Contains-flat_map recursive_hops S.routes q.0 a q.1 q.3)
-      | inr off ↦ Contains-flat_map recursive_hops S.routes r.0 a ((routes_same r.0 off).1 r.1) r.2
-    ]),
-  )
+  hops_same a early = hops_beside S T p source h.differ a (λ r it c m. elim (h.hops r a it c m) [ inl is ↦ absurd (no_late a early is) | inr d ↦ d ])
 
   -- a host in the prefix, or beyond the addresses
   IsAway : ℕ → Type 0
@@ -452,10 +492,7 @@ module _ (S T : Tables) (p : Prefix) (source : FibSource) (late : List ℕ) (h :
       ]
 
   good : ArePrefixes T
-  good q c = (let r = short_from T q c in elim (either (same_prefix p q)) [
-    | inl is ↦ subst IsPrefix ((same_prefix-Decides p q).0 is) h.prefix
-    | inr off ↦ h.real q (entry_of_pair S r.0 q (from_origin S r.0 (base ((base_caught r.0 (subst (λ z. same_prefix p z ≡ false) (sym r.2) off)).1 r.1))) r.2)
-  ])
+  good = good_beside S T p source h.differ h.prefix h.real
 
   not_cover : (U : Tables) (a : ℕ) → a < 2 ^ 32 → contains p a ≡ false → same_prefix p (cover U a) ≡ false
   unfolding cover
@@ -523,7 +560,7 @@ module _ (S T : Tables) (p : Prefix) (source : FibSource) (late : List ℕ) (h :
   led_by_route U carried d a c t =
       let r = hop_route U d a t in
       elim (either (is_route p source r.0)) [
-        | inl it ↦ sym r.2 ∙ own_prefix r.0 it
+        | inl it ↦ sym r.2 ∙ its_prefix p source r.0 it
         | inr off ↦ absurd (h.late_alone a c r.0 off (carried r.0 off r.1) r.3)
       ]
 
@@ -572,26 +609,9 @@ module _ (S T : Tables) (p : Prefix) (source : FibSource) (late : List ℕ) (h :
     | inl is ↦ absurd (by (touched_causes S T (in_part p late) e h.before h.after same_entry is))
   ]
     where
-      same_flag : (i : ℕ) → other_flag S T i ≡ true → ⊥
-      same_flag i is = differ_self (is_up T i) (subst (λ b. differ b (is_up T i) ≡ true) (flags_same i) is)
-
-      same_end : (i a : ℕ) → other_mac S T i a ≡ true → ⊥
-      same_end i a is = far_mac (mac_of T i a) (subst (λ o. not (same_mac o (mac_of T i a)) ≡ true) (macs_same i a) is)
-
-      means : (k : PathKind) → means_else S T e k ≡ true → ⊥
-      means kinds.Drop is = false≢true is
-      means kinds.Local is = false≢true is
-      means (kinds.Attached i) is = elim (or_cases (other_flag S T i) ((e.len == 32) && other_mac S T i e.bits) is) [
-        | inl flag ↦ same_flag i flag
-        | inr mac ↦ same_end i e.bits (and_both (e.len == 32) (other_mac S T i e.bits) mac).1
-      ]
-      means (kinds.Hop a i) is = elim (or_cases (other_flag S T i) (other_mac S T i a) is) [ inl flag ↦ same_flag i flag | inr mac ↦ same_end i a mac ]
-      means (kinds.Recursive a) is = false≢true is
-      means kinds.Cover is = false≢true is
-
       by : Cause S T (in_part p late) e → ⊥
       by (own is) = false≢true (sym off ∙ is)
-      by (ends q c m) = means q.kind m
+      by (ends q c m) = means_beside S T p source h.differ e q.kind m
       by (needing q a c is need ch) = elim (part_cases p late (host a) ch) [
         | inl same ↦ host_other a same
         | inr (b, m, at) ↦ part_not p late e off (sym (late_led_before e b m (subst (Contains (targets S e)) (sym at) (path_edge S e q a c is))))
@@ -610,9 +630,7 @@ module _ (S T : Tables) (p : Prefix) (source : FibSource) (late : List ℕ) (h :
   -- outside the part nothing changes
   pub part_edit : IsPartEdit S T (in_part p late)
   part_edit = record {
-    after = h.after;
-    quiet = untouched;
-    entry = same_entry;
+    beside = record { after = h.after; quiet = untouched; entry = same_entry };
     closed = λ d t off c. elim (either (in_part p late t)) [
       | inr isnt ↦ isnt
       | inl is ↦ elim (part_cases p late t is) [

@@ -41,7 +41,7 @@ use Rattle.fib_entries.proofs.Naming.{some_content}
 use Rattle.fib_entries.proofs.Owning.{owned_all, owned_list, owned_some}
 use Rattle.fib_entries.proofs.Placing.{gap_removed, size_gone}
 use Rattle.fib_entries.proofs.Ready.{clear_alone}
-use Rattle.fib_entries.proofs.Replacing.{counted_by}
+use Rattle.fib_entries.proofs.Settling.{counted_by}
 use Rattle.fib_entries.proofs.Sharing.{led_by, path_there}
 use Rattle.fib_entries.proofs.Using.{once, counted_given, given_stays}
 use Rattle.fib_entries.proofs.Withdrawing.{order_at, names_gone, ordered_gone, but_for, row_left, row_was, indexed_gone, fields_gone}

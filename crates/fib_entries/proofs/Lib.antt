@@ -30,6 +30,7 @@ pub mod Linking
 pub mod Holding
 pub mod Housing
 pub mod Ready
+pub mod Settling
 pub mod Replacing
 pub mod Naming
 pub mod Following
@@ -58,3 +59,18 @@ pub mod HostFields
 pub mod Gaps
 pub mod Summing
 pub mod PartCounts
+pub mod Climbing
+pub mod Seeing
+pub mod Loopings
+pub mod LoopRows
+pub mod Reachings
+pub mod LedLaws
+pub mod LedPairs
+pub mod LedRows
+pub mod LedReach
+pub mod Settled
+pub mod Reached
+pub mod ReachSizes
+pub mod ReachedBy
+pub mod ReachFields
+pub mod Turning

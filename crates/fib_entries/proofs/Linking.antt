@@ -304,12 +304,12 @@ zip_at P (z ∷ zs) [] k x a at = absurd a
 zip_at P (z ∷ zs) (y ∷ ys) zero x a at = (y, refl, subst (λ r. P r y) (some_is z x at) a.0)
 zip_at P (z ∷ zs) (y ∷ ys) (suc k) x a at = zip_at P zs ys k x a.1 at
 
-pub low_row : (p : Prefix) (gs hs kept : List Prefix) (rows mid low : List Row) (k : ℕ) → AreAttached p gs rows mid → AreDetached p hs kept mid low → ((r : Row) × (slice_get rows k ≡ Some r) × (length r.pairs ≡ 1))
-    → (r : Row) × (slice_get low k ≡ Some r) × (length r.pairs ≡ 1)
-low_row p gs hs kept rows mid low k a b (r, at, one) =
+pub low_row : (p : Prefix) (gs hs kept : List Prefix) (rows mid low : List Row) (k : ℕ) → AreAttached p gs rows mid → AreDetached p hs kept mid low → ((r : Row) × (slice_get rows k ≡ Some r) × (0 < length r.pairs))
+    → (r : Row) × (slice_get low k ≡ Some r) × (0 < length r.pairs)
+low_row p gs hs kept rows mid low k a b (r, at, some) =
     let s = zip_at _ rows mid k r a at in
     let t = zip_at _ mid low k s.0 b s.1 in
-    (t.0, t.1, ap length (t.2.0.pairs ∙ s.2.0.pairs) ∙ one)
+    (t.0, t.1, subst (λ n. 0 < n) (sym (ap length (t.2.0.pairs ∙ s.2.0.pairs))) some)
 
 -- what is kept is kept still after a list was taken
 pub kept_on : (old new : List PathKept) (content : List Path) (id i : ℕ) → Takes old new content id → IsSome (kept_of old i) → IsSome (kept_of new i)

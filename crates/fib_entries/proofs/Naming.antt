@@ -1,8 +1,7 @@
 -- Each list that a row names is kept, also after one row's list was replaced.
-use Rattle.std.proofs.Common.{arith, ◌≡◌, ◌≢◌, ℕ, ◌+◌, Bool, true, false, List, [], ◌∷◌, map, Option, Some, None, ◌⊎◌, inl, inr, refl, sym, ◌∙◌, ap, subst, slice_get, cond}
-use Rattle.std.specs.Prelude.{Contains, IsSome, option_map}
+use Rattle.std.proofs.Common.{arith, ◌≡◌, ◌≢◌, ℕ, ◌+◌, Bool, true, false, List, ◌∷◌, map, Option, Some, None, ◌⊎◌, inl, inr, refl, sym, ◌∙◌, ap, subst, slice_get, cond}
+use Rattle.std.specs.Prelude.{Contains, IsSome, option_map, slice_set}
 use Rattle.std.specs.Cmp.Lexicographic.{pointwise}
-use Rattle.fib_list.proofs.Lists.{Contains-nil}
 use Rattle.fib_list.proofs.Booleans.{unit_of, count_by-cons}
 use Rattle.fib_addr.specs.Prefixes.{Prefix}
 use Rattle.fib_cover.specs.Covers.{IsAscending}
@@ -25,7 +24,7 @@ use Rattle.fib_entries.proofs.Counting.{without, counted_in, kept_in, counts_som
 use Rattle.fib_entries.proofs.Linking.{zip_at, zip_from, attached_names, detached_names, set_names}
 use Rattle.fib_entries.proofs.Listing.{pair_of}
 use Rattle.fib_entries.proofs.Looking.{one_place}
-use Rattle.fib_entries.proofs.Replacing.{set_from, counted_by}
+use Rattle.fib_entries.proofs.Settling.{set_from, counted_by}
 use Rattle.fib_entries.proofs.Taking.{list_self}
 use Rattle.fib_entries.proofs.Using.{once, counted_taken, counted_given, taken_stays, given_stays, content_taken}
 
@@ -53,10 +52,11 @@ once_more x xs paths = let e = count_by-cons (λ z. pointwise same_path z.paths 
     bit false = refl
 
 module _ (old new : List Row) (lists later : List PathKept) (place : ℕ) (p : Prefix) (id : ℕ) (before after : List Path) (own : Own) (r : AreReplaced old new lists later place p id before after own)
-    (n : AreNamed old lists) (asc : IsAscending (map prefix_of old)) (row : Row) (at : slice_get old place ≡ Some row) (is : row.prefix ≡ p) (source : FibSource) (pairs_are : row.pairs ≡ (source, id) ∷ []) (content : content_of lists id ≡ Some before) where
+    (n : AreNamed old lists) (asc : IsAscending (map prefix_of old)) (row : Row) (at : slice_get old place ≡ Some row) (is : row.prefix ≡ p) (source : FibSource) (rest : List (FibSource × ℕ)) (pairs_are : row.pairs ≡ (source, id) ∷ rest)
+    (others : (q : FibSource × ℕ) → Contains rest q → q.0 ≢ source) (content : content_of lists id ≡ Some before) where
   -- the pair that goes
   gone : (x : Pair) × Contains n.pairs x × (row.prefix ≡ x.prefix) × IsHeld lists (source, id) x
-  gone = n.each row (source, id) (contains_at old place row at) (subst (λ l. Contains l (source, id)) (sym pairs_are) (in_front (source, id) (source, id) [] refl))
+  gone = n.each row (source, id) (contains_at old place row at) (subst (λ l. Contains l (source, id)) (sym pairs_are) (in_front (source, id) (source, id) rest refl))
 
   gone_paths : gone.0.paths ≡ before
   gone_paths = some_is gone.0.paths before (sym gone.3.1 ∙ content)
@@ -88,11 +88,14 @@ module _ (old new : List Row) (lists later : List PathKept) (place : ℕ) (p : P
   low_names : map prefix_of r.low ≡ map prefix_of old
   low_names = detached_names p (goals_of before) (goals_of after) r.mid r.low r.detached ∙ attached_names p (goals_of after) old r.mid r.attached
 
-  low_own : (s : Row) × (slice_get r.low place ≡ Some s) × (s.prefix ≡ p)
+  low_own : (s : Row) × (slice_get r.low place ≡ Some s) × (s.prefix ≡ p) × (s.pairs ≡ row.pairs)
   low_own =
       let a = zip_at _ old r.mid place row r.attached at in
       let b = zip_at _ r.mid r.low place a.0 r.detached a.1 in
-      (b.0, b.1, b.2.0.prefix ∙ a.2.0.prefix ∙ is)
+      (b.0, b.1, b.2.0.prefix ∙ a.2.0.prefix ∙ is, b.2.0.pairs ∙ a.2.0.pairs)
+
+  own_pairs : (settled r.new_id own low_own.0).pairs ≡ (own.source, r.new_id) ∷ rest
+  own_pairs = ap (λ l. slice_set l 0 (own.source, r.new_id)) (low_own.3 ∙ pairs_are)
 
   names_same : map prefix_of new ≡ map prefix_of old
   names_same = ap (map prefix_of) (r.set low_own.0 low_own.1) ∙ (set_names r.low place low_own.0 (settled r.new_id own low_own.0) low_own.1 refl ∙ low_names)
@@ -100,16 +103,22 @@ module _ (old new : List Row) (lists later : List PathKept) (place : ℕ) (p : P
   named_each : (s : Row) (q : FibSource × ℕ) → Contains new s → Contains s.pairs q → (x : Pair) × Contains (pair_of p own.source after ∷ without gone.0 n.pairs) x × (s.prefix ≡ x.prefix) × IsHeld later q x
   unfolding pair_of
   named_each s q c d = elim (set_from r.low place (settled r.new_id own low_own.0) s (subst (λ l. Contains l s) (r.set low_own.0 low_own.1) c)) [
-    | inl same ↦ (let e : (own.source, r.new_id) ≡ q = elim (in_cases (own.source, r.new_id) q [] (subst (λ l. Contains l q) (ap (λ z. z.pairs) (sym same)) d)) [ inl it ↦ it | inr none ↦ absurd (Contains-nil q none) ] in (
-      pair_of p own.source after,
-      in_front (pair_of p own.source after) (pair_of p own.source after) (without gone.0 n.pairs) refl,
-      ap (λ z. z.prefix) (sym same) ∙ low_own.2,
-      (
-        ap (λ z. z.0) (sym e),
-        ap (λ z. content_of later z.1) (sym e) ∙ still r.new_id (pair_of p own.source after) (in_front (pair_of p own.source after) (pair_of p own.source after) (without gone.0 n.pairs) refl)
-            (content_taken lists r.between after r.new_id r.taken r.apart (count_in n.pairs) n.counted),
-      ),
-    ))
+    | inl same ↦ elim (in_cases (own.source, r.new_id) q rest (subst (λ l. Contains l q) (ap (λ z. z.pairs) (sym same) ∙ own_pairs) d)) [
+      | inl e ↦ (
+        pair_of p own.source after,
+        in_front (pair_of p own.source after) (pair_of p own.source after) (without gone.0 n.pairs) refl,
+        ap (λ z. z.prefix) (sym same) ∙ low_own.2,
+        (
+          ap (λ z. z.0) (sym e),
+          ap (λ z. content_of later z.1) (sym e) ∙ still r.new_id (pair_of p own.source after) (in_front (pair_of p own.source after) (pair_of p own.source after) (without gone.0 n.pairs) refl)
+              (content_taken lists r.between after r.new_id r.taken r.apart (count_in n.pairs) n.counted),
+        ),
+      )
+      | inr later_one ↦ (let w = n.each row q (contains_at old place row at) (subst (λ l. Contains l q) (sym pairs_are) (in_rest (source, id) q rest later_one)) in
+          let away : gone.0 ≢ w.0 = λ e. others q later_one (w.3.0 ∙ ap (λ z. z.source) (sym e) ∙ sym gone.3.0) in
+          let inside = in_rest (pair_of p own.source after) w.0 (without gone.0 n.pairs) (kept_in gone.0 w.0 n.pairs w.1 away) in
+          (w.0, inside, ap (λ z. z.prefix) (sym same) ∙ (low_own.2 ∙ (sym is ∙ w.2)), (w.3.0, still q.1 w.0 inside (taken_stays lists r.between after r.new_id r.taken r.apart (count_in n.pairs) n.counted q.1 w.0.paths w.3.1))))
+    ]
     | inr (j, off, there) ↦ (let y = zip_from _ r.mid r.low r.detached s (contains_at r.low j s there) in
         let x = zip_from _ old r.mid r.attached y.0 y.1 in
         let same : s.prefix ≡ x.0.prefix = y.2.0.prefix ∙ x.2.0.prefix in
@@ -128,10 +137,10 @@ module _ (old new : List Row) (lists later : List PathKept) (place : ℕ) (p : P
   }
 
   -- each row is that one or one of the others
-  pub replaced_from : (s : Row) → Contains new s → ((s.prefix ≡ p) × (s.pairs ≡ (own.source, r.new_id) ∷ []) × (s.marked ≡ own.marked))
+  pub replaced_from : (s : Row) → Contains new s → ((s.prefix ≡ p) × (s.pairs ≡ (own.source, r.new_id) ∷ rest) × (s.marked ≡ own.marked))
       ⊎ ((p ≢ s.prefix) × (q : Row) × Contains old q × (s.prefix ≡ q.prefix) × (s.pairs ≡ q.pairs) × (s.marked ≡ q.marked))
   replaced_from s c = elim (set_from r.low place (settled r.new_id own low_own.0) s (subst (λ l. Contains l s) (r.set low_own.0 low_own.1) c)) [
-    | inl same ↦ inl (ap (λ z. z.prefix) (sym same) ∙ low_own.2, ap (λ z. z.pairs) (sym same), ap (λ z. z.marked) (sym same))
+    | inl same ↦ inl (ap (λ z. z.prefix) (sym same) ∙ low_own.2, ap (λ z. z.pairs) (sym same) ∙ own_pairs, ap (λ z. z.marked) (sym same))
     | inr (j, off, there) ↦ (let y = zip_from _ r.mid r.low r.detached s (contains_at r.low j s there) in
         let x = zip_from _ old r.mid r.attached y.0 y.1 in inr (
           λ e. off (one_place prefix_of r.low (subst IsAscending (sym low_names) asc) j place s low_own.0 there low_own.1 (sym e ∙ sym low_own.2)),

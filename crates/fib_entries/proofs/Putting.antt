@@ -18,7 +18,7 @@ use Rattle.fib_entries.proofs.Linking.{zip_at, zip_from, attached_names, set_nam
 use Rattle.fib_entries.proofs.Looking.{one_place}
 use Rattle.fib_entries.proofs.Placing.{inserted_from, inserted_old, inserted_at, inserted_map, inserted_ascending, length_map}
 use Rattle.fib_entries.proofs.PlyOrder.{index_of}
-use Rattle.fib_entries.proofs.Replacing.{set_from}
+use Rattle.fib_entries.proofs.Settling.{set_from}
 use Rattle.fib_entries.proofs.Standing.{row_there}
 
 -- rows in which each prefix has the same rank

@@ -25,7 +25,7 @@ pub unit_same : (content paths : List Path) → content ≡ paths → once conte
 unfolding once
 unit_same content paths is = ap (λ b. if b then 1 else 0) (subst (λ z. pointwise same_path content z ≡ true) is (list_self content))
 
-unit_other : (content paths : List Path) → content ≢ paths → once content paths ≡ 0
+pub unit_other : (content paths : List Path) → content ≢ paths → once content paths ≡ 0
 unfolding once
 unit_other content paths off = elim (either (pointwise same_path content paths)) [
   | inl is ↦ absurd (off (list_is content paths is))

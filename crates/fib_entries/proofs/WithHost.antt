@@ -59,13 +59,14 @@ use Rattle.fib_entries.proofs.PartRows.{row_by, no_row, entry_beside, stands_par
 use Rattle.fib_entries.proofs.Orders.{order_size, size_of_order, order_grown}
 use Rattle.fib_entries.proofs.Placing.{gap_absent, inserted_from, size_came}
 use Rattle.fib_entries.proofs.PartCounts.{part_counts, host_counted, host_uncounted}
-use Rattle.fib_entries.proofs.Replacing.{counted_by, goal_long}
+use Rattle.fib_entries.proofs.Replacing.{goal_long}
+use Rattle.fib_entries.proofs.Settling.{counted_by}
 use Rattle.fib_entries.proofs.Sharing.{led_but, hop_from}
 use Rattle.fib_entries.proofs.Standing.{first_chosen}
 use Rattle.fib_entries.proofs.Using.{once, recounted, counted_taken, taken_stays, content_taken}
 
 -- the same row comes among rows that are alike
-zip_insert : (P : Row → Row → Type 0) (xs ys : List Row) (k : ℕ) (z : Row) → AllZip P xs ys → P z z → AllZip P (insert xs k z) (insert ys k z)
+pub zip_insert : (P : Row → Row → Type 0) (xs ys : List Row) (k : ℕ) (z : Row) → AllZip P xs ys → P z z → AllZip P (insert xs k z) (insert ys k z)
 zip_insert P [] [] zero z a h = (h, tt)
 zip_insert P [] [] (suc k) z a h = (h, tt)
 zip_insert P [] (y ∷ ys) k z a h = absurd a
@@ -366,7 +367,7 @@ module _ (v w : Known) (S T : Tables) (p : Prefix) (source : FibSource) (place t
       ((sources.RecursiveResolution, g.list) ∷ []) ((source, c.placed.new_id) ∷ []) both k.ordered not_host
 
   beside_entry : (e : Prefix) → in_part p (g.addr ∷ []) e ≡ false → Contains (entries S) e ↔ Contains (entries T) e
-  beside_entry = entry_beside S T (in_part p (g.addr ∷ [])) (part_edit S T p source (g.addr ∷ []) h)
+  beside_entry = entry_beside S T (in_part p (g.addr ∷ [])) (part_edit S T p source (g.addr ∷ []) h).beside
 
   own_there : Contains (entries T) p
   own_there = (entry_own S T p source (g.addr ∷ []) h).1 m.belongs.some
@@ -438,21 +439,23 @@ module _ (v w : Known) (S T : Tables) (p : Prefix) (source : FibSource) (place t
 
   made_part : IsPartMade v w T (in_part p (g.addr ∷ []))
   made_part = record {
-    ordered = ordered;
-    same = λ e off. (
-      λ i. (came e).1 (inl (inl i)),
-      λ i. elim ((came e).0 i) [
-        | inl one ↦ elim one [ inl was ↦ was | inr same ↦ absurd ((out e off).1 same) ]
-        | inr same ↦ absurd ((out e off).0 same)
-      ],
-    );
-    rows = relinked;
-    there = λ e is. entries_are e;
-    own = λ s i is. elim (inside s.prefix is) [ inl same ↦ own_row s i same | inr same ↦ host_row s i same ];
+    kept = record {
+      ordered = ordered;
+      same = λ e off. (
+        λ i. (came e).1 (inl (inl i)),
+        λ i. elim ((came e).0 i) [
+          | inl one ↦ elim one [ inl was ↦ was | inr same ↦ absurd ((out e off).1 same) ]
+          | inr same ↦ absurd ((out e off).0 same)
+        ],
+      );
+      rows = relinked;
+      there = λ e is. entries_are e;
+      own = λ s i is. elim (inside s.prefix is) [ inl same ↦ own_row s i same | inr same ↦ host_row s i same ];
+      counted = counted;
+      stays = stays;
+      objects = sizes.0;
+    };
     rank = falls;
-    counted = counted;
-    stays = stays;
-    objects = sizes.0;
   }
 
   edit_part : IsPartEdit S T (in_part p (g.addr ∷ []))
@@ -476,7 +479,7 @@ module _ (v w : Known) (S T : Tables) (p : Prefix) (source : FibSource) (place t
         | inl same ↦ subst (λ z. is_touched S T z ≡ true) same (own_touched S T p source (g.addr ∷ []) h (λ is. m.belongs.some (sym is ∙ none_was v S T p source place k m.belongs after)))
         | inr later ↦ subst (λ z. is_touched S T z ≡ true) (only_one (host g.addr) e later) (late_touched S T p source (g.addr ∷ []) h g.addr late_in no_host_was host_there)
       ],
-      λ is. elim (inside e (touched_inside v w S T (in_part p (g.addr ∷ [])) edit_part k made_part e is)) [
+      λ is. elim (inside e (touched_inside v w S T (in_part p (g.addr ∷ [])) edit_part.beside k made_part.kept e is)) [
         | inl same ↦ in_front p e (host g.addr ∷ []) same
         | inr same ↦ in_rest p e (host g.addr ∷ []) (in_front (host g.addr) e [] same)
       ],
@@ -492,7 +495,7 @@ module _ (v w : Known) (S T : Tables) (p : Prefix) (source : FibSource) (place t
       | inr later ↦ subst (λ z. (z.rank ≡ rank_of v.rows z.prefix) × (rank_of w.rows z.prefix ≢ z.rank)) (only_one (record { prefix = host g.addr; rank = 0 }) x later)
           (sym (rank_was (host g.addr) (part_host p (g.addr ∷ []) g.addr late_in)), λ e. (let r = rank_host in let n = m.late.rank in omega (arith, e, r, n)))
     ];
-    found = λ e off. elim (inside e (moved_inside v w S T (in_part p (g.addr ∷ [])) edit_part k made_part e off)) [
+    found = λ e off. elim (inside e (moved_inside v w S T (in_part p (g.addr ∷ [])) edit_part.beside k made_part.kept e off)) [
       | inl same ↦ in_front p e (host g.addr ∷ []) same
       | inr same ↦ in_rest p e (host g.addr ∷ []) (in_front (host g.addr) e [] same)
     ];

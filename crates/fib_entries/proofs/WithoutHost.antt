@@ -50,7 +50,7 @@ use Rattle.fib_entries.proofs.PartRows.{no_row, entry_beside, stands_part, touch
 use Rattle.fib_entries.proofs.Placing.{size_left}
 use Rattle.fib_entries.proofs.Departing.{unused_but}
 use Rattle.fib_entries.proofs.Ready.{clear_alone}
-use Rattle.fib_entries.proofs.Replacing.{counted_by}
+use Rattle.fib_entries.proofs.Settling.{counted_by}
 use Rattle.fib_entries.proofs.Sharing.{led_but, hop_from, path_there}
 use Rattle.fib_entries.proofs.Using.{once, unit_same, counted_given, given_stays}
 use Rattle.fib_entries.proofs.WithHost.{list_hop, no_list, no_source}
@@ -255,7 +255,7 @@ module _ (v w : Known) (S T : Tables) (p : Prefix) (source : FibSource) (place i
 
   -- the size
   beside_entry : (e : Prefix) → in_part p (g.addr ∷ []) e ≡ false → Contains (entries S) e ↔ Contains (entries T) e
-  beside_entry = entry_beside S T (in_part p (g.addr ∷ [])) (part_edit S T p source (g.addr ∷ []) h)
+  beside_entry = entry_beside S T (in_part p (g.addr ∷ [])) (part_edit S T p source (g.addr ∷ []) h).beside
 
   entries_are : (e : Prefix) → Contains (map prefix_of w.rows) e ↔ Contains (entries T) e
   entries_are e = elim (either (in_part p (g.addr ∷ []) e)) [
@@ -330,21 +330,23 @@ module _ (v w : Known) (S T : Tables) (p : Prefix) (source : FibSource) (place i
 
   made_part : IsPartMade v w T (in_part p (g.addr ∷ []))
   made_part = record {
-    ordered = ordered;
-    same = λ e off. (
-      λ i. (left_host e).1 ((left e).1 (i, (out e off).0), (out e off).1),
-      λ i. ((left e).0 ((left_host e).0 i).0).0,
-    );
-    rows = λ s i off. relinked s i;
-    there = λ e is. entries_are e;
-    own = λ s i is. absurd (none_inside s.prefix is (map_in prefix_of w.rows s i));
+    kept = record {
+      ordered = ordered;
+      same = λ e off. (
+        λ i. (left_host e).1 ((left e).1 (i, (out e off).0), (out e off).1),
+        λ i. ((left e).0 ((left_host e).0 i).0).0,
+      );
+      rows = λ s i off. relinked s i;
+      there = λ e is. entries_are e;
+      own = λ s i is. absurd (none_inside s.prefix is (map_in prefix_of w.rows s i));
+      counted = counted;
+      stays = stays;
+      objects = sizes.0;
+    };
     rank = λ e t is i. elim (inside e is) [
       | inl same ↦ absurd (Contains-nil t (subst (λ l. Contains l t) no_goals (subst (λ z. Contains (targets T z) t) (sym same) i)))
       | inr same ↦ absurd (no_source T (host g.addr) t no_host_now (subst (λ z. Contains (targets T z) t) (sym same) i))
     ];
-    counted = counted;
-    stays = stays;
-    objects = sizes.0;
   }
 
   edit_part : IsPartEdit S T (in_part p (g.addr ∷ []))
@@ -380,7 +382,7 @@ module _ (v w : Known) (S T : Tables) (p : Prefix) (source : FibSource) (place i
         | inl same ↦ subst (λ z. is_touched S T z ≡ true) same (own_touched S T p source (g.addr ∷ []) h (λ is. some_was v S T p source place id old g k m differ after (is ∙ m.gone)))
         | inr later ↦ subst (λ z. is_touched S T z ≡ true) (only_one (host g.addr) e later) (late_touched_before S T p source (g.addr ∷ []) h g.addr late_in host_was no_host_now)
       ],
-      λ is. elim (inside e (touched_inside v w S T (in_part p (g.addr ∷ [])) edit_part k made_part e is)) [
+      λ is. elim (inside e (touched_inside v w S T (in_part p (g.addr ∷ [])) edit_part.beside k made_part.kept e is)) [
         | inl same ↦ in_front p e (host g.addr ∷ []) same
         | inr same ↦ in_rest p e (host g.addr ∷ []) (in_front (host g.addr) e [] same)
       ],
@@ -396,7 +398,7 @@ module _ (v w : Known) (S T : Tables) (p : Prefix) (source : FibSource) (place i
       | inr later ↦ subst (λ z. (z.rank ≡ rank_of v.rows z.prefix) × (rank_of w.rows z.prefix ≢ z.rank)) (only_one (record { prefix = host g.addr; rank = rank_of v.rows (host g.addr) }) x later)
           (refl, λ e. (let r = rank_none (host g.addr) (part_host p (g.addr ∷ []) g.addr late_in) in let lt = host_rank in omega (arith, e, r, lt)))
     ];
-    found = λ e off. elim (inside e (moved_inside v w S T (in_part p (g.addr ∷ [])) edit_part k made_part e off)) [
+    found = λ e off. elim (inside e (moved_inside v w S T (in_part p (g.addr ∷ [])) edit_part.beside k made_part.kept e off)) [
       | inl same ↦ in_front p e (host g.addr ∷ []) same
       | inr same ↦ in_rest p e (host g.addr ∷ []) (in_front (host g.addr) e [] same)
     ];

@@ -12,3 +12,8 @@ pub mod Coming
 pub mod Part
 pub mod Hosting
 pub mod Parting
+pub mod Raising
+pub mod Led
+pub mod Looping
+pub mod Reaching
+pub mod Course

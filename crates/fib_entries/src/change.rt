@@ -1,5 +1,5 @@
 // A leaf's list replaced, with what is told of it.
-ghost use Rattle.std.specs.Prelude.{◌≡◌, ◌-◌, ◌^◌, IsSome, OnErr, IfOk, Some, map, length, slice_get};
+ghost use Rattle.std.specs.Prelude.{◌≡◌, ◌-◌, ◌<◌, ◌^◌, IsSome, OnErr, IfOk, Some, map, length, slice_get};
 ghost use Rattle.fib_cover.specs.Covers.{IsAscending};
 ghost use Rattle.fib_interned.specs.Interned.{kept_of};
 ghost use Rattle.fib_paths.specs.PathLists.{IsUsedLess};
@@ -28,7 +28,7 @@ pub struct Target<'a> {
     pub rank: u32,
 }
 
-fn copied(alloc: Global, paths: &[Path]) -> Result<Vec<Path>, AllocError>
+pub fn copied(alloc: Global, paths: &[Path]) -> Result<Vec<Path>, AllocError>
     ensures { IfOk result (λ v. v.items ≡ paths.now) }
 {
     Vec::from_slice(alloc, paths)
@@ -36,7 +36,7 @@ fn copied(alloc: Global, paths: &[Path]) -> Result<Vec<Path>, AllocError>
 
 /// The rank of the row at that place.
 fn rank_at(rows: &Blocks<Row>, place: usize) -> u32
-    requires { (r : RowValue) × (slice_get rows.now place ≡ Some r) × (length r.pairs ≡ 1) }
+    requires { (r : RowValue) × (slice_get rows.now place ≡ Some r) × (0 < length r.pairs) }
     ensures { (r : RowValue) → slice_get rows.now place ≡ Some r → result ≡ r.rank }
 {
     rows[place].rank()
@@ -52,7 +52,7 @@ pub fn change(
     to: Target<'_>,
 ) -> Result<Followed, AllocError>
     requires ascending { IsAscending (map prefix_of rows.old) }
-    requires row { (r : RowValue) × (slice_get rows.old at.0 ≡ Some r) × (length r.pairs ≡ 1) }
+    requires row { (r : RowValue) × (slice_get rows.old at.0 ≡ Some r) × (0 < length r.pairs) }
     requires kept { IsSome (kept_of lists.old at.1) }
     requires room { IsUsedLess lists.old to.new.now (2 ^ 32 - 1) }
     ensures done { IfOk result (λ f. IsChanged to.entry.tables.now rows.old rows.new lists.old lists.new at.0 to.entry.prefix at.1 to.entry.source to.entry.new.now to.entry.rank f) }

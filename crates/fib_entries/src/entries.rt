@@ -1,5 +1,5 @@
 // Entries that stand for tables.
-ghost use Rattle.std.specs.Prelude.{◌∷◌, ◌-◌, ◌^◌, IfNone, OnErr, ◌≡◌, ◌<◌, ◌↔◌, IfOk, IfSome, IsSome, IsTrue, Some, ℕ, [], length, map, option_copied, slice_get, min, Contains, List as Items};
+ghost use Rattle.std.specs.Prelude.{◌∷◌, ◌-◌, ◌^◌, IfNone, OnErr, OnOk, ◌≡◌, ◌<◌, ◌↔◌, IfOk, IfSome, IsSome, IsTrue, Some, ℕ, [], length, map, option_copied, slice_get, min, Contains, List as Items};
 ghost use Rattle.fib_reach.specs.Walks.{AllDiffer};
 ghost use Rattle.fib_addr.specs.Prefixes.{Prefix as PrefixValue, IsPrefix};
 ghost use Rattle.fib_resolve.specs.Aims.{marked_list};
@@ -14,7 +14,11 @@ ghost use Rattle.fib_resolve.specs.declared.types.Path.{Path as PathValue};
 ghost use Rattle.fib_resolve.specs.declared.types.FibSource.{FibSource as Source};
 ghost use Rattle.fib_interned.specs.Interned.{kept_of};
 ghost use Rattle.fib_entries.specs.inner.Compare.{AreKept};
+ghost use Rattle.fib_paths.specs.PathLists.{IsUsedLess};
+ghost use Rattle.fib_entries.specs.inner.Course.{IsCourse};
 ghost use Rattle.fib_entries.specs.inner.Ends.{IsNews};
+ghost use Rattle.fib_entries.specs.inner.Led.{IsReaching};
+ghost use Rattle.fib_entries.specs.inner.Reaching.{HasReached, late_list};
 ghost use Rattle.fib_entries.specs.inner.Hosting.{IsHosting};
 ghost use Rattle.fib_entries.specs.inner.Leaf.{IsClear, IsFollowed};
 ghost use Rattle.fib_entries.specs.inner.Parting.{IsParting};
@@ -26,6 +30,7 @@ use crate::build::take_all;
 use crate::change::{Target, change};
 use crate::changes::Followed;
 use crate::coming::{arriving, belongs, come};
+use crate::course::{course, host_of, made_by, put_late, take_late};
 use crate::ends::News;
 use crate::going::{leave, leaving, size_at};
 use crate::hosting::{Late, MOST_OF_TWO, come_hosted, greater, insert_both, late_for, remove_both};
@@ -34,6 +39,7 @@ use crate::leaf::{are_far, is_none, leaf_place, only_list, ready, top_rank};
 use crate::look::row;
 use crate::parting::{Last, last_for, leave_parting};
 use crate::plies::{beyond, lowered, own_size, raised};
+use crate::reaching::{Course, Spot, reaching, turn_reached};
 use crate::rows::Row;
 use crate::sizes::size_of;
 use crate::{ends, whole};
@@ -570,12 +576,116 @@ impl Entries {
         ensures none { IfOk result (λ o. IfNone o (self.new ≡ self.old)) }
         ensures err { OnErr result (self.new ≡ self.old) }
     {
-        if !self.is_clear(tables, prefix)? {
-            return Ok(None);
+        if self.is_clear(tables, prefix)? {
+            if let Some(followed) = self.follow_clear(tables, prefix, source, new, most)? {
+                return Ok(Some(followed));
+            }
         }
+        self.follow_reached(tables, prefix, source, new, most)
+    }
+
+    /// The same where nothing leads to the prefix.
+    fn follow_clear(
+        &mut self,
+        tables: &Tables,
+        prefix: Prefix,
+        source: FibSource,
+        new: &[Path],
+        most: u32,
+    ) -> Result<Option<Followed>, AllocError>
+        requires sound { IsSound tables.now }
+        requires list { new.now ≡ paths_at prefix source tables.now.routes }
+        requires clear { IsClear self.old.rows tables.now.neighbors prefix }
+        requires most { most < 2 ^ 32 - 1 }
+        ensures followed { IfOk result (λ o. IfSome o (λ f. (S : TablesValue) → StandsFor self.old S →
+            Differ (changes.Route prefix source ∷ []) S tables.now → IsFollowed self.old self.new S tables.now most f)) }
+        ensures none { IfOk result (λ o. IfNone o (self.new ≡ self.old)) }
+        ensures err { OnErr result (self.new ≡ self.old) }
+    {
         match self.follow_leaf(tables, prefix, source, new, most)? {
             Some(followed) => Ok(Some(followed)),
             None => self.follow_coming_or_going(tables, prefix, source, new, most),
+        }
+    }
+
+    /// Follows the change of the prefix's best list, whatever leads to it: in its own row, in those of which a path is looped then that
+    /// wasn't, and in the ranks that must rise; the host of a next hop may come with it. None where rows and neighbors don't tell what is
+    /// touched, or that isn't found soon. The list is the route's in the tables. After want of memory all is as before.
+    fn follow_reached(
+        &mut self,
+        tables: &Tables,
+        prefix: Prefix,
+        source: FibSource,
+        new: &[Path],
+        most: u32,
+    ) -> Result<Option<Followed>, AllocError>
+        requires sound { IsSound tables.now }
+        requires list { new.now ≡ paths_at prefix source tables.now.routes }
+        requires most { most < 2 ^ 32 - 1 }
+        ensures followed { IfOk result (λ o. IfSome o (λ f. (S : TablesValue) → StandsFor self.old S →
+            Differ (changes.Route prefix source ∷ []) S tables.now → IsFollowed self.old self.new S tables.now most f)) }
+        ensures none { IfOk result (λ o. IfNone o (self.new ≡ self.old)) }
+        ensures err { OnErr result (self.new ≡ self.old) }
+    {
+        let to = Target {
+            tables,
+            prefix,
+            source,
+            new,
+            rank: 0,
+        };
+        let Some(spot) = reaching(&self.rows, &self.lists, &self.order, &to) else {
+            return Ok(None);
+        };
+        if !is_other(&self.lists, spot.id, new) {
+            return Ok(None);
+        }
+        let made = made_by(&self.rows, &spot.late);
+        let Some(objects) = raised(self.objects, made, most) else {
+            return Ok(None);
+        };
+        let rank = self.rows[spot.place].rank();
+        let to = Target { rank, ..to };
+        let old = self.lists.content(spot.id);
+        let Some(course) = course(self.alloc, &self.rows, &to, old, spot.late)? else {
+            return Ok(None);
+        };
+        let followed = self.turn(&spot, &to, course)?;
+        self.objects = objects;
+        Ok(Some(followed))
+    }
+
+    /// The list at that spot is replaced by the new one, with all that comes of it. After want of memory all is as before.
+    fn turn(&mut self, spot: &Spot, to: &Target<'_>, course: Course) -> Result<Followed, AllocError>
+        requires reaching { (old : Items PathValue) × IsReaching self.old.rows self.old.lists (map prefix_of self.old.rows) to.now.tables.now to.now.prefix to.now.source spot.now.place spot.now.id old (late_list spot.now.late) }
+        requires list { to.now.new.now ≡ paths_at to.now.prefix to.now.source to.now.tables.now.routes }
+        requires course { (old : Items PathValue) × IsCourse self.old.rows to.now.tables.now to.now.prefix to.now.source old to.now.new.now to.now.rank spot.now.late course }
+        requires room { IsUsedLess self.old.lists to.now.new.now (2 ^ 32 - 1) }
+        ensures done { IfOk result (λ f. (old : Items PathValue) (k : IsCourse self.old.rows to.now.tables.now to.now.prefix to.now.source old to.now.new.now to.now.rank spot.now.late course) →
+            HasReached self.old.rows self.new.rows self.old.lists self.new.lists to.now.prefix spot.now.id to.now.new.now course.own course.late k.few k.edges course.again course.raised f) }
+        ensures objects { OnOk result (self.new.objects ≡ self.old.objects) }
+        ensures err { OnErr result (self.new ≡ self.old) }
+    {
+        let prefix = to.prefix;
+        let new = to.new;
+        self.index.note(prefix, new, host_of(&spot.late))?;
+        put_late(&mut self.order, &spot.late)?;
+        match turn_reached(
+            self.alloc,
+            &mut self.rows,
+            &mut self.lists,
+            spot.id,
+            to,
+            course,
+        ) {
+            Ok(followed) => {
+                self.index.forget(prefix, new, None);
+                Ok(followed)
+            }
+            Err(e) => {
+                take_late(&mut self.order, &spot.late);
+                Err(e)
+            }
         }
     }
 

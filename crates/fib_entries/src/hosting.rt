@@ -133,7 +133,7 @@ fn cover_place(rows: &Blocks<Row>, order: &PrefixSet, a: Addr) -> Option<usize>
 }
 
 /// Whether the list isn't one path over an interface.
-fn is_loose_list(paths: &[Path]) -> bool
+pub fn is_loose_list(paths: &[Path]) -> bool
     ensures { IsTrue result → attached_of paths.now ≡ None }
 {
     match paths {
@@ -247,7 +247,7 @@ fn host_own(alloc: Global, cover: Prefix, rank: u32) -> Result<Own, AllocError>
 }
 
 /// The host becomes a dependant of its cover, and its row comes, without its list. After want of memory all is as before.
-fn put_host(alloc: Global, rows: &mut Blocks<Row>, g: &Late) -> Result<(), AllocError>
+pub fn put_host(alloc: Global, rows: &mut Blocks<Row>, g: &Late) -> Result<(), AllocError>
     requires cover { (r : RowValue) × (slice_get rows.old g.now.cover ≡ Some r) × (is_member same_prefix r.dependants (host g.now.addr) ≡ false) }
     requires inside { g.now.place ≤ length rows.old }
     ensures ok { OnOk result (IsHosted rows.old rows.new g.now) }
@@ -267,7 +267,7 @@ fn put_host(alloc: Global, rows: &mut Blocks<Row>, g: &Late) -> Result<(), Alloc
 }
 
 /// The host's row goes again, and the host from the dependants of its cover. Takes no memory.
-fn take_host(rows: &mut Blocks<Row>, g: &Late)
+pub fn take_host(rows: &mut Blocks<Row>, g: &Late)
     requires inside { g.now.place < length rows.old }
     requires hosted { (before : Items RowValue) × (g.now.place ≤ length before) × IsHosted before rows.old g.now }
     ensures { (before : Items RowValue) → g.now.place ≤ length before → IsHosted before rows.old g.now → rows.new ≡ before }
@@ -277,7 +277,7 @@ fn take_host(rows: &mut Blocks<Row>, g: &Late)
 }
 
 /// The host's row gets its list. Takes no memory.
-fn list_host(
+pub fn list_host(
     rows: &mut Blocks<Row>,
     lists: &mut PathLists,
     g: &Late,

@@ -117,7 +117,7 @@ pub fn are_shared(rows: &Blocks<Row>, p: Prefix, paths: &[Path]) -> bool
 }
 
 /// The rank of the entry of the path's next hop; 0 where there is none.
-fn rank_to(rows: &Blocks<Row>, path: &Path) -> u32
+pub fn rank_to(rows: &Blocks<Row>, path: &Path) -> u32
     requires { IsAscending (map prefix_of rows.now) }
     ensures { (t : PrefixValue) → Contains (goal_of path.now.kind) t → rank_of rows.now t ≤ result }
 {
@@ -175,7 +175,7 @@ fn plain_counts(tables: &Tables, path: &Path) -> bool
     }
 }
 
-fn plain_mark(tables: &Tables, path: &Path) -> Marked
+pub fn plain_mark(tables: &Tables, path: &Path) -> Marked
     ensures { result ≡ plain_mark tables.now path.now }
 {
     Marked {

@@ -29,7 +29,7 @@ pub fn goal_of(path: &Path) -> Option<Prefix>
 }
 
 /// Whether the next hop of one of the paths is that entry.
-fn leads_to(paths: &[Path], p: Prefix) -> bool
+pub fn leads_to(paths: &[Path], p: Prefix) -> bool
     ensures { result ≡ list_any (λ q. is_member same_prefix (goal_of q.kind) p) paths.now }
 {
     paths.iter().any(|path| is_goal(path, p))

@@ -1,5 +1,5 @@
 // A row's list replaced by another.
-ghost use Rattle.std.specs.Prelude.{◌≡◌, ◌<◌, ◌-◌, ◌^◌, ◌∷◌, [], true, false, IsSome, OnOk, OnErr, IfOk, Some, map, length, slice_get, slice_set};
+ghost use Rattle.std.specs.Prelude.{◌≡◌, ◌<◌, ◌-◌, ◌^◌, true, false, IsSome, OnOk, OnErr, IfOk, Some, map, length, slice_get, slice_set};
 ghost use Rattle.fib_cover.specs.Covers.{IsAscending};
 ghost use Rattle.fib_interned.specs.Interned.{AreInterned, kept_of};
 ghost use Rattle.fib_paths.specs.PathLists.{IsUsedLess};
@@ -37,10 +37,10 @@ pub struct Swap<'a> {
     pub new: &'a [Path],
 }
 
-/// Puts the pair in the place of the only one. Takes no memory.
+/// Puts the pair in the place of the first. Takes no memory.
 fn set_pair(alloc: Global, pairs: &mut List<(FibSource, PathListId)>, pair: (FibSource, PathListId))
-    requires { length pairs.old ≡ 1 }
-    ensures { pairs.new ≡ pair ∷ [] }
+    requires { 0 < length pairs.old }
+    ensures { pairs.new ≡ slice_set pairs.old 0 pair }
 {
     let mut items = mem::replace(pairs, List::new(alloc)).into_vec();
     items[0] = pair;
@@ -49,7 +49,7 @@ fn set_pair(alloc: Global, pairs: &mut List<(FibSource, PathListId)>, pair: (Fib
 
 /// The row gets what it gets. Takes no memory.
 fn settle_row(alloc: Global, row: &mut Row, id: PathListId, own: Own)
-    requires { length row.old.pairs ≡ 1 }
+    requires { 0 < length row.old.pairs }
     ensures { row.new ≡ settled id own row.old }
 {
     set_pair(alloc, &mut row.body.pairs, (own.source, id));
@@ -61,7 +61,7 @@ fn settle_row(alloc: Global, row: &mut Row, id: PathListId, own: Own)
 
 /// The row at that place gets it.
 fn settle(alloc: Global, rows: &mut Blocks<Row>, place: usize, id: PathListId, own: Own)
-    requires { (r : RowValue) × (slice_get rows.old place ≡ Some r) × (length r.pairs ≡ 1) }
+    requires { (r : RowValue) × (slice_get rows.old place ≡ Some r) × (0 < length r.pairs) }
     ensures { (r : RowValue) → slice_get rows.old place ≡ Some r → rows.new ≡ slice_set rows.old place (settled id own r) }
 {
     settle_row(alloc, &mut rows[place], id, own);
@@ -77,7 +77,7 @@ pub fn replace(
     own: Own,
 ) -> Result<(), AllocError>
     requires ascending { IsAscending (map prefix_of rows.old) }
-    requires row { (r : RowValue) × (slice_get rows.old swap.place ≡ Some r) × (length r.pairs ≡ 1) }
+    requires row { (r : RowValue) × (slice_get rows.old swap.place ≡ Some r) × (0 < length r.pairs) }
     requires kept { IsSome (kept_of lists.old swap.id) }
     requires room { IsUsedLess lists.old swap.new.now (2 ^ 32 - 1) }
     ensures done { OnOk result (AreReplaced rows.old rows.new lists.old lists.new swap.entry.place swap.entry.prefix swap.entry.id swap.entry.old.now swap.entry.new.now own) }

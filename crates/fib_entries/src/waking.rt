@@ -20,7 +20,7 @@ fn is_aimed_at(target: Prefix, aim: Aim) -> bool
 }
 
 /// Whether a path that isn't looped is aimed at that entry.
-fn aims_at(target: Prefix, marks: &[Marked], looped: &[bool]) -> bool
+pub fn aims_at(target: Prefix, marks: &[Marked], looped: &[bool]) -> bool
     ensures { result ≡ aims_at target marks.now looped.now }
 {
     match marks {

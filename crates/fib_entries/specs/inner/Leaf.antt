@@ -28,7 +28,7 @@ use Rattle.fib_resolve.specs.declared.types.PathKind.TheVariants as kinds
 use Rattle.fib_reach.specs.Walks.{AllDiffer}
 use Rattle.fib_cover.specs.Covers.{IsAscending}
 use Rattle.fib_changes.specs.Differ.{Differ}
-use Rattle.fib_entries.specs.Known.{Known, StandsFor, PathKept, prefix_of, row_of, rank_of, content_of}
+use Rattle.fib_entries.specs.Known.{Known, StandsFor, PathKept, prefix_of, row_of, content_of}
 use Rattle.fib_interned.specs.Interned.{AreInterned, Takes, Gives}
 use Rattle.fib_resolve.specs.Edits.{paths_at}
 use Rattle.fib_entries.specs.inner.Dependants.{IsWithout}
@@ -213,30 +213,28 @@ pub record IsReady (rows : List Row) (lists : List PathKept) (T : Tables) (p : P
   pub shared_after : list_all (shared_path rows p) (paths_at p source T.routes) ≡ true
   pub some : paths_at p source T.routes ≢ []
 
-abbrev pub own_row : Tables → Prefix → FibSource → ℕ → List Path → ℕ → List Prefix → Row
-own_row T p source id paths rank dependants =
-    record { prefix = p; pairs = (source, id) ∷ []; looped = map (λ _. false) paths; met = map (λ _. true) paths; marked = map (plain_mark T) paths; dependants = dependants; rank = rank }
+abbrev pub own_row : Prefix → List (FibSource × ℕ) → Own → List Prefix → Row
+own_row p held own dependants = record { prefix = p; pairs = held; looped = own.looped; met = own.met; marked = own.marked; dependants = dependants; rank = own.rank }
 
 -- the new list was taken, the row got it, the row's prefix came to the dependants of its next hops and left those of the old one's, and
 -- the old list was given
-pub record IsReplaced (v w : Known) (T : Tables) (p : Prefix) (source : FibSource) (place id new_id : ℕ) (old new : List Path) (rank : ℕ) : Type 0 where
+pub record IsReplaced (v w : Known) (p : Prefix) (held : List (FibSource × ℕ)) (place id new_id : ℕ) (old new : List Path) (own : Own) : Type 0 where
   pub mid : List Row
   pub low : List Row
   pub lists : List PathKept
   pub attached : AreAttached p (goals_of new) v.rows mid
   pub detached : AreDetached p (goals_of old) (goals_of new) mid low
-  pub set : (r : Row) → slice_get low place ≡ Some r → w.rows ≡ slice_set low place (own_row T p source new_id new rank r.dependants)
+  pub set : (r : Row) → slice_get low place ≡ Some r → w.rows ≡ slice_set low place (own_row p held own r.dependants)
   pub taken : Takes v.lists lists new new_id
   pub apart : AreInterned lists
   pub given : Gives lists w.lists id
   pub apart_after : AreInterned w.lists
   pub objects : w.objects ≡ v.objects
-  pub above : (t : Prefix) → Contains (goals_of new) t → rank_of v.rows t < rank
 
--- the row with what it gets
+-- the row with what it gets, its first pair another
 abbrev pub settled : ℕ → Own → Row → Row
 settled id own r =
-    record { prefix = r.prefix; pairs = (own.source, id) ∷ []; looped = own.looped; met = own.met; marked = own.marked; dependants = r.dependants; rank = own.rank }
+    record { prefix = r.prefix; pairs = slice_set r.pairs 0 (own.source, id); looped = own.looped; met = own.met; marked = own.marked; dependants = r.dependants; rank = own.rank }
 
 -- the rows and the lists, after one row's list was replaced
 pub record AreReplaced (old new : List Row) (lists later : List PathKept) (place : ℕ) (p : Prefix) (id : ℕ) (before after : List Path) (own : Own) : Type 0 where

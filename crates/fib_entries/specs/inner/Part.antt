@@ -21,11 +21,15 @@ use Rattle.fib_entries.specs.inner.Fields.{AreCounted}
 abbrev pub in_part : Prefix → List ℕ → Prefix → Bool
 in_part p late e = same_prefix p e || ((e.len == 32) && list_any (λ b. b == e.bits) late)
 
--- outside the part nothing is touched, and nothing leads into it
-pub record IsPartEdit (S T : Tables) (part : Prefix → Bool) : Type 0 where
+-- outside the part nothing is touched
+pub record IsQuietEdit (S T : Tables) (part : Prefix → Bool) : Type 0 where
   pub after : IsSound T
   pub quiet : (e : Prefix) → part e ≡ false → is_touched S T e ≡ false
   pub entry : (e : Prefix) → part e ≡ false → SameEntry S T e
+
+-- and nothing leads into it
+pub record IsPartEdit (S T : Tables) (part : Prefix → Bool) : Type 0 where
+  pub beside : IsQuietEdit S T part
   pub closed : (d t : Prefix) → part d ≡ false → Contains (targets T d) t → part t ≡ false
 
 -- the same row, but that prefixes of the part may have come to its dependants or gone from them
@@ -39,15 +43,19 @@ pub record IsButForPart (part : Prefix → Bool) (r s : Row) : Type 0 where
   pub others : (d : Prefix) → part d ≡ false → Contains s.dependants d ↔ Contains r.dependants d
   pub once : AllDiffer r.dependants → AllDiffer s.dependants
 
--- what is made of what was known
-pub record IsPartMade (v w : Known) (T : Tables) (part : Prefix → Bool) : Type 0 where
+-- what is made of what was known, whatever the ranks of the part are
+pub record IsPartKept (v w : Known) (T : Tables) (part : Prefix → Bool) : Type 0 where
   pub ordered : IsAscending (map prefix_of w.rows)
   pub same : (e : Prefix) → part e ≡ false → Contains (map prefix_of v.rows) e ↔ Contains (map prefix_of w.rows) e
   pub rows : (s : Row) → Contains w.rows s → part s.prefix ≡ false
       → (r : Row) × Contains v.rows r × IsButForPart part r s × ((d : Prefix) → part d ≡ true → Contains s.dependants d ↔ Contains (targets T d) s.prefix)
   pub there : (e : Prefix) → part e ≡ true → Contains (map prefix_of w.rows) e ↔ Contains (entries T) e
   pub own : (s : Row) → Contains w.rows s → part s.prefix ≡ true → IsRow w.lists T s
-  pub rank : (e t : Prefix) → part e ≡ true → Contains (targets T e) t → rank_of w.rows t < rank_of w.rows e
   pub counted : AreCounted w.lists (holders T)
   pub stays : (id : ℕ) (paths : List Path) → 0 < holders T paths → content_of v.lists id ≡ Some paths → content_of w.lists id ≡ Some paths
   pub objects : w.objects ≡ min (size T) (2 ^ 32 - 1)
+
+-- and they fall along its edges
+pub record IsPartMade (v w : Known) (T : Tables) (part : Prefix → Bool) : Type 0 where
+  pub kept : IsPartKept v w T part
+  pub rank : (e t : Prefix) → part e ≡ true → Contains (targets T e) t → rank_of w.rows t < rank_of w.rows e

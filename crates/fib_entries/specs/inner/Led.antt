@@ -1,0 +1,94 @@
+-- The change of the best route's list of a prefix that others may lead to. No contract of a public call rests on this.
+use Rattle.std.specs.Prelude.{◌≡◌, ◌≢◌, ◌⊎◌, ◌≤◌, ◌<◌, ◌^◌, ◌==◌, not, ℕ, Bool, true, false, filter_map, nat_lt, List, [], ◌∷◌, Contains, Some, None, slice_get}
+use Rattle.std.specs.List.{list_any, list_all}
+use Rattle.fib_addr.specs.Prefixes.{Prefix, IsPrefix, contains, host, same_prefix}
+use Rattle.fib_resolve.specs.Edits.{paths_at}
+use Rattle.fib_resolve.specs.Forwarding.{is_attached_list}
+use Rattle.fib_resolve.specs.Keys.{same_source, source_rank}
+use Rattle.fib_resolve.specs.Loops.{targets}
+use Rattle.fib_resolve.specs.Pairs.{pairs, entries, attached_by, attached_of, recursive_of, recursive_hops}
+use Rattle.fib_resolve.specs.Tables.{IsSound, is_route}
+use Rattle.fib_resolve.specs.declared.pairs.Pair.{Pair}
+use Rattle.fib_resolve.specs.declared.types.FibSource.{FibSource}
+use Rattle.fib_resolve.specs.declared.types.Neighbor.{Neighbor}
+use Rattle.fib_resolve.specs.declared.types.Path.{Path}
+use Rattle.fib_resolve.specs.declared.types.PathKind.{PathKind}
+use Rattle.fib_resolve.specs.declared.types.PathKind.TheVariants as kinds
+use Rattle.fib_resolve.specs.declared.types.Route.{Route}
+use Rattle.fib_resolve.specs.declared.types.Tables.{Tables}
+use Rattle.fib_changes.specs.Differ.{Differ}
+use Rattle.fib_changes.specs.declared.change.Change.TheVariants as changes
+use Rattle.fib_entries.specs.Known.{PathKept, content_of}
+use Rattle.fib_entries.specs.inner.Hosting.{IsLate, shared_path_but}
+use Rattle.fib_entries.specs.inner.Leaf.{is_plain, shared_path}
+use Rattle.fib_entries.specs.declared.hosting.Late.{Late}
+use Rattle.fib_entries.specs.Rows.{Row}
+
+-- the list of the prefix's best source alone is another. It attaches no host, before and after, or the prefix is a host; no need of a path
+-- to it is met in one alone; and each of its next hops is one of another entry's list too, or a late one: its host is no entry before, it is
+-- no other route's, lies outside the prefix, and its cover doesn't attach it
+pub record IsLedEdit (S T : Tables) (p : Prefix) (source : FibSource) (late : List ℕ) : Type 0 where
+  pub before : IsSound S
+  pub after : IsSound T
+  pub differ : Differ (changes.Route p source ∷ []) S T
+  pub prefix : IsPrefix p
+  pub real : (q : Prefix) → Contains (entries S) q → IsPrefix q
+  pub far : (n : Neighbor) → Contains T.neighbors n → n.addr < 2 ^ 32
+  pub written : (source_rank source ≡ 2) ⊎ (source_rank source ≡ 3)
+  pub was : paths_at p source S.routes ≢ []
+  pub is : paths_at p source T.routes ≢ []
+  pub best : (x : Pair) → Contains (pairs S) x → p ≡ x.prefix → source_rank source ≤ source_rank x.source
+  pub loose : (p.len ≡ 32) ⊎ ((attached_of (paths_at p source S.routes) ≡ None) × (attached_of (paths_at p source T.routes) ≡ None))
+  pub needs : is_attached_list (paths_at p source S.routes) ≡ is_attached_list (paths_at p source T.routes)
+  pub hops : (r : Route) (a : ℕ) → is_route p source r ≡ true → Contains S.routes r ⊎ Contains T.routes r → Contains (recursive_hops r) a
+      → Contains late a ⊎ ((d : Prefix) × (d ≢ p) × Contains (targets S d) (host a))
+  pub late_out : (a : ℕ) → Contains late a → (a < 2 ^ 32) × (contains p a ≡ false)
+  pub late_new : (a : ℕ) → Contains late a → Contains (entries S) (host a) → ⊥
+  pub late_alone : (a : ℕ) → Contains late a → (r : Route) → is_route p source r ≡ false → Contains S.routes r → Contains (recursive_hops r) a → ⊥
+  pub late_loose : (a : ℕ) → Contains late a → attached_by S a ≡ None
+  pub late_hop : (a : ℕ) → Contains late a → (r : Route) × Contains T.routes r × (is_route p source r ≡ true) × Contains (recursive_hops r) a
+
+-- a path of that kind ends elsewhere than at the prefix's own host
+abbrev pub ends_beside : Prefix → PathKind → Bool
+ends_beside p kinds.Drop = true
+ends_beside p kinds.Local = true
+ends_beside p (kinds.Attached i) = not (p.len == 32)
+ends_beside p (kinds.Hop a i) = not (same_prefix p (host a))
+ends_beside p (kinds.Recursive a) = true
+ends_beside p kinds.Cover = true
+
+abbrev pub path_beside : Prefix → Path → Bool
+path_beside p q = ends_beside p q.kind
+
+-- the list suits: its paths are plain, their Hop ends and the entries of their next hops are others' too
+pub record IsSuited (rows : List Row) (p : Prefix) (paths : List Path) : Type 0 where
+  pub plain : list_all is_plain paths ≡ true
+  pub shared : list_all (shared_path rows p) paths ≡ true
+  pub beside : list_all (path_beside p) paths ≡ true
+
+-- the host of a late next hop comes, that of one of these paths, and the entry of each other next hop is another entry's too; without one,
+-- that is so of each
+abbrev pub shared_late : List Row → List PathKept → List Prefix → Prefix → List Late → List Path → Type 0
+shared_late rows lists order p [] paths = list_all (shared_path rows p) paths ≡ true
+shared_late rows lists order p (g ∷ gs) paths = (list_all (shared_path_but rows p g.addr) paths ≡ true) × IsLate rows lists order p g × Contains (filter_map recursive_of paths) g.addr
+
+-- the row at that place is the prefix's, has that source's list as its best, and the change of the list to the tables' makes another entry of
+-- the prefix alone and of the host of a late next hop
+pub record IsReaching (rows : List Row) (lists : List PathKept) (order : List Prefix) (T : Tables) (p : Prefix) (source : FibSource) (place id : ℕ) (old : List Path) (late : List Late) : Type 0 where
+  pub row : Row
+  pub at : slice_get rows place ≡ Some row
+  pub own : row.prefix ≡ p
+  pub rest : List (FibSource × ℕ)
+  pub pairs : row.pairs ≡ (source, id) ∷ rest
+  pub others : list_any (λ q. same_source q.0 source) rest ≡ false
+  pub content : content_of lists id ≡ Some old
+  pub prefix : IsPrefix p
+  pub written : (source_rank source ≡ 2) ⊎ (source_rank source ≡ 3)
+  pub far : list_all (λ n. nat_lt n.addr (2 ^ 32)) T.neighbors ≡ true
+  pub loose : (p.len ≡ 32) ⊎ ((attached_of old ≡ None) × (attached_of (paths_at p source T.routes) ≡ None))
+  pub needs : is_attached_list old ≡ is_attached_list (paths_at p source T.routes)
+  pub some : paths_at p source T.routes ≢ []
+  pub before : IsSuited rows p old
+  pub plain : list_all is_plain (paths_at p source T.routes) ≡ true
+  pub beside : list_all (path_beside p) (paths_at p source T.routes) ≡ true
+  pub hops : shared_late rows lists order p late (paths_at p source T.routes)
