@@ -1,10 +1,12 @@
 -- The host of a next hop as it goes with the one route that has it.
-use Rattle.std.proofs.Common.{◌≡◌, ℕ, ◌+◌, ◌<◌, true, false, List, [], ◌∷◌, map, length, Option, Some, None, inl, inr, refl, sym, ◌∙◌, ap, subst, slice_get}
+use Rattle.std.proofs.Common.{◌≡◌, ◌≢◌, ℕ, ◌+◌, ◌<◌, true, false, List, [], ◌∷◌, map, length, Option, Some, None, inl, inr, refl, sym, ◌∙◌, ap, subst, slice_get}
 use Rattle.std.specs.Prelude.{Contains, option_and_then, slice_set}
+use Rattle.std.specs.List.{list_any}
 use Rattle.std.proofs.lemmas.Bool.{false≢true}
 use Rattle.std.proofs.lemmas.Bool.Decides.{Decides-eqb}
 use Rattle.fib_list.proofs.Lists.{either, Contains-flat_map, Contains-nil}
-use Rattle.fib_addr.specs.Prefixes.{Prefix, host}
+use Rattle.fib_addr.specs.Prefixes.{Prefix, host, same_prefix}
+use Rattle.fib_addr.proofs.PrefixLaws.{same_prefix-Decides}
 use Rattle.fib_cover.specs.Covers.{IsAscending}
 use Rattle.fib_changes.proofs.Edits.{any_in, in_front}
 use Rattle.fib_changes.proofs.SamePairs.{base, from_origin, map_from}
@@ -27,7 +29,7 @@ use Rattle.fib_entries.specs.inner.Leaf.{AreDetached, IsUnlinked, with_dependant
 use Rattle.fib_entries.specs.inner.Parting.{IsNotIn, IsParted, hop_at, path_at}
 use Rattle.fib_entries.specs.inner.Plies.{entry_at, entry_before, own_size}
 use Rattle.fib_entries.specs.declared.parting.Last.{Last}
-use Rattle.fib_entries.proofs.Leafing.{entry_of_pair, from_route, is_it, only_one}
+use Rattle.fib_entries.proofs.Leafing.{entry_of_pair, from_route, is_it, is_not, only_one}
 use Rattle.fib_entries.proofs.Linking.{detached_one, detached_absent, no_row_at}
 use Rattle.fib_entries.proofs.Looking.{at_place}
 use Rattle.fib_entries.proofs.Sharing.{hop_from}
@@ -57,21 +59,27 @@ led_to : (S : Tables) (e : Prefix) (paths : List Path) (q : Path) (a : ℕ) → 
 unfolding targets
 led_to S e paths q a is c kind = Contains-flat_map (λ z. kind_targets S e z.kind) (chosen S e) q (host a) (subst (λ l. Contains l q) (sym is) c) (subst (λ z. Contains (kind_targets S e z) (host a)) (sym kind) (in_front (host a) (host a) [] refl))
 
--- no other route has the next hop, where the prefix alone leads to its host and no row with several lists has it in one of them
+-- no other route has the next hop, where the prefix alone leads to its host, no other row with several lists has it in one of them, and no list
+-- of another source of the prefix has it
 pub unused_but : (v : Known) (S : Tables) → StandsFor v S → (p : Prefix) (source : FibSource) (a : ℕ) (target : Row) → Contains v.rows target → target.prefix ≡ host a → target.dependants ≡ p ∷ []
-    → ((x : Pair) → Contains (pairs S) x → p ≡ x.prefix → x.source ≡ source) → ((r : Row) → Contains v.rows r → has_several r ≡ true → IsNotIn v.rows v.lists r.prefix a)
+    → ((x : Pair) → Contains (pairs S) x → p ≡ x.prefix → x.source ≢ source → list_any (path_at a) x.paths ≡ false) → ((r : Row) → Contains v.rows r → has_several r ≡ true → p ≢ r.prefix → IsNotIn v.rows v.lists r.prefix a)
     → (r : Route) → is_route p source r ≡ false → Contains S.routes r → Contains (recursive_hops r) a → ⊥
 unused_but v S k p source a target there at alone own hidden r off c hop =
     let in_pairs = from_origin S (route_pair r) (base (from_route S r c)) in
-    let m = map_from prefix_of v.rows r.prefix ((k.entries r.prefix).1 (entry_of_pair S (route_pair r) r.prefix in_pairs refl)) in
     let path = hop_from r.paths a hop in
-    elim (either (has_several m.0)) [
-      | inl several ↦ (let f = (k.rows m.0 m.1).pairs.found (route_pair r) in_pairs m.2 in
-          false≢true (sym (hidden m.0 m.1 several m.0 f.0 r.paths m.1 refl f.1 f.2.1) ∙ any_in (path_at a) r.paths path.0 path.1 (ap (hop_at a) path.2 ∙ (Decides-eqb a a).1 refl)))
-      | inr single ↦ (let list = chosen_one v S k m.0 m.1 single (route_pair r) in_pairs m.2 in
-          let leads : Contains (targets S r.prefix) (host a) = led_to S r.prefix r.paths path.0 a (ap (chosen S) (sym m.2) ∙ list) path.1 path.2 in
-          let is : p ≡ r.prefix = only_one p r.prefix (subst (λ l. Contains l r.prefix) alone (((k.rows target there).dependants r.prefix).1 (subst (Contains (targets S r.prefix)) (sym at) leads))) in
-          false≢true (sym off ∙ is_it p source r (sym is) (own (route_pair r) in_pairs is)))
+    let has = any_in (path_at a) r.paths path.0 path.1 (ap (hop_at a) path.2 ∙ (Decides-eqb a a).1 refl) in
+    elim (either (same_prefix p r.prefix)) [
+      | inl is ↦ (let same = (same_prefix-Decides p r.prefix).0 is in
+          false≢true (sym (own (route_pair r) in_pairs same (λ e. false≢true (sym off ∙ is_it p source r (sym same) e))) ∙ has))
+      | inr isnt ↦ (let other = is_not p r.prefix isnt in
+          let m = map_from prefix_of v.rows r.prefix ((k.entries r.prefix).1 (entry_of_pair S (route_pair r) r.prefix in_pairs refl)) in
+          elim (either (has_several m.0)) [
+            | inl several ↦ (let f = (k.rows m.0 m.1).pairs.found (route_pair r) in_pairs m.2 in
+                false≢true (sym (hidden m.0 m.1 several (λ e. other (e ∙ m.2)) m.0 f.0 r.paths m.1 refl f.1 f.2.1) ∙ has))
+            | inr single ↦ (let list = chosen_one v S k m.0 m.1 single (route_pair r) in_pairs m.2 in
+                let leads : Contains (targets S r.prefix) (host a) = led_to S r.prefix r.paths path.0 a (ap (chosen S) (sym m.2) ∙ list) path.1 path.2 in
+                other (only_one p r.prefix (subst (λ l. Contains l r.prefix) alone (((k.rows target there).dependants r.prefix).1 (subst (Contains (targets S r.prefix)) (sym at) leads)))))
+          ])
     ]
 
 -- the host left the dependants of its cover

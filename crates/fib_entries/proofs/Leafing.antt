@@ -227,7 +227,7 @@ pub written_route : (S : Tables) (x : Pair) → Contains (pairs S) x → (source
 unfolding IsOf
 written_route S x c w = (each_has (Routed S) (pairs S) x (all_routed S) c).written w
 
-hop_in : (ps : List Path) (q : Path) (a : ℕ) → Contains ps q → q.kind ≡ kinds.Recursive a → Contains (filter_map recursive_of ps) a
+pub hop_in : (ps : List Path) (q : Path) (a : ℕ) → Contains ps q → q.kind ≡ kinds.Recursive a → Contains (filter_map recursive_of ps) a
 hop_in [] q a c is = absurd (Contains-nil q c)
 hop_in (x ∷ xs) q a c is = by (hop_in xs q a) (recursive_kind x.kind) refl
   where
@@ -373,7 +373,7 @@ module _ (S T : Tables) (p : Prefix) (source : FibSource) (h : Differ (changes.R
   )
 
   -- a next hop to which another prefix leads is another route's, which stays
-  stays_hop : (a : ℕ) → (d : Prefix) × (d ≢ p) × Contains (targets S d) (host a) → (q : Route) × Contains S.routes q × Contains T.routes q × Contains (recursive_hops q) a
+  pub stays_hop : (a : ℕ) → (d : Prefix) × (d ≢ p) × Contains (targets S d) (host a) → (q : Route) × Contains S.routes q × Contains T.routes q × Contains (recursive_hops q) a
   stays_hop a d = let q = hop_route S d.0 a d.2 in (q.0, q.1, (routes_beside S T p source h q.0 (other_route p source q.0 (λ e. d.1 (sym q.2 ∙ e)))).0 q.1, q.3)
 
   -- where each next hop of these routes is such a one, it is a next hop before and after

@@ -1,7 +1,7 @@
 -- What a change of the best route's list of a prefix that others may lead to leaves: all entries but its own and those of late next hops'
--- hosts; and what the others mean, where no cycle comes or goes.
+-- hosts, which may come or go; and what the others mean, where no cycle comes or goes.
 use Rattle.std.proofs.Common.{arith, ◌≡◌, ◌≢◌, ℕ, ◌≤◌, zero, suc, ◌<◌, ◌^◌, Bool, true, false, not, ◌==◌, List, [], Option, Some, None, ◌⊎◌, inl, inr, refl, sym, ◌∙◌, ap, subst, ◌↔◌, map}
-use Rattle.std.specs.Prelude.{Contains, nat_lt}
+use Rattle.std.specs.Prelude.{◌/◌, Contains, nat_lt}
 use Rattle.std.specs.List.{AllByRecursion, list_any}
 use Rattle.std.specs.Set.{is_member}
 use Rattle.std.proofs.lemmas.Bool.{false≢true, ltb-true, lt-ltb}
@@ -11,12 +11,12 @@ use Rattle.fib_list.proofs.Lists.{either, Contains-nil, Contains-flat_map}
 use Rattle.fib_list.proofs.Booleans.{or_cases, or_left, or_right}
 use Rattle.fib_reach.specs.Walks.{Walk, Next, Reaches}
 use Rattle.fib_reach.proofs.Walking.{edge_then, reaches_leads}
-use Rattle.fib_addr.specs.Prefixes.{Prefix, same_prefix, contains, host}
+use Rattle.fib_addr.specs.Prefixes.{Prefix, same_prefix, contains, host, size_of}
 use Rattle.fib_addr.specs.Longest.{everything}
 use Rattle.fib_addr.proofs.LongestLaws.{longest_is_longest, longest_is_unique}
 use Rattle.fib_addr.proofs.PrefixLaws.{same_prefix-Decides}
 use Rattle.fib_resolve.specs.Keys.{source_rank}
-use Rattle.fib_resolve.specs.Pairs.{base_pairs, pairs, entries, chosen, cover, short_prefixes, is_short, prefix_of, best_pair, paths_of, attached_by, attached_of, is_derived, is_derived_pair, derived_pair, neighbor_pairs, is_interface, route_pair, recursive_hops}
+use Rattle.fib_resolve.specs.Pairs.{base_pairs, pairs, entries, chosen, cover, short_prefixes, is_short, prefix_of, best_pair, paths_of, attached_by, attached_of, is_derived, is_derived_pair, derived_pair, neighbor_pairs, is_interface, recursive_hops, route_pair}
 use Rattle.fib_resolve.specs.Edits.{paths_at}
 use Rattle.fib_resolve.specs.Loops.{targets, looped}
 use Rattle.fib_resolve.specs.Forwarding.{is_met, is_attached_list}
@@ -43,10 +43,10 @@ use Rattle.fib_changes.proofs.CauseLaws.{any_from, both_halves, differ_self, mar
 use Rattle.fib_changes.proofs.Covers.{short_from, whole_there, attached_agrees}
 use Rattle.fib_changes.proofs.Cycles.{path_edge, through_cycle, last_edge}
 use Rattle.fib_changes.proofs.Edits.{any_in}
-use Rattle.fib_changes.proofs.SamePairs.{map_in, Origin, origin, from_origin, base, neighbor, derived, near_from, near_host, derived_host, same_pairs_from, same_targets, same_chosen, same_met}
+use Rattle.fib_changes.proofs.SamePairs.{flat_map_from, map_in, Origin, origin, from_origin, base, neighbor, derived, near_from, near_host, derived_host, same_pairs_from, same_targets, same_chosen, same_met}
 use Rattle.fib_entries.specs.inner.Led.{IsLedEdit}
 use Rattle.fib_entries.specs.inner.Part.{in_part}
-use Rattle.fib_entries.proofs.Leafing.{from_route, each_has, entry_of_pair, not_it, is_not, host_is, hop_route, its_prefix, routes_beside, part_cases, part_host, part_not, base_beside, came_beside, near_beside, hops_beside, means_beside, good_beside}
+use Rattle.fib_entries.proofs.Leafing.{from_route, each_has, entry_of_pair, not_it, is_not, host_is, hop_route, its_prefix, routes_beside, stays_hop, part_cases, part_host, part_not, base_beside, came_beside, near_beside, means_beside, good_beside}
 use Rattle.fib_entries.proofs.Listing.{listed_route, source_of_route}
 
 near_ranks : (U : Tables) (n : Neighbor) → AllByRecursion (λ y. 4 ≡ source_rank y.source) (neighbor_pairs U n)
@@ -201,8 +201,26 @@ module _ (S T : Tables) (p : Prefix) (source : FibSource) (late : List ℕ) (h :
       loosely U sound is list none = attached_by_chosen U a sound ∙ ap (λ z. attached_of (chosen U z)) (sym is) ∙ ap attached_of list ∙ none
 
   -- next hops that aren't late stay, and so do neighbors
+  stays : (a : ℕ) → (Contains late a → ⊥) → (r : Route) → is_route p source r ≡ true → Contains S.routes r ⊎ Contains T.routes r → Contains (recursive_hops r) a → Contains (all_hops S) a × Contains (all_hops T) a
+  stays a early r it c m = elim (h.hops r a it c m) [
+    | inl is ↦ absurd (early is)
+    | inr other ↦ elim other [
+      | inl d ↦ (let q = stays_hop S T p source h.differ a d in (Contains-flat_map recursive_hops S.routes q.0 a q.1 q.3, Contains-flat_map recursive_hops T.routes q.0 a q.2 q.3))
+      | inr both ↦ both
+    ]
+  ]
+
   pub led_hops : (a : ℕ) → (Contains late a → ⊥) → Contains (all_hops S) a ↔ Contains (all_hops T) a
-  led_hops a early = hops_beside S T p source h.differ a (λ r it c m. elim (h.hops r a it c m) [ inl is ↦ absurd (early is) | inr d ↦ d ])
+  led_hops a early = (
+    λ c. (let r = flat_map_from recursive_hops S.routes a c in elim (either (is_route p source r.0)) [
+      | inl it ↦ (stays a early r.0 it (inl r.1) r.2).1
+      | inr off ↦ Contains-flat_map recursive_hops T.routes r.0 a ((routes_beside S T p source h.differ r.0 off).0 r.1) r.2
+    ]),
+    λ c. (let r = flat_map_from recursive_hops T.routes a c in elim (either (is_route p source r.0)) [
+      | inl it ↦ (stays a early r.0 it (inr r.1) r.2).0
+      | inr off ↦ Contains-flat_map recursive_hops S.routes r.0 a ((routes_beside S T p source h.differ r.0 off).1 r.1) r.2
+    ]),
+  )
 
   pub led_near : (i a : ℕ) → HasNeighbor S i a ↔ HasNeighbor T i a
   led_near i a = near_beside S T p source h.differ a i refl
@@ -288,14 +306,11 @@ module _ (S T : Tables) (p : Prefix) (source : FibSource) (late : List ℕ) (h :
       by needs.Attached is =
           ap (λ z. is_attached_list (chosen S z)) (sym is) ∙ ap is_attached_list led_list_before ∙ h.needs ∙ sym (ap is_attached_list led_list_after) ∙ ap (λ z. is_attached_list (chosen T z)) is
 
-  entry_before : Contains (entries S) p
-  entry_before = let x = own_base S p source own_before in entry_of_pair S x.0 p (from_origin S x.0 (base x.1)) x.2
-
-  -- the prefix is an entry before, and so no late next hop's host
+  -- the prefix is no late next hop's host
   pub led_late_other : (a : ℕ) → Contains late a → p ≢ host a
-  led_late_other a c is = h.late_new a c (subst (Contains (entries S)) is entry_before)
+  led_late_other a c is = let out = h.late_out a c in false≢true (sym out.1 ∙ (ap (λ z. contains z a) is ∙ (Decides-eqb (a / size_of 32) (a / size_of 32)).1 refl))
 
-  -- the prefix alone leads to the host of a late next hop, and nothing does before
+  -- the prefix alone leads to the host of a late next hop, before and after
   pub led_late_led : (d : Prefix) (a : ℕ) → Contains late a → Contains (targets T d) (host a) → d ≡ p
   led_late_led d a c t =
       let r = hop_route T d a t in
@@ -304,11 +319,13 @@ module _ (S T : Tables) (p : Prefix) (source : FibSource) (late : List ℕ) (h :
         | inr off ↦ absurd (h.late_alone a c r.0 off ((routes_beside S T p source h.differ r.0 off).1 r.1) r.3)
       ]
 
-  pub led_late_before : (d : Prefix) (a : ℕ) → Contains late a → Contains (targets S d) (host a) → ⊥
+  pub led_late_before : (d : Prefix) (a : ℕ) → Contains late a → Contains (targets S d) (host a) → d ≡ p
   led_late_before d a c t =
       let r = hop_route S d a t in
-      let there = from_origin S (derived_pair S a) (derived a (Contains-flat_map recursive_hops S.routes r.0 a r.1 r.3) refl) in
-      h.late_new a c (entry_of_pair S (derived_pair S a) (host a) there (derived_host S a))
+      elim (either (is_route p source r.0)) [
+        | inl it ↦ sym r.2 ∙ its_prefix p source r.0 it
+        | inr off ↦ absurd (h.late_alone a c r.0 off r.1 r.3)
+      ]
 
   -- a late next hop keeps its cover, which is another prefix and doesn't attach it
   pub led_late_loose : (a : ℕ) → Contains late a → attached_by T a ≡ None
@@ -331,7 +348,7 @@ module _ (S T : Tables) (p : Prefix) (source : FibSource) (late : List ℕ) (h :
 
       needed : (q : Path) (a : ℕ) → Contains (chosen S e) q → q.kind ≡ kinds.Recursive a → differ (is_met S q.need a) (is_met T q.need a) ≡ true → ⊥
       needed q a c is other =
-          differ_self (is_met T q.need a) (subst (λ b. differ b (is_met T q.need a) ≡ true) (led_met q.need a (λ m. led_late_before e a m (path_edge S e q a c is))) other)
+          differ_self (is_met T q.need a) (subst (λ b. differ b (is_met T q.need a) ≡ true) (led_met q.need a (λ m. part_not p late e off (sym (led_late_before e a m (path_edge S e q a c is))))) other)
 
       same_kind : (q : Path) (k : PathKind) → Contains (chosen S e) q → q.kind ≡ k → kind_changes S T e q.need k ≡ true → ⊥
       same_kind q kinds.Drop c is other = false≢true other
@@ -370,7 +387,8 @@ module _ (S T : Tables) (p : Prefix) (source : FibSource) (late : List ℕ) (h :
       elim (part_cases p late t.at t.is_changed) [
         | inl at ↦ subst (λ z. Reaches (Next (targets S)) z e) (sym at) cycle.2
         | inr (b, m, at) ↦ (let z = last_edge (Next (targets S)) cycle.0.0 t.at t.at cycle.0.1 in
-            absurd (led_late_before z.0 b m (subst (Contains (targets S z.0)) (sym at) z.1)))
+            let here : z.0 ≡ p = led_late_before z.0 b m (subst (Contains (targets S z.0)) (sym at) z.1) in
+            edge_then (Next (targets S)) p t.at e (subst (λ y. Next (targets S) y t.at) here z.1) (reaches_leads (Next (targets S)) t.at e cycle.2))
       ]
 
   through_after : (e : Prefix) (a : ℕ) → Next (targets T) e (host a) → IsThrough T (in_part p late) e a → Reaches (Next (targets T)) p e

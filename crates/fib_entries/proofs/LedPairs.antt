@@ -1,18 +1,22 @@
--- The change of the best route's list of a prefix: the pair of that route, the other pairs of the prefix, the hosts of late next hops, the entries,
--- the users of lists, and the size.
-use Rattle.std.proofs.Common.{arith, ◌≡◌, ◌≢◌, ℕ, ◌+◌, ◌<◌, ◌^◌, Bool, true, false, ◌&&◌, ◌||◌, if◌then◌else◌, List, [], ◌∷◌, length, ◌⊎◌, inl, inr, refl, sym, ◌∙◌, ap, subst, ◌↔◌, filter, count_by}
+-- The change of the best route's list of a prefix: the pair of that route, the other pairs of the prefix, the hosts of late next hops, which come
+-- or go, the entries, the users of lists, and the Hop ends.
+use Rattle.std.proofs.Common.{arith, ◌≡◌, ◌≢◌, ℕ, ◌+◌, ◌<◌, ◌^◌, Bool, true, false, ◌&&◌, ◌||◌, if◌then◌else◌, List, [], ◌∷◌, length, Option, Some, None, ◌⊎◌, inl, inr, refl, sym, ◌∙◌, ap, subst, ◌↔◌, filter, count_by}
 use Rattle.std.specs.Prelude.{Contains}
 use Rattle.std.specs.List.{IsDistinct}
+use Rattle.std.specs.Set.{is_member}
 use Rattle.std.specs.Cmp.Lexicographic.{pointwise}
 use Rattle.std.proofs.lemmas.Bool.{false≢true}
 use Rattle.std.proofs.lemmas.Bool.Decides.{Decides-eqb}
-use Rattle.fib_list.proofs.Lists.{either, Contains-nil, Contains-flat_map}
-use Rattle.fib_list.proofs.Booleans.{and_both, unit_of, count_by-cons}
+use Rattle.std.proofs.lemmas.List.Elements.{Contains-append_cases, Contains-append_left, Contains-append_right}
+use Rattle.std.proofs.lemmas.Map.Views.{Contains-from_any}
+use Rattle.fib_list.proofs.Lists.{either, Contains-nil}
+use Rattle.fib_list.proofs.Booleans.{and_both, or_cases, unit_of, count_by-cons}
 use Rattle.fib_addr.specs.Prefixes.{Prefix, same_prefix, host}
 use Rattle.fib_addr.proofs.PrefixLaws.{same_prefix-Decides}
 use Rattle.fib_resolve.specs.Edits.{paths_at}
 use Rattle.fib_resolve.specs.Keys.{source_rank, same_source, same_path}
-use Rattle.fib_resolve.specs.Pairs.{base_pairs, pairs, entries, attached_by, is_interface, neighbor_pairs, derived_pair, derived_kind, one, route_pair, same_pair, plain, recursive_hops}
+use Rattle.fib_resolve.specs.Loops.{targets}
+use Rattle.fib_resolve.specs.Pairs.{base_pairs, pairs, entries, cover, attached_by, is_interface, neighbor_pairs, derived_pair, derived_kind, one, route_pair, same_pair, plain}
 use Rattle.fib_resolve.specs.Tables.{IsSound, is_route}
 use Rattle.fib_resolve.specs.Touched.{is_touched}
 use Rattle.fib_resolve.specs.Sizes.{size, adjacencies, adjacencies_of}
@@ -28,6 +32,7 @@ use Rattle.fib_resolve.specs.declared.types.Route.{Route}
 use Rattle.fib_resolve.specs.declared.types.Tables.{Tables}
 use Rattle.fib_resolve.proofs.Apart.{apart-filter}
 use Rattle.fib_resolve.proofs.Covering.{filter_in, filter_from, pairs_apart}
+use Rattle.fib_resolve.proofs.Entries.{chosen-no_entry, targets_from_entries}
 use Rattle.fib_resolve.proofs.OneList.{one_list, source_by_rank}
 use Rattle.fib_resolve.proofs.PairLaws.{cover_short}
 use Rattle.fib_resolve.proofs.Touching.{untouched_pairs}
@@ -36,17 +41,19 @@ use Rattle.fib_changes.specs.declared.change.Change.TheVariants as changes
 use Rattle.fib_changes.proofs.Edits.{in_front}
 use Rattle.fib_changes.proofs.SamePairs.{Origin, origin, from_origin, base, neighbor, derived, near_from, near_host, derived_host, same_chosen}
 use Rattle.fib_entries.specs.Known.{holders}
-use Rattle.fib_entries.specs.inner.Led.{IsLedEdit}
+use Rattle.fib_entries.specs.inner.Led.{IsLedEdit, IsTurn}
 use Rattle.fib_entries.specs.inner.Part.{in_part}
+use Rattle.fib_entries.specs.inner.Reaching.{gone_addrs, late_addrs, turned_addrs}
+use Rattle.fib_entries.specs.declared.hosting.Late.{Late}
+use Rattle.fib_entries.specs.declared.parting.Last.{Last}
 use Rattle.fib_entries.proofs.Counting.{count_parts, counts_same, holders_step}
-use Rattle.fib_entries.proofs.Hosts.{IsUnattached, loose_chosen, loose_entry, loose_from, loose_pair, loose_there}
-use Rattle.fib_entries.proofs.LeafSizes.{ends_in, HasEnd, ends_by, adjacencies_same, size_alike}
-use Rattle.fib_entries.proofs.LedLaws.{led_attached_off, led_entry, led_hops, led_late_loose, led_late_other, led_list_after, led_list_before, led_near}
-use Rattle.fib_entries.proofs.Leafing.{base_cases, came_beside, from_front, from_route, front_half, is_not, its_prefix, only_one, part_cases, entry_of_pair, pair_at, routes_beside}
+use Rattle.fib_entries.proofs.Hosts.{IsUnattached, base_given, loose_chosen, loose_entry, loose_from, loose_pair, loose_targets, loose_there}
+use Rattle.fib_entries.proofs.LeafSizes.{ends_in, HasEnd, ends_by, adjacencies_same}
+use Rattle.fib_entries.proofs.LedLaws.{led_attached_off, led_entry, led_hops, led_late_cover, led_late_covered, led_late_loose, led_late_other, led_list_after, led_list_before, led_near, led_targets}
+use Rattle.fib_entries.proofs.Leafing.{base_cases, came_beside, from_front, from_route, front_half, is_not, its_prefix, only_one, part_cases, part_host, entry_of_pair, pair_at, routes_beside}
 use Rattle.fib_entries.proofs.Listing.{listed_route, pair_of, source_of_route}
 use Rattle.fib_entries.proofs.PartCounts.{host_counted, host_uncounted}
 use Rattle.fib_entries.proofs.Using.{once}
-use Rattle.fib_entries.proofs.WithHost.{no_list}
 
 -- the pair of a route's list that is there
 module _ (U : Tables) (p : Prefix) (source : FibSource) (some : paths_at p source U.routes ≢ []) where
@@ -162,6 +169,14 @@ module _ (U V : Tables) (p : Prefix) (source : FibSource) (beside : (r : Route) 
       by (derived a k e) = (let is : p ≡ host a = at ∙ ap (λ z. z.prefix) (sym e) ∙ derived_host U a in
           derived a (hops a is k) (sym (derived_kept a is) ∙ e))
 
+-- a host that leads to its cover alone has no Hop end
+pub no_ends : (U : Tables) (a : ℕ) → IsUnattached U a → (z : Adjacency) → Contains (adjacencies_of U (host a)) z → ⊥
+no_ends U a k z c = elim (either (is_member same_prefix (entries U) (host a))) [
+  | inl is ↦ (let there = Contains-from_any (λ x y. (same_prefix-Decides x y).0) (host a) (entries U) is in
+      Contains-nil z (ends_by U (host a) (plain kinds.Cover ∷ []) (loose_chosen U a k ((loose_entry U a k).0 there)) z c))
+  | inr isnt ↦ Contains-nil z (ends_by U (host a) [] (chosen-no_entry U (host a) isnt) z c)
+]
+
 module _ (S T : Tables) (p : Prefix) (source : FibSource) (late : List ℕ) (h : IsLedEdit S T p source late) where
   pub led_source_before : Contains (pairs S) (pair_of p source (paths_at p source S.routes))
   led_source_before = own_there S p source h.was
@@ -206,47 +221,46 @@ module _ (S T : Tables) (p : Prefix) (source : FibSource) (late : List ℕ) (h :
     other_kept T S p source (λ r k. (beside_same r k).1) (λ a. ((addresses_same a).1, (addresses_same a).0)) (λ a is. (hops_here a is).1) (λ i a. (led_near S T p source late h i a).1) (λ a is. sym (attached_here a is)) x at off,
   )
 
-  -- the host of a late next hop has afterwards the one pair that the hop makes
+  -- at the host of a late next hop is no pair but the one that the hop makes, before and after
+  pub led_late_was : (a : ℕ) → Contains late a → IsUnattached S a
+  led_late_was a c = record { loose = h.late_loose a c; based = λ x k is. base_given S h.before x k (h.late_derived a c x (from_origin S x (base k)) is) }
+
   pub led_late : (a : ℕ) → Contains late a → IsUnattached T a
   led_late a c = record {
     loose = led_late_loose S T p source late h a c;
     based = λ x k is. elim (came_beside S T p source h.differ x k) [
-      | inl was ↦ h.late_new a c (entry_of_pair S x (host a) (from_origin S x (base was)) is)
+      | inl was ↦ (led_late_was a c).based x was is
       | inr (r, m, it, at) ↦ led_late_other S T p source late h a c (sym (its_prefix p source r it) ∙ ap (λ z. z.prefix) at ∙ is)
     ];
   }
 
-  pub led_late_there : (a : ℕ) → Contains late a → Contains (all_hops T) a
-  led_late_there a c = let r = h.late_hop a c in Contains-flat_map recursive_hops T.routes r.0 a r.1 r.3
+  -- who leads to the prefix is the same, since the host of a late next hop leads to its cover alone
+  late_not_own : (U : Tables) (a : ℕ) → IsUnattached U a → p ≢ cover U a → Contains (targets U (host a)) p → ⊥
+  late_not_own U a k off c =
+      let there = Contains-from_any (λ x y. (same_prefix-Decides x y).0) (host a) (entries U) (targets_from_entries U (host a) p c) in
+      off (sym (only_one (cover U a) p (subst (λ l. Contains l p) (loose_targets U a k ((loose_entry U a k).0 there)) c)))
 
-  pub led_late_entry : (a : ℕ) → Contains late a → Contains (entries T) (host a)
-  led_late_entry a c = (loose_entry T a (led_late a c)).1 (led_late_there a c)
+  pub led_to_own : (d : Prefix) → p ≢ d → Contains (targets S d) p ↔ Contains (targets T d) p
+  led_to_own d off = elim (either (in_part p late d)) [
+    | inr isnt ↦ (let same = led_targets S T p source late h d isnt in (λ c. subst (λ l. Contains l p) same c, λ c. subst (λ l. Contains l p) (sym same) c))
+    | inl is ↦ elim (part_cases p late d is) [
+      | inl own ↦ absurd (off own)
+      | inr (a, m, at) ↦ (let away = led_late_covered S T p source late h a m in (
+        λ c. absurd (late_not_own S a (led_late_was a m) away (subst (λ z. Contains (targets S z) p) (sym at) c)),
+        λ c. absurd (late_not_own T a (led_late a m) (λ e. away (e ∙ sym (led_late_cover S T p source late h a m))) (subst (λ z. Contains (targets T z) p) (sym at) c)),
+      ))
+    ]
+  ]
 
   -- outside the part the entries are the same
-  outer_entries : (e : Prefix) → in_part p late e ≡ false → Contains (entries S) e ↔ Contains (entries T) e
+  pub outer_entries : (e : Prefix) → in_part p late e ≡ false → Contains (entries S) e ↔ Contains (entries T) e
   outer_entries e off = let same = led_entry S T p source late h e off in (
     λ c. (let x = pair_at S e c in entry_of_pair T x.0 e ((same.pairs x.0 (sym x.2)).0 x.1) x.2),
     λ c. (let x = pair_at T e c in entry_of_pair S x.0 e ((same.pairs x.0 (sym x.2)).1 x.1) x.2),
   )
 
-  -- the hosts of late next hops come
-  pub led_entries : (e : Prefix) → Contains (entries T) e ↔ Contains (entries S) e ⊎ ((a : ℕ) × Contains late a × (host a ≡ e))
-  led_entries e = elim (either (in_part p late e)) [
-    | inr off ↦ (let same = outer_entries e off in (
-      λ c. inl (same.1 c),
-      λ c. elim c [ inl was ↦ same.0 was | inr (a, m, at) ↦ subst (Contains (entries T)) at (led_late_entry a m) ],
-    ))
-    | inl is ↦ elim (part_cases p late e is) [
-      | inl own ↦ (
-        λ c. inl (subst (Contains (entries S)) own (own_entry S p source h.was)),
-        λ c. subst (Contains (entries T)) own (own_entry T p source h.is),
-      )
-      | inr (a, m, at) ↦ (λ c. inr (a, m, at), λ c. subst (Contains (entries T)) at (led_late_entry a m))
-    ]
-  ]
-
   -- outside the part and the route's own pair the pairs are the same
-  same_beside : (x : Pair) → is_own p source x ≡ false → ((a : ℕ) → Contains late a → host a ≡ x.prefix → ⊥) → Contains (pairs S) x ↔ Contains (pairs T) x
+  pub same_beside : (x : Pair) → is_own p source x ≡ false → ((a : ℕ) → Contains late a → host a ≡ x.prefix → ⊥) → Contains (pairs S) x ↔ Contains (pairs T) x
   same_beside x off away = elim (either (in_part p late x.prefix)) [
     | inr isnt ↦ (led_entry S T p source late h x.prefix isnt).pairs x refl
     | inl is ↦ elim (part_cases p late x.prefix is) [
@@ -255,7 +269,7 @@ module _ (S T : Tables) (p : Prefix) (source : FibSource) (late : List ℕ) (h :
     ]
   ]
 
-  -- the host of a late next hop has no Hop end before, so that those of other prefixes are those of entries outside the part
+  -- the host of a late next hop has no Hop end, so that those of other prefixes are those of entries outside the part
   pub led_end_beside : (z : Adjacency) → HasEnd S (same_prefix p) z → HasEnd S (in_part p late) z
   led_end_beside z (d, out, there, has) = (d, off, there, has)
     where
@@ -264,7 +278,7 @@ module _ (S T : Tables) (p : Prefix) (source : FibSource) (late : List ℕ) (h :
         | inr isnt ↦ isnt
         | inl is ↦ elim (part_cases p late d is) [
           | inl own ↦ absurd (is_not p d out own)
-          | inr (a, m, at) ↦ absurd (h.late_new a m (subst (Contains (entries S)) (sym at) there))
+          | inr (a, m, at) ↦ absurd (no_ends S a (led_late_was a m) z (subst (λ q. Contains (adjacencies_of S q) z) (sym at) has))
         ]
       ]
 
@@ -274,72 +288,159 @@ module _ (S T : Tables) (p : Prefix) (source : FibSource) (late : List ℕ) (h :
   led_ends before after = adjacencies_same S T (in_part p late) outer_entries (λ e off. same_chosen S T e h.after (led_entry S T p source late h e off).pairs)
       (λ e within z c. elim (part_cases p late e within) [
         | inl own ↦ before z (ends_by S p (paths_at p source S.routes) (led_list_before S T p source late h) z (subst (λ q. Contains (adjacencies_of S q) z) (sym own) c))
-        | inr (a, m, at) ↦ absurd (Contains-nil z (ends_by S (host a) [] (no_list S (host a) (h.late_new a m)) z (subst (λ q. Contains (adjacencies_of S q) z) (sym at) c)))
+        | inr (a, m, at) ↦ absurd (no_ends S a (led_late_was a m) z (subst (λ q. Contains (adjacencies_of S q) z) (sym at) c))
       ])
       (λ e within z c. elim (part_cases p late e within) [
         | inl own ↦ after z (ends_by T p (paths_at p source T.routes) (led_list_after S T p source late h) z (subst (λ q. Contains (adjacencies_of T q) z) (sym own) c))
-        | inr (a, m, at) ↦ absurd (Contains-nil z (ends_by T (host a) (plain kinds.Cover ∷ []) (loose_chosen T a (led_late a m) (led_late_there a m)) z (subst (λ q. Contains (adjacencies_of T q) z) (sym at) c)))
+        | inr (a, m, at) ↦ absurd (no_ends T a (led_late a m) z (subst (λ q. Contains (adjacencies_of T q) z) (sym at) c))
       ])
 
--- where no next hop is late
-module _ (S T : Tables) (p : Prefix) (source : FibSource) (h : IsLedEdit S T p source []) where
-  pub led_same_entries : (e : Prefix) → Contains (entries S) e ↔ Contains (entries T) e
-  led_same_entries e = let there = led_entries S T p source [] h e in (
-    λ c. there.1 (inl c),
-    λ c. elim (there.0 c) [ inl was ↦ was | inr (a, m, at) ↦ absurd (Contains-nil a m) ],
-  )
+-- whether the pair is the host's that comes, or goes
+abbrev at_late : Option Late → Pair → Bool
+at_late None x = false
+at_late (Some g) x = same_prefix (host g.addr) x.prefix
 
-  pub led_holders : (paths : List Path) → holders T paths + once (paths_at p source S.routes) paths ≡ holders S paths + once (paths_at p source T.routes) paths
-  led_holders paths =
-      let a = own_counted S p source h.before h.was paths in
-      let b = own_counted T p source h.after h.is paths in
-      ap (λ n. holders T paths + n) (sym a) ∙ holders_step S T (is_own p source) paths (λ x off. same_beside S T p source [] h x off (λ a m at. Contains-nil a m)) ∙ ap (λ n. holders S paths + n) b
+abbrev at_gone : Option Last → Pair → Bool
+at_gone None x = false
+at_gone (Some g) x = same_prefix (host g.addr) x.prefix
 
-  -- where the Hop ends of the list before and after are those of other entries too, the size stays
-  pub led_size : ((z : Adjacency) → Contains (ends_in p (paths_at p source S.routes)) z → HasEnd S (same_prefix p) z) → ((z : Adjacency) → Contains (ends_in p (paths_at p source T.routes)) z → HasEnd S (same_prefix p) z) → size S ≡ size T
-  led_size before after = size_alike S T led_same_entries (led_ends S T p source [] h (λ z c. led_end_beside S T p source [] h z (before z c)) (λ z c. led_end_beside S T p source [] h z (after z c)))
+-- how often the list of a host by its cover is that of the one that comes, or goes
+abbrev pub late_users : Option Late → List Path → ℕ
+late_users None paths = 0
+late_users (Some g) paths = once (plain kinds.Cover ∷ []) paths
 
--- the route's own pair, and those of a host
-abbrev is_own_or : Prefix → FibSource → ℕ → Pair → Bool
-is_own_or p source a x = is_own p source x || same_prefix (host a) x.prefix
+abbrev pub gone_users : Option Last → List Path → ℕ
+gone_users None paths = 0
+gone_users (Some g) paths = once (plain kinds.Cover ∷ []) paths
 
--- where one next hop is late
-module _ (S T : Tables) (p : Prefix) (source : FibSource) (a : ℕ) (h : IsLedEdit S T p source (a ∷ [])) where
-  late_one : Contains (a ∷ []) a
-  late_one = in_front a a [] refl
+-- the route's own pair, and those of these hosts
+abbrev is_turned : Prefix → FibSource → Option Late → Option Last → Pair → Bool
+is_turned p source late gone x = is_own p source x || (at_late late x || at_gone gone x)
 
-  off_both : (x : Pair) → is_own_or p source a x ≡ false → (is_own p source x ≡ false) × (same_prefix (host a) x.prefix ≡ false)
-  off_both x = by (is_own p source x) (same_prefix (host a) x.prefix)
-    where
-      by : (b c : Bool) → (b || c) ≡ false → (b ≡ false) × (c ≡ false)
-      by true c is = absurd (false≢true (sym is))
-      by false c is = (refl, is)
+none_counted : (f : Pair → Bool) (xs : List Pair) → count_by f (filter (λ x. false) xs) ≡ 0
+none_counted f [] = refl
+none_counted f (x ∷ xs) = none_counted f xs
 
-  beside_late : (x : Pair) → is_own_or p source a x ≡ false → Contains (pairs S) x ↔ Contains (pairs T) x
-  beside_late x off = let both = off_both x off in same_beside S T p source (a ∷ []) h x both.0 (λ b m at.
-      false≢true (sym both.1 ∙ (same_prefix-Decides (host a) x.prefix).1 (ap host (only_one a b m) ∙ at)))
+both_off : (b c : Bool) → (b || c) ≡ false → (b ≡ false) × (c ≡ false)
+both_off true c is = absurd (false≢true (sym is))
+both_off false c is = (refl, is)
 
-  own_apart : (x : Pair) → is_own p source x ≡ true → same_prefix (host a) x.prefix ≡ false
-  own_apart x is = elim (either (same_prefix (host a) x.prefix)) [
-    | inr isnt ↦ isnt
-    | inl that ↦ absurd (led_late_other S T p source (a ∷ []) h a late_one ((passes_own p source x is).0 ∙ sym ((same_prefix-Decides (host a) x.prefix).0 that)))
+-- where the host of one next hop may come, and that of another go
+module _ (S T : Tables) (p : Prefix) (source : FibSource) (late : Option Late) (gone : Option Last) (h : IsLedEdit S T p source (turned_addrs late gone)) (turn : IsTurn S T (late_addrs late) (gone_addrs gone)) where
+  pub come_in : (a : ℕ) → Contains (late_addrs late) a → Contains (turned_addrs late gone) a
+  come_in a c = Contains-append_left (late_addrs late) (gone_addrs gone) a c
+
+  pub go_in : (a : ℕ) → Contains (gone_addrs gone) a → Contains (turned_addrs late gone) a
+  go_in a c = Contains-append_right (late_addrs late) (gone_addrs gone) a c
+
+  pub led_come_entry : (a : ℕ) → Contains (late_addrs late) a → Contains (entries T) (host a)
+  led_come_entry a c = (loose_entry T a (led_late S T p source (turned_addrs late gone) h a (come_in a c))).1 (turn.comes a c)
+
+  pub led_go_entry : (a : ℕ) → Contains (gone_addrs gone) a → Contains (entries S) (host a)
+  led_go_entry a c = (loose_entry S a (led_late_was S T p source (turned_addrs late gone) h a (go_in a c))).1 (turn.there a c)
+
+  pub led_go_none : (a : ℕ) → Contains (gone_addrs gone) a → Contains (entries T) (host a) → ⊥
+  led_go_none a c i = turn.goes a c ((loose_entry T a (led_late S T p source (turned_addrs late gone) h a (go_in a c))).0 i)
+
+  -- the one host comes, the other goes
+  pub led_entries : (e : Prefix) → Contains (entries T) e ↔ (Contains (entries S) e × ((a : ℕ) → Contains (gone_addrs gone) a → host a ≡ e → ⊥)) ⊎ ((a : ℕ) × Contains (late_addrs late) a × (host a ≡ e))
+  led_entries e = elim (either (in_part p (turned_addrs late gone) e)) [
+    | inr off ↦ (let same = outer_entries S T p source (turned_addrs late gone) h e off in (
+      λ c. inl (same.1 c, λ a m at. false≢true (sym off ∙ (ap (in_part p (turned_addrs late gone)) (sym at) ∙ part_host p (turned_addrs late gone) a (go_in a m)))),
+      λ c. elim c [ inl was ↦ same.0 was.0 | inr (a, m, at) ↦ subst (Contains (entries T)) at (led_come_entry a m) ],
+    ))
+    | inl is ↦ elim (part_cases p (turned_addrs late gone) e is) [
+      | inl own ↦ (
+        λ c. inl (subst (Contains (entries S)) own (own_entry S p source h.was), λ a m at. led_late_other S T p source (turned_addrs late gone) h a (go_in a m) (own ∙ sym at)),
+        λ c. subst (Contains (entries T)) own (own_entry T p source h.is),
+      )
+      | inr (a, m, at) ↦ elim (Contains-append_cases (late_addrs late) (gone_addrs gone) a m) [
+        | inl come ↦ (λ c. inr (a, come, at), λ c. subst (Contains (entries T)) at (led_come_entry a come))
+        | inr go ↦ (
+          λ c. absurd (led_go_none a go (subst (Contains (entries T)) (sym at) c)),
+          λ c. elim c [ inl was ↦ absurd (was.1 a go at) | inr (b, i, same) ↦ subst (Contains (entries T)) same (led_come_entry b i) ],
+        )
+      ]
+    ]
   ]
 
-  late_parts : (paths : List Path) (xs : List Pair) → count_by (λ x. pointwise same_path x.paths paths) (filter (is_own_or p source a) xs)
-      ≡ count_by (λ x. pointwise same_path x.paths paths) (filter (is_own p source) xs) + count_by (λ x. pointwise same_path x.paths paths) (filter (λ x. same_prefix (host a) x.prefix) xs)
-  late_parts paths xs = count_parts (λ x. pointwise same_path x.paths paths) (is_own_or p source a) (is_own p source) (λ x. same_prefix (host a) x.prefix) (λ x. refl) own_apart xs
+  late_off : (o : Option Late) (x : Pair) → at_late o x ≡ false → (a : ℕ) → Contains (late_addrs o) a → host a ≡ x.prefix → ⊥
+  late_off None x off a c at = Contains-nil a c
+  late_off (Some g) x off a c at = false≢true (sym off ∙ (same_prefix-Decides (host g.addr) x.prefix).1 (ap host (only_one g.addr a c) ∙ at))
 
-  pub led_late_holders : (paths : List Path) → holders T paths + once (paths_at p source S.routes) paths ≡ holders S paths + once (paths_at p source T.routes) paths + once (plain kinds.Cover ∷ []) paths
-  led_late_holders paths =
-      let e = holders_step S T (is_own_or p source a) paths beside_late in
-      let s = late_parts paths (pairs S) in
-      let t = late_parts paths (pairs T) in
+  gone_off : (o : Option Last) (x : Pair) → at_gone o x ≡ false → (a : ℕ) → Contains (gone_addrs o) a → host a ≡ x.prefix → ⊥
+  gone_off None x off a c at = Contains-nil a c
+  gone_off (Some g) x off a c at = false≢true (sym off ∙ (same_prefix-Decides (host g.addr) x.prefix).1 (ap host (only_one g.addr a c) ∙ at))
+
+  late_on : (o : Option Late) (x : Pair) → at_late o x ≡ true → (a : ℕ) × Contains (late_addrs o) a × (host a ≡ x.prefix)
+  late_on None x is = absurd (false≢true is)
+  late_on (Some g) x is = (g.addr, in_front g.addr g.addr [] refl, (same_prefix-Decides (host g.addr) x.prefix).0 is)
+
+  gone_on : (o : Option Last) (x : Pair) → at_gone o x ≡ true → (a : ℕ) × Contains (gone_addrs o) a × (host a ≡ x.prefix)
+  gone_on None x is = absurd (false≢true is)
+  gone_on (Some g) x is = (g.addr, in_front g.addr g.addr [] refl, (same_prefix-Decides (host g.addr) x.prefix).0 is)
+
+  beside_turned : (x : Pair) → is_turned p source late gone x ≡ false → Contains (pairs S) x ↔ Contains (pairs T) x
+  beside_turned x off =
+      let one = both_off (is_own p source x) _ off in
+      let two = both_off (at_late late x) (at_gone gone x) one.1 in
+      same_beside S T p source (turned_addrs late gone) h x one.0 (λ a m at. elim (Contains-append_cases (late_addrs late) (gone_addrs gone) a m) [
+        | inl come ↦ late_off late x two.0 a come at
+        | inr go ↦ gone_off gone x two.1 a go at
+      ])
+
+  own_apart : (x : Pair) → is_own p source x ≡ true → (at_late late x || at_gone gone x) ≡ false
+  own_apart x is = elim (either (at_late late x || at_gone gone x)) [
+    | inr isnt ↦ isnt
+    | inl that ↦ (let own = (passes_own p source x is).0 in elim (or_cases (at_late late x) (at_gone gone x) that) [
+      | inl come ↦ (let r = late_on late x come in absurd (led_late_other S T p source (turned_addrs late gone) h r.0 (come_in r.0 r.1) (own ∙ sym r.2)))
+      | inr go ↦ (let r = gone_on gone x go in absurd (led_late_other S T p source (turned_addrs late gone) h r.0 (go_in r.0 r.1) (own ∙ sym r.2)))
+    ])
+  ]
+
+  late_apart : (x : Pair) → at_late late x ≡ true → at_gone gone x ≡ false
+  late_apart x is = elim (either (at_gone gone x)) [
+    | inr isnt ↦ isnt
+    | inl that ↦ (let a = late_on late x is in let b = gone_on gone x that in absurd (turn.absent a.0 a.1 (subst (Contains (entries S)) (b.2 ∙ sym a.2) (led_go_entry b.0 b.1))))
+  ]
+
+  parts : (paths : List Path) (xs : List Pair) → count_by (λ x. pointwise same_path x.paths paths) (filter (is_turned p source late gone) xs)
+      ≡ count_by (λ x. pointwise same_path x.paths paths) (filter (is_own p source) xs)
+      + (count_by (λ x. pointwise same_path x.paths paths) (filter (at_late late) xs) + count_by (λ x. pointwise same_path x.paths paths) (filter (at_gone gone) xs))
+  parts paths xs =
+      count_parts (λ x. pointwise same_path x.paths paths) (is_turned p source late gone) (is_own p source) (λ x. at_late late x || at_gone gone x) (λ x. refl) own_apart xs
+      ∙ ap (λ n. count_by (λ x. pointwise same_path x.paths paths) (filter (is_own p source) xs) + n)
+      (count_parts (λ x. pointwise same_path x.paths paths) (λ x. at_late late x || at_gone gone x) (at_late late) (at_gone gone) (λ x. refl) late_apart xs)
+
+  late_before : (o : Option Late) (paths : List Path) → ((a : ℕ) → Contains (late_addrs o) a → Contains (entries S) (host a) → ⊥) → count_by (λ x. pointwise same_path x.paths paths) (filter (at_late o) (pairs S)) ≡ 0
+  late_before None paths none = none_counted (λ x. pointwise same_path x.paths paths) (pairs S)
+  late_before (Some g) paths none = host_uncounted S g.addr paths (λ y d is. none g.addr (in_front g.addr g.addr [] refl) (entry_of_pair S y (host g.addr) d is))
+
+  late_after : (o : Option Late) (paths : List Path) → ((a : ℕ) → Contains (late_addrs o) a → IsUnattached T a × Contains (all_hops T) a) → count_by (λ x. pointwise same_path x.paths paths) (filter (at_late o) (pairs T)) ≡ late_users o paths
+  late_after None paths there = none_counted (λ x. pointwise same_path x.paths paths) (pairs T)
+  late_after (Some g) paths there = let k = there g.addr (in_front g.addr g.addr [] refl) in host_counted T g.addr paths (loose_pair g.addr) refl (loose_there T g.addr k.0 k.1) (λ y d is. (loose_from T g.addr k.0 y d is).0)
+
+  gone_before : (o : Option Last) (paths : List Path) → ((a : ℕ) → Contains (gone_addrs o) a → IsUnattached S a × Contains (all_hops S) a) → count_by (λ x. pointwise same_path x.paths paths) (filter (at_gone o) (pairs S)) ≡ gone_users o paths
+  gone_before None paths there = none_counted (λ x. pointwise same_path x.paths paths) (pairs S)
+  gone_before (Some g) paths there = let k = there g.addr (in_front g.addr g.addr [] refl) in host_counted S g.addr paths (loose_pair g.addr) refl (loose_there S g.addr k.0 k.1) (λ y d is. (loose_from S g.addr k.0 y d is).0)
+
+  gone_after : (o : Option Last) (paths : List Path) → ((a : ℕ) → Contains (gone_addrs o) a → Contains (entries T) (host a) → ⊥) → count_by (λ x. pointwise same_path x.paths paths) (filter (at_gone o) (pairs T)) ≡ 0
+  gone_after None paths none = none_counted (λ x. pointwise same_path x.paths paths) (pairs T)
+  gone_after (Some g) paths none = host_uncounted T g.addr paths (λ y d is. none g.addr (in_front g.addr g.addr [] refl) (entry_of_pair T y (host g.addr) d is))
+
+  -- the users of lists: the new list and that of the host that comes have one more, the old list and that of the host that goes one less
+  pub led_holders : (paths : List Path) → holders T paths + once (paths_at p source S.routes) paths + gone_users gone paths ≡ holders S paths + once (paths_at p source T.routes) paths + late_users late paths
+  led_holders paths =
+      let e = holders_step S T (is_turned p source late gone) paths beside_turned in
+      let s = parts paths (pairs S) in
+      let t = parts paths (pairs T) in
       let sp = own_counted S p source h.before h.was paths in
       let tp = own_counted T p source h.after h.is paths in
-      let sh = host_uncounted S a paths (λ y d is. h.late_new a late_one (entry_of_pair S y (host a) d is)) in
-      let k = led_late S T p source (a ∷ []) h a late_one in
-      let th = host_counted T a paths (loose_pair a) refl (loose_there T a k (led_late_there S T p source (a ∷ []) h a late_one)) (λ y d is. (loose_from T a k y d is).0) in
-      sums (holders T paths) (holders S paths) _ _ _ _ _ _ (once (paths_at p source S.routes) paths) (once (paths_at p source T.routes) paths) (once (plain kinds.Cover ∷ []) paths) e s t sp tp sh th
+      let sl = late_before late paths turn.absent in
+      let tl = late_after late paths (λ a c. (led_late S T p source (turned_addrs late gone) h a (come_in a c), turn.comes a c)) in
+      let sg = gone_before gone paths (λ a c. (led_late_was S T p source (turned_addrs late gone) h a (go_in a c), turn.there a c)) in
+      let tg = gone_after gone paths led_go_none in
+      sums (holders T paths) (holders S paths) _ _ _ _ _ _ _ _ (once (paths_at p source S.routes) paths) (once (paths_at p source T.routes) paths) (late_users late paths) (gone_users gone paths) e s t sp tp sl tl sg tg
     where
-      sums : (ht hs cs ct ps pt ss tt os op oh : ℕ) → ht + cs ≡ hs + ct → cs ≡ ps + ss → ct ≡ pt + tt → ps ≡ os → pt ≡ op → ss ≡ 0 → tt ≡ oh → ht + os ≡ hs + op + oh
-      sums ht hs cs ct ps pt ss tt os op oh e s t sp tp sh th = omega (arith, e, s, t, sp, tp, sh, th)
+      sums : (ht hs cs ct ps pt ls lt gs gt os op lu gu : ℕ) → ht + cs ≡ hs + ct → cs ≡ ps + (ls + gs) → ct ≡ pt + (lt + gt) → ps ≡ os → pt ≡ op → ls ≡ 0 → lt ≡ lu → gs ≡ gu → gt ≡ 0 → ht + os + gu ≡ hs + op + lu
+      sums ht hs cs ct ps pt ls lt gs gt os op lu gu e s t sp tp sl tl sg tg = omega (arith, e, s, t, sp, tp, sl, tl, sg, tg)

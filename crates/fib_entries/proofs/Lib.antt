@@ -69,8 +69,10 @@ pub mod LedPairs
 pub mod LedRows
 pub mod LedReach
 pub mod Settled
+pub mod SettledOut
 pub mod Reached
 pub mod ReachSizes
 pub mod ReachedBy
 pub mod ReachFields
+pub mod Turned
 pub mod Turning

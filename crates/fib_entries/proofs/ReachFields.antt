@@ -1,8 +1,8 @@
 -- The fields of entries fit together after a list that others may lead to was replaced, on cycles or not, with which the host of a next hop may
--- come.
+-- come and that of another go.
 use Rattle.std.proofs.Common.{arith, ◌≡◌, ◌≢◌, ℕ, ◌+◌, ◌≤◌, Bool, true, false, not, ◌&&◌, ◌||◌, ◌==◌, if◌then◌else◌, List, [], ◌∷◌, map, length, Option, Some, None, ◌⊎◌, inl, inr, refl, sym, ◌∙◌, ap, subst, ◌↔◌}
 use Rattle.std.specs.Prelude.{Contains, option_map, slice_set}
-use Rattle.std.specs.List.{list_any}
+use Rattle.std.specs.List.{list_all, list_any}
 use Rattle.std.specs.Set.{is_member}
 use Rattle.std.proofs.lemmas.Bool.{false≢true}
 use Rattle.std.proofs.lemmas.Bool.Decides.{Decides-eqb}
@@ -11,6 +11,7 @@ use Rattle.fib_list.proofs.Booleans.{or_cases, or_left, or_right}
 use Rattle.fib_addr.specs.Prefixes.{Prefix, host, same_prefix}
 use Rattle.fib_addr.proofs.PrefixLaws.{same_prefix-Decides}
 use Rattle.fib_cover.specs.Covers.{IsAscending}
+use Rattle.fib_resolve.specs.Edits.{paths_at}
 use Rattle.fib_resolve.specs.Keys.{same_source, source_rank}
 use Rattle.fib_resolve.specs.Pairs.{plain}
 use Rattle.fib_resolve.specs.declared.aims.Marked.{Marked}
@@ -27,18 +28,20 @@ use Rattle.fib_entries.specs.inner.Coming.{blank_row}
 use Rattle.fib_entries.specs.inner.Ends.{aim_exit, has_exit, is_exit}
 use Rattle.fib_entries.specs.inner.Fields.{AreFields, AreNamed, Index, IsForgotten, IsIndexed, IsNoted, are_several, count_in, leave}
 use Rattle.fib_entries.specs.inner.Hosting.{IsHosted, IsListed, host_own}
-use Rattle.fib_entries.specs.inner.Leaf.{own_row, plain_aim, plain_mark, plain_own, pushed}
-use Rattle.fib_entries.specs.inner.Led.{IsReaching}
+use Rattle.fib_entries.specs.inner.Leaf.{is_plain, own_row, plain_aim, plain_mark, plain_own, pushed}
+use Rattle.fib_entries.specs.inner.Led.{IsReaching, but_hops, shared_gone, shared_late}
 use Rattle.fib_entries.specs.inner.Looping.{aim_recursive, loops_of, mark_with, marks_with, relooped_in, relooped_row}
+use Rattle.fib_entries.specs.inner.Parting.{IsLast, IsParted}
 use Rattle.fib_entries.specs.inner.Plies.{IsGap}
 use Rattle.fib_entries.specs.inner.Raising.{raised_row}
-use Rattle.fib_entries.specs.inner.Reaching.{HasReached, IsEnded, IsPut, IsStarted, late_host, late_hosts, late_list, looped_mark, looped_own}
+use Rattle.fib_entries.specs.inner.Reaching.{HasReached, IsEnded, IsOut, IsPut, IsStarted, gone_host, gone_hosts, late_host, late_hosts, looped_mark, looped_own}
 use Rattle.fib_entries.specs.Rows.{Row}
 use Rattle.fib_entries.specs.declared.changes.Followed.{Followed}
 use Rattle.fib_entries.specs.declared.hosting.Late.{Late}
+use Rattle.fib_entries.specs.declared.parting.Last.{Last}
 use Rattle.fib_entries.specs.declared.raising.Raised.{Raised}
 use Rattle.fib_entries.proofs.Exits.{IsIn, exit_alike, in_host, in_index, in_more, indexed_each, indexed_less, indexed_more, own_leaves}
-use Rattle.fib_entries.proofs.HostFields.{fields_alike, fields_unhosted}
+use Rattle.fib_entries.proofs.HostFields.{fields_unhosted}
 use Rattle.fib_entries.proofs.Hosts.{loose_pair}
 use Rattle.fib_entries.proofs.Housing.{hosted_names, hosted_ordered}
 use Rattle.fib_entries.proofs.Leafing.{is_not, only_one}
@@ -52,6 +55,7 @@ use Rattle.fib_entries.proofs.Putting.{paired_from, paired_names}
 use Rattle.fib_entries.proofs.Reached.{relooped_names}
 use Rattle.fib_entries.proofs.Settling.{set_from}
 use Rattle.fib_entries.proofs.Using.{once, counted_taken, recounted, taken_stays}
+use Rattle.fib_entries.proofs.Withdrawing.{but_for, named_gone, ordered_gone, row_was}
 
 -- the row has the other's prefix and pairs, and no path leaves by an interface where none did
 record IsLike (q s : Row) : Type 0 where
@@ -117,6 +121,13 @@ in_like y q s h l = record {
 fine_like : (y : Index) (p : Prefix) (paths : List Path) (q s : Row) → IsFine y p paths q → IsLike q s → IsFine y p paths s
 fine_like y p paths q s f l = record { inside = in_like y q s f.inside l; own = λ at e. f.own (sym l.name ∙ at) (l.exit e) }
 
+-- a row of that prefix had its pairs
+abbrev HasHad : List Row → Row → Type 0
+HasHad rows s = (q : Row) × Contains rows q × (s.prefix ≡ q.prefix) × (s.pairs ≡ q.pairs)
+
+had_then : (rows : List Row) (q s : Row) → s.prefix ≡ q.prefix → s.pairs ≡ q.pairs → HasHad rows q → HasHad rows s
+had_then rows q s name pairs h = (h.0, h.1, name ∙ h.2, pairs ∙ h.3)
+
 -- lists are named by rows that are like others
 named_like : (old new : List Row) (lists : List PathKept) → ((s : Row) → Contains new s → (q : Row) × Contains old q × IsLike q s) → AreNamed old lists → AreNamed new lists
 named_like old new lists from n = record {
@@ -132,7 +143,8 @@ record IsBegun (rows start : List Row) (lists : List PathKept) (y : Index) (p : 
   names : (e : Prefix) → Contains (map prefix_of start) e ↔ Contains (map prefix_of rows) e ⊎ Contains (late_hosts late) e
   indexed : IsIndexed start y
   first : (s : Row) → Contains start s → s.prefix ≡ p → s.pairs ≡ held
-  other : (e : Prefix) → Contains (late_hosts late) e → e ≢ p
+  absent : (e : Prefix) → Contains (late_hosts late) e → Contains (map prefix_of rows) e → ⊥
+  had : (s : Row) → Contains start s → (Contains (late_hosts late) s.prefix → ⊥) → HasHad rows s
 
 begun_none : (rows start : List Row) (lists : List PathKept) (order : List Prefix) (x y : Index) (p : Prefix) (row : Row) (paths : List Path) (held : List (FibSource × ℕ)) → AreFields rows lists order x → IsNoted x y p paths None
     → Contains rows row → row.prefix ≡ p → row.pairs ≡ held → start ≡ rows → IsBegun rows start lists y p None held
@@ -142,7 +154,8 @@ begun_none rows start lists order x y p row paths held h noted there own first s
   names = λ e. (λ c. inl c, λ c. elim c [ inl was ↦ was | inr none ↦ absurd (Contains-nil e none) ]);
   indexed = indexed_more rows x y p paths None noted h.indexed;
   first = λ s c at. ap (λ z. z.pairs) (some_is s row (sym (row_by rows h.ordered p s c (sym at)) ∙ row_by rows h.ordered p row there (sym own))) ∙ first;
-  other = λ e c. absurd (Contains-nil e c);
+  absent = λ e c. absurd (Contains-nil e c);
+  had = λ s c off. (s, c, refl, refl);
 })
 
 module _ (rows start : List Row) (g : Late) (h : IsHosted rows start g) (gap : IsGap (map prefix_of rows) g.place (host g.addr)) where
@@ -194,21 +207,33 @@ module _ (rows start : List Row) (g : Late) (h : IsHosted rows start g) (gap : I
       | inl is ↦ absurd (off (ap (λ z. z.prefix) is ∙ at))
       | inr (q, was, like) ↦ like.pairs ∙ (ap (λ z. z.pairs) (some_is q row (sym (row_by rows f.ordered p q was (sym at ∙ like.name)) ∙ row_by rows f.ordered p row there (sym own))) ∙ first)
     ];
-    other = λ e c is. off (only_one (host g.addr) e c ∙ is);
+    absent = λ e c there. gap_absent (map prefix_of rows) g.place (host g.addr) gap (subst (Contains (map prefix_of rows)) (sym (only_one (host g.addr) e c)) there);
+    had = λ s c away. elim (hosted_from s c) [
+      | inl is ↦ absurd (away (in_front (host g.addr) s.prefix [] (ap (λ z. z.prefix) is)))
+      | inr (q, was, like) ↦ (q, was, like.name, like.pairs)
+    ];
   }
     where
       off : host g.addr ≢ p
       off is = gap_absent (map prefix_of rows) g.place (host g.addr) gap (subst (Contains (map prefix_of rows)) (own ∙ sym is) (map_in prefix_of rows row there))
 
 -- the rows once the host got its list
-record IsDone (low mid : List Row) (later : List PathKept) (y : Index) (p : Prefix) (paths : List Path) : Type 0 where
+record IsDone (low mid : List Row) (between later : List PathKept) (y : Index) (p : Prefix) (paths : List Path) (late : Option Late) : Type 0 where
   named : AreNamed mid later
   names : map prefix_of mid ≡ map prefix_of low
   fine : (s : Row) → Contains mid s → IsFine y p paths s
+  had : (s : Row) → Contains mid s → (Contains (late_hosts late) s.prefix → ⊥) → HasHad low s
+  stays : (i : ℕ) (l : List Path) → content_of between i ≡ Some l → content_of later i ≡ Some l
 
 module _ (low mid : List Row) (between later : List PathKept) (y : Index) (p : Prefix) (paths : List Path) (n : AreNamed low between) (asc : IsAscending (map prefix_of low)) (fine : (s : Row) → Contains low s → IsFine y p paths s) where
-  done_none : mid ≡ low → later ≡ between → IsDone low mid later y p paths
-  done_none same lists_same = subst (λ l. IsDone low mid l y p paths) (sym lists_same) (subst (λ l. IsDone low l between y p paths) (sym same) (record { named = n; names = refl; fine = fine }))
+  done_none : mid ≡ low → later ≡ between → IsDone low mid between later y p paths None
+  done_none same lists_same = subst (λ l. IsDone low mid between l y p paths None) (sym lists_same) (subst (λ l. IsDone low l between between y p paths None) (sym same) (record {
+    named = n;
+    names = refl;
+    fine = fine;
+    had = λ s c off. (s, c, refl, refl);
+    stays = λ i l is. is;
+  }))
 
   module _ (g : Late) (t : IsListed low mid between later g) where
     done_named : AreNamed mid later
@@ -236,12 +261,61 @@ module _ (low mid : List Row) (between later : List PathKept) (y : Index) (p : P
       | inr (off, was) ↦ fine s was
     ]
 
-    done_some : IsDone low mid later y p paths
-    done_some = record { named = done_named; names = paired_names low mid t.place ((sources.RecursiveResolution, g.list) ∷ []) t.row t.at t.set asc; fine = done_fine }
+    done_had : (s : Row) → Contains mid s → (Contains (host g.addr ∷ []) s.prefix → ⊥) → HasHad low s
+    done_had s c away = elim (paired_from low mid t.place ((sources.RecursiveResolution, g.list) ∷ []) t.row t.at t.set asc s c) [
+      | inl is ↦ absurd (away (in_front (host g.addr) s.prefix [] (sym t.own ∙ ap (λ z. z.prefix) is)))
+      | inr (off, was) ↦ (s, was, refl, refl)
+    ]
 
-  done : (late : Option Late) → IsEnded late low mid between later → IsDone low mid later y p paths
+    done_some : IsDone low mid between later y p paths (Some g)
+    done_some = record {
+      named = done_named;
+      names = paired_names low mid t.place ((sources.RecursiveResolution, g.list) ∷ []) t.row t.at t.set asc;
+      fine = done_fine;
+      had = done_had;
+      stays = λ i l is. taken_stays between later (plain kinds.Cover ∷ []) g.list t.taken t.apart (count_in n.pairs) n.counted i l is;
+    }
+
+  done : (late : Option Late) → IsEnded late low mid between later → IsDone low mid between later y p paths late
   done None e = done_none e.0 e.1
   done (Some g) t = done_some g t
+
+-- the rows once the other host went
+record IsLess (mid out : List Row) (later : List PathKept) (y : Index) (p : Prefix) (paths : List Path) (gone : Option Last) : Type 0 where
+  named : AreNamed out later
+  ordered : IsAscending (map prefix_of out)
+  names : (e : Prefix) → Contains (map prefix_of out) e ↔ Contains (map prefix_of mid) e × (Contains (gone_hosts gone) e → ⊥)
+  fine : (s : Row) → Contains out s → IsFine y p paths s
+
+-- of the host that goes, what its row has, and its list
+record IsGoing (mid : List Row) (lists : List PathKept) (g : Last) : Type 0 where
+  pairs : (s : Row) → Contains mid s → s.prefix ≡ host g.addr → s.pairs ≡ (sources.RecursiveResolution, g.list) ∷ []
+  listed : content_of lists g.list ≡ Some (plain kinds.Cover ∷ [])
+
+module _ (mid out : List Row) (between later : List PathKept) (y : Index) (p : Prefix) (paths : List Path) (made : ℕ) (n : AreNamed mid between) (asc : IsAscending (map prefix_of mid)) (fine : (s : Row) → Contains mid s → IsFine y p paths s) where
+  less_none : out ≡ mid → later ≡ between → IsLess mid out later y p paths None
+  less_none same lists_same = subst (λ l. IsLess mid out l y p paths None) (sym lists_same) (subst (λ l. IsLess mid l between y p paths None) (sym same) (record {
+    named = n;
+    ordered = asc;
+    names = λ e. (λ c. (c, λ i. Contains-nil e i), λ d. d.0);
+    fine = fine;
+  }))
+
+  less_some : (g : Last) → IsParted mid out between later g made → IsGoing mid between g → IsLess mid out later y p paths (Some g)
+  less_some g c t = record {
+    named = named_gone mid out between later c.place (host g.addr) g.list (g.cover ∷ []) [] c.withdrawn asc c.row c.at c.own (plain kinds.Cover ∷ []) n sources.RecursiveResolution (t.pairs c.row (contains_at mid c.place c.row c.at) c.own) t.listed;
+    ordered = ordered_gone mid out between later c.place (host g.addr) g.list (g.cover ∷ []) [] c.withdrawn asc c.row c.at c.own;
+    names = λ e. (let b = but_for mid out between later c.place (host g.addr) g.list (g.cover ∷ []) [] c.withdrawn asc c.row c.at c.own e in (
+      λ i. (let d = b.0 i in (d.0, λ k. d.1 (only_one (host g.addr) e k))),
+      λ d. b.1 (d.0, λ is. d.1 (in_front (host g.addr) e [] is)),
+    ));
+    fine = λ s k. (let q = row_was mid out between later c.place (host g.addr) g.list (g.cover ∷ []) [] c.withdrawn asc c.row c.at c.own s k in
+        fine_like y p paths q.0 s (fine q.0 q.1) (record { name = q.2.0.prefix; pairs = q.2.0.pairs; exit = λ e. sym (exit_alike q.0 s q.2.0.marked) ∙ e }));
+  }
+
+  less : (gone : Option Last) → IsOut gone mid out between later made → ((g : Last) → gone ≡ Some g → IsGoing mid between g) → IsLess mid out later y p paths gone
+  less None c going = less_none c.0 c.1
+  less (Some g) c going = less_some g c (going g refl)
 
 module _ (rows mid : List Row) (lists later : List PathKept) (x y : Index) (T : Tables) (p : Prefix) (source : FibSource) (id : ℕ) (before paths : List Path) (rank : ℕ) (late : Option Late) (edges : List (Prefix × Prefix)) (rest : List (FibSource × ℕ))
     (put : IsPut rows mid lists later p id before paths (looped_own T source edges p paths rank) late) (b : IsBegun rows put.start lists y p late ((source, id) ∷ rest)) (others : (q : FibSource × ℕ) → Contains rest q → q.0 ≢ source) (content : content_of lists id ≡ Some before)
@@ -288,43 +362,84 @@ module _ (rows mid : List Row) (lists later : List PathKept) (x y : Index) (T : 
     }
   ]
 
-  ended : IsDone put.low mid later y p paths
+  ended : IsDone put.low mid put.between later y p paths late
   ended = done put.low mid put.between later y p paths low_named (subst IsAscending (sym low_names) b.ordered) low_fine late put.ended
 
   mid_names : map prefix_of mid ≡ map prefix_of put.start
   mid_names = ended.names ∙ low_names
 
+  -- beside the prefix and the host that came, each row has the pairs that it had
+  low_had : (s : Row) → Contains put.low s → (Contains (late_hosts late) s.prefix → ⊥) → s.prefix ≢ p → HasHad rows s
+  low_had s c fresh off = elim (low_from s c) [
+    | inl own ↦ absurd (off own.0)
+    | inr (away, q, was, name, pairs, marked) ↦ had_then rows q s name pairs (b.had q was (λ i. fresh (subst (Contains (late_hosts late)) (sym name) i)))
+  ]
+
+  mid_had : (s : Row) → Contains mid s → (Contains (late_hosts late) s.prefix → ⊥) → s.prefix ≢ p → HasHad rows s
+  mid_had s c fresh off = (let u = ended.had s c fresh in had_then rows u.0 s u.2 u.3 (low_had u.0 u.1 (λ i. fresh (subst (Contains (late_hosts late)) (sym u.2) i)) (λ is. off (u.2 ∙ is))))
+
+  -- and but for the one that was replaced, lists are kept
+  mid_stays : (i : ℕ) (l : List Path) → id ≢ i → content_of lists i ≡ Some l → content_of later i ≡ Some l
+  mid_stays i l off is = ended.stays i l (ap (option_map (λ z. z.content)) (put.replaced.given.others i (λ e. off (sym e)))
+      ∙ taken_stays lists put.replaced.between paths put.replaced.new_id put.replaced.taken put.replaced.apart (count_in b.named.pairs) b.named.counted i l is)
+
+  -- so the host that goes has what it had
+  mid_going : (order : List Prefix) (row : Row) (g : Last) → IsAscending (map prefix_of rows) → Contains rows row → row.prefix ≡ p → row.pairs ≡ (source, id) ∷ rest → id ≢ g.list → IsLast rows lists order p g → IsGoing mid later g
+  mid_going order row g asc there own held apart t = record {
+    pairs = λ s c at. (let w = mid_had s c (λ i. b.absent s.prefix i (subst (Contains (map prefix_of rows)) (t.own ∙ sym at) (map_in prefix_of rows t.row t.there))) (λ is. away (sym at ∙ is)) in
+        w.3 ∙ (ap (λ z. z.pairs) (one_row w.0 t.row w.1 t.there (sym w.2 ∙ (at ∙ sym t.own))) ∙ t.pairs));
+    listed = mid_stays g.list (plain kinds.Cover ∷ []) apart t.listed;
+  }
+    where
+      one_row : (q r : Row) → Contains rows q → Contains rows r → q.prefix ≡ r.prefix → q ≡ r
+      one_row q r c d is = some_is q r (sym (row_by rows asc r.prefix q c (sym is)) ∙ row_by rows asc r.prefix r d refl)
+
+      away : host g.addr ≢ p
+      away is =
+          let pairs : (source, id) ∷ rest ≡ (sources.RecursiveResolution, g.list) ∷ [] = sym held ∙ (ap (λ z. z.pairs) (one_row row t.row there t.there (own ∙ (sym is ∙ sym t.own))) ∙ t.pairs) in
+          apart (sym (ap (λ z. z.1) (only_one (sources.RecursiveResolution, g.list) (source, id) (subst (λ l. Contains l (source, id)) pairs (in_front (source, id) (source, id) rest refl)))))
+
+  mid_ordered : IsAscending (map prefix_of mid)
+  mid_ordered = subst IsAscending (sym mid_names) b.ordered
+
   -- then marks of others and ranks changed
-  module _ (new : List Row) (order set : List Prefix) (z : Index) (few : List Prefix) (raised : List Raised) (ranked : new ≡ map (raised_row raised) (map (relooped_in few p edges) mid)) (same : order ≡ map prefix_of rows) (forgotten : IsForgotten y z p paths None)
-      (asc : IsAscending set) (members : (e : Prefix) → Contains set e ↔ Contains order e ⊎ Contains (late_hosts late) e) where
-    new_names : map prefix_of new ≡ map prefix_of put.start
-    new_names = ap (map prefix_of) ranked ∙ (raised_names raised (map (relooped_in few p edges) mid) ∙ (relooped_names few p edges mid ∙ mid_names))
+  module _ (out new : List Row) (last : List PathKept) (gone : Option Last) (left : IsLess mid out last y p paths gone) (order set : List Prefix) (z : Index) (few : List Prefix) (raised : List Raised) (ranked : new ≡ map (raised_row raised) (map (relooped_in few p edges) out))
+      (same : order ≡ map prefix_of rows) (forgotten : IsForgotten y z p paths (gone_host gone)) (asc : IsAscending set) (members : (e : Prefix) → Contains set e ↔ (Contains order e ⊎ Contains (late_hosts late) e) × (Contains (gone_hosts gone) e → ⊥)) where
+    new_names : map prefix_of new ≡ map prefix_of out
+    new_names = ap (map prefix_of) ranked ∙ (raised_names raised (map (relooped_in few p edges) out) ∙ relooped_names few p edges out)
 
     new_ordered : IsAscending (map prefix_of new)
-    new_ordered = subst IsAscending (sym new_names) b.ordered
+    new_ordered = subst IsAscending (sym new_names) left.ordered
 
-    new_from : (s : Row) → Contains new s → (q : Row) × Contains mid q × IsLike q s
+    new_from : (s : Row) → Contains new s → (q : Row) × Contains out q × IsLike q s
     new_from s c =
-        let u = map_from (raised_row raised) (map (relooped_in few p edges) mid) s (subst (λ l. Contains l s) ranked c) in
-        let w = map_from (relooped_in few p edges) mid u.0 u.1 in
+        let u = map_from (raised_row raised) (map (relooped_in few p edges) out) s (subst (λ l. Contains l s) ranked c) in
+        let w = map_from (relooped_in few p edges) out u.0 u.1 in
         (w.0, w.1, like_then w.0 u.0 s (subst (IsLike w.0) w.2 (relooped_like few p edges w.0)) (subst (IsLike u.0) u.2 (raised_like raised u.0)))
 
     new_fine : (s : Row) → Contains new s → IsFine y p paths s
-    new_fine s c = (let w = new_from s c in fine_like y p paths w.0 s (ended.fine w.0 w.1) w.2)
+    new_fine s c = (let w = new_from s c in fine_like y p paths w.0 s (left.fine w.0 w.1) w.2)
 
-    new_named : AreNamed new later
-    new_named = named_like mid new later new_from ended.named
+    new_named : AreNamed new last
+    new_named = named_like out new last new_from left.named
 
-    fields_put : AreFields new later set z
+    new_members : (e : Prefix) → Contains (map prefix_of new) e ↔ (Contains (map prefix_of rows) e ⊎ Contains (late_hosts late) e) × (Contains (gone_hosts gone) e → ⊥)
+    new_members e = (
+      λ i. (let l = (left.names e).0 (subst (λ l. Contains l e) new_names i) in ((b.names e).0 (subst (λ l. Contains l e) mid_names l.0), l.1)),
+      λ d. subst (λ l. Contains l e) (sym new_names) ((left.names e).1 (subst (λ l. Contains l e) (sym mid_names) ((b.names e).1 d.0), d.1)),
+    )
+
+    fields_put : AreFields new last set z
     fields_put = record {
-      held = named_held new later new_named;
+      held = named_held new last new_named;
       named = new_named;
       ordered = new_ordered;
       same = same_order set (map prefix_of new) asc new_ordered (λ e. (
-        λ i. subst (λ l. Contains l e) (sym new_names) ((b.names e).1 (elim ((members e).0 i) [ inl was ↦ inl (subst (λ l. Contains l e) same was) | inr it ↦ inr it ])),
-        λ i. (members e).1 (elim ((b.names e).0 (subst (λ l. Contains l e) new_names i)) [ inl was ↦ inl (subst (λ l. Contains l e) (sym same) was) | inr it ↦ inr it ]),
+        λ i. (let d = (members e).0 i in (new_members e).1 (elim d.0 [ inl was ↦ inl (subst (λ l. Contains l e) same was) | inr it ↦ inr it ], d.1)),
+        λ i. (let d = (new_members e).0 i in (members e).1 (elim d.0 [ inl was ↦ inl (subst (λ l. Contains l e) (sym same) was) | inr it ↦ inr it ], d.1)),
       ));
-      indexed = indexed_less new y z p paths None forgotten (λ s c e. by s c e (cases_prefix s.prefix)) (λ s c e. none_some s.prefix e) (indexed_each new y (λ s c. (new_fine s c).inside));
+      indexed = indexed_less new y z p paths (gone_host gone) forgotten (λ s c e. by s c e (cases_prefix s.prefix)) (λ s c e. ((new_members s.prefix).0 (map_in prefix_of new s c)).1 (gone_in gone s.prefix e))
+          (indexed_each new y (λ s c. (new_fine s c).inside));
     }
       where
         cases_prefix : (e : Prefix) → (e ≡ p) ⊎ (e ≢ p)
@@ -334,39 +449,50 @@ module _ (rows mid : List Row) (lists later : List PathKept) (x y : Index) (T : 
         by s c e (inl at) = inr ((new_fine s c).own at e)
         by s c e (inr off) = inl off
 
+        gone_in : (o : Option Last) (e : Prefix) → gone_host o ≡ Some e → Contains (gone_hosts o) e
+        gone_in None e is = absurd (none_some e is)
+        gone_in (Some g) e is = in_front (host g.addr) e [] (some_is (host g.addr) e is)
+
 -- all of it
-pub fields_reached : (rows new : List Row) (lists later : List PathKept) (order set : List Prefix) (x y z : Index) (T : Tables) (p : Prefix) (source : FibSource) (place id : ℕ) (old paths : List Path) (rank : ℕ) (late : Option Late) (few : List Prefix) (edges : List (Prefix × Prefix))
-    (again : List Prefix) (raised : List Raised) (f : Followed) → AreFields rows lists order x → IsReaching rows lists order T p source place id old (late_list late) → HasReached rows new lists later p id paths (looped_own T source edges p paths rank) late few edges again raised f
-    → IsNoted x y p paths (late_host late) → IsForgotten y z p paths None → IsAscending set → ((e : Prefix) → Contains set e ↔ Contains order e ⊎ Contains (late_hosts late) e) → AreFields new later set z
-fields_reached rows new lists later order set x y z T p source place id old paths rank late few edges again raised f h m c noted forgotten asc members =
-    fields_put rows c.mid lists later x y T p source id c.before paths rank late edges m.rest c.put (begun late m c.put.started noted) others c.content noted new order set z few raised c.ranked h.same forgotten asc members
+pub fields_reached : (rows new : List Row) (lists later : List PathKept) (order set : List Prefix) (x y z : Index) (T : Tables) (p : Prefix) (source : FibSource) (place id : ℕ) (old paths : List Path) (rank : ℕ) (late : Option Late) (gone : Option Last) (few : List Prefix) (edges : List (Prefix × Prefix))
+    (again : List Prefix) (raised : List Raised) (made : ℕ) (f : Followed) → AreFields rows lists order x → IsReaching rows lists order T p source place id old late gone → HasReached rows new lists later p id paths (looped_own T source edges p paths rank) late gone few edges again raised made f
+    → IsNoted x y p paths (late_host late) → IsForgotten y z p paths (gone_host gone) → IsAscending set → ((e : Prefix) → Contains set e ↔ (Contains order e ⊎ Contains (late_hosts late) e) × (Contains (gone_hosts gone) e → ⊥)) → AreFields new later set z
+fields_reached rows new lists later order set x y z T p source place id old paths rank late gone few edges again raised made f h m c noted forgotten asc members =
+    fields_put rows c.mid lists c.between x y T p source id c.before paths rank late edges m.rest c.put start others c.content noted c.out new later gone out order set z few raised c.ranked h.same forgotten asc members
   where
-    begun : (o : Option Late) (m : IsReaching rows lists order T p source place id old (late_list o)) → IsStarted o rows c.put.start → IsNoted x y p paths (late_host o) → IsBegun rows c.put.start lists y p o ((source, id) ∷ m.rest)
-    begun None m started noted = begun_none rows c.put.start lists order x y p m.row paths ((source, id) ∷ m.rest) h noted (contains_at rows place m.row m.at) m.own m.pairs started
-    begun (Some g) m started noted = begun_some rows c.put.start g started m.hops.1.gap lists order x y p m.row paths ((source, id) ∷ m.rest) h noted (contains_at rows place m.row m.at) m.own m.pairs
+    there : Contains rows m.row
+    there = contains_at rows place m.row m.at
+
+    begun : (o : Option Late) → shared_late rows lists order p o (but_hops old (paths_at p source T.routes)) → IsStarted o rows c.put.start → IsNoted x y p paths (late_host o) → IsBegun rows c.put.start lists y p o ((source, id) ∷ m.rest)
+    begun None shared started noted = begun_none rows c.put.start lists order x y p m.row paths ((source, id) ∷ m.rest) h noted there m.own m.pairs started
+    begun (Some g) shared started noted = begun_some rows c.put.start g started shared.1.gap lists order x y p m.row paths ((source, id) ∷ m.rest) h noted there m.own m.pairs
+
+    start : IsBegun rows c.put.start lists y p late ((source, id) ∷ m.rest)
+    start = begun late m.hops c.put.started noted
 
     others : (q : FibSource × ℕ) → Contains m.rest q → q.0 ≢ source
     others q d is = false≢true (sym m.others ∙ any_in (λ z. same_source z.0 source) m.rest q d ((Decides-eqb (source_rank q.0) (source_rank source)).1 (ap source_rank is)))
+
+    -- the two lists are two, since one of them has a path by Cover
+    apart : (g : Last) → IsLast rows lists order p g → id ≢ g.list
+    apart g t is =
+        let same : old ≡ plain kinds.Cover ∷ [] = some_is old (plain kinds.Cover ∷ []) (sym m.content ∙ (ap (content_of lists) is ∙ t.listed)) in
+        false≢true (ap (list_all is_plain) (sym same) ∙ m.plain_before)
+
+    last : (o : Option Last) → shared_gone rows lists order p o (but_hops (paths_at p source T.routes) old) → (g : Last) → o ≡ Some g → IsLast rows lists order p g
+    last None shared g is = absurd (none_some g is)
+    last (Some t) shared g is = subst (IsLast rows lists order p) (some_is t g is) shared.1
+
+    going : (g : Last) → gone ≡ Some g → IsGoing c.mid c.between g
+    going g is = (let t = last gone m.hops_before g is in mid_going rows c.mid lists c.between x y T p source id c.before paths rank late edges m.rest c.put start others c.content noted order m.row g h.ordered there m.own m.pairs (apart g t) t)
+
+    out : IsLess c.mid c.out later y p paths gone
+    out =
+        let e = ended rows c.mid lists c.between x y T p source id c.before paths rank late edges m.rest c.put start others c.content noted in
+        less c.mid c.out c.between later y p paths made e.named (mid_ordered rows c.mid lists c.between x y T p source id c.before paths rank late edges m.rest c.put start others c.content noted) e.fine gone c.parted going
 
 -- where memory wanted, so that nothing came of it
 pub fields_unreached : (rows new : List Row) (lists later : List PathKept) (order set : List Prefix) (x y : Index) (p : Prefix) (paths : List Path) (late : Option Late) → AreFields rows lists order x → IsNoted x y p paths (late_host late) → IsAscending set
     → ((e : Prefix) → Contains set e ↔ Contains order e) → new ≡ rows → later ≡ lists → AreFields new later set y
 fields_unreached rows new lists later order set x y p paths late h noted asc same rows_are lists_are =
     subst (λ l. AreFields new l set y) (sym lists_are) (subst (λ l. AreFields l lists set y) (sym rows_are) (fields_unhosted rows lists order set x y p paths (late_host late) h noted asc same))
-
--- also where the host was forgotten again, and the prefix but for a path by which its row's packets leave
-pub fields_unreached_less : (rows new : List Row) (lists later : List PathKept) (order set : List Prefix) (x y z : Index) (p : Prefix) (paths kept : List Path) (late : Option Late) → AreFields rows lists order x → IsNoted x y p paths (late_host late)
-    → IsForgotten y z p kept (late_host late) → ((s : Row) → Contains rows s → s.prefix ≡ p → has_exit s ≡ true → leave kept ≡ true) → IsAscending set → ((e : Prefix) → Contains set e ↔ Contains order e)
-    → ((g : Late) → late ≡ Some g → Contains (map prefix_of rows) (host g.addr) → ⊥) → new ≡ rows → later ≡ lists → AreFields new later set z
-fields_unreached_less rows new lists later order set x y z p paths kept late h noted forgotten stays asc same none rows_are lists_are =
-    subst (λ l. AreFields new l set z) (sym lists_are) (subst (λ l. AreFields l lists set z) (sym rows_are) (fields_alike rows lists order set x z h back asc same))
-  where
-    gone : (o : Option Late) → late ≡ o → (e : Prefix) → Contains (map prefix_of rows) e → late_host o ≢ Some e
-    gone None is e c at = none_some e at
-    gone (Some g) is e c at = none g is (subst (Contains (map prefix_of rows)) (sym (some_is (host g.addr) e at)) c)
-
-    own : (s : Row) → Contains rows s → has_exit s ≡ true → (s.prefix ≢ p) ⊎ (leave kept ≡ true)
-    own s c e = elim (either (same_prefix p s.prefix)) [ inl is ↦ inr (stays s c (sym ((same_prefix-Decides p s.prefix).0 is)) e) | inr isnt ↦ inl (λ is. is_not p s.prefix isnt (sym is)) ]
-
-    back : IsIndexed rows z
-    back = indexed_less rows y z p kept (late_host late) forgotten own (λ s c. gone late refl s.prefix (map_in prefix_of rows s c)) (indexed_more rows x y p paths (late_host late) noted h.indexed)

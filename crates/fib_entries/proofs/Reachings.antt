@@ -1,6 +1,6 @@
 -- What the list of a prefix needs that cycles may lead through, and what comes of it.
 use Rattle.std.proofs.Common.{arith, ◌≡◌, ◌≢◌, ℕ, zero, suc, ◌+◌, ◌<◌, ◌≤◌, Bool, true, false, List, [], ◌∷◌, map, Option, Some, None, inl, inr, refl, sym, ◌∙◌, ap, subst, slice_get}
-use Rattle.std.specs.Prelude.{Contains, length, ◌&&◌, if◌then◌else◌, not, option_map, slice_set}
+use Rattle.std.specs.Prelude.{Contains, IsSome, length, ◌&&◌, if◌then◌else◌, not, option_map, slice_set}
 use Rattle.std.specs.List.{AllZip}
 use Rattle.std.specs.List.{list_any}
 use Rattle.std.specs.Set.{is_member}
@@ -8,7 +8,9 @@ use Rattle.std.proofs.lemmas.Bool.{false≢true, cases_eq}
 use Rattle.fib_list.proofs.Lists.{either, Contains-nil}
 use Rattle.fib_addr.specs.Prefixes.{Prefix, host, same_prefix}
 use Rattle.fib_addr.proofs.PrefixLaws.{same_prefix-Decides}
+use Rattle.fib_resolve.specs.Pairs.{plain}
 use Rattle.fib_resolve.specs.declared.types.Path.{Path}
+use Rattle.fib_resolve.specs.declared.types.PathKind.TheVariants as kinds
 use Rattle.fib_changes.proofs.Edits.{any_in, in_front, in_rest}
 use Rattle.fib_interned.proofs.Finding.{contains_at, none_some, some_is}
 use Rattle.fib_cover.specs.Covers.{IsAscending}
@@ -20,18 +22,21 @@ use Rattle.fib_entries.specs.inner.Looping.{KeepMarks, relooped_in, relooped_row
 use Rattle.fib_entries.specs.inner.Coming.{blank_row}
 use Rattle.fib_entries.specs.inner.Plies.{IsGap}
 use Rattle.fib_entries.specs.inner.Raising.{AreRaised, raised_of, rank_or, rank_with}
-use Rattle.fib_entries.specs.inner.Reaching.{AreBelow, IsCoverStill, IsLateBelow, IsExchanged, IsPut, IsRisenKept, HasPairs, IsUnseen, kept_goal, kind_loops}
+use Rattle.fib_entries.specs.inner.Reaching.{AreBelow, IsCoverStill, IsEnded, IsLateBelow, IsExchanged, IsOut, IsPut, IsRisenKept, HasPairs, IsUnseen, kept_goal, kind_loops}
 use Rattle.fib_entries.specs.Rows.{Row}
 use Rattle.fib_entries.specs.declared.hosting.Late.{Late}
+use Rattle.fib_entries.specs.declared.parting.Last.{Last}
 use Rattle.fib_entries.specs.declared.raising.Raised.{Raised}
 use Rattle.fib_entries.specs.declared.replace.Own.{Own}
-use Rattle.fib_entries.proofs.Housing.{hosted_ordered}
+use Rattle.fib_entries.proofs.Housing.{hosted_names, hosted_ordered}
 use Rattle.fib_entries.proofs.LedRows.{turned_names}
-use Rattle.fib_entries.proofs.Linking.{set_length, set_names, zip_at}
+use Rattle.fib_entries.proofs.Linking.{kept_on, set_length, set_names, zip_at}
 use Rattle.fib_entries.proofs.Settling.{set_from}
 use Rattle.fib_entries.proofs.PartRows.{row_by}
-use Rattle.fib_entries.proofs.Placing.{inserted_from, length_map}
+use Rattle.fib_entries.proofs.Naming.{some_content}
+use Rattle.fib_entries.proofs.Placing.{inserted_from, inserted_old, length_map, some_list}
 use Rattle.fib_entries.proofs.Telling.{kept_some}
+use Rattle.fib_entries.proofs.Withdrawing.{ordered_gone, row_was}
 
 -- none of these is that prefix
 pub unraised : (raised : List Raised) (e : Prefix) → list_any (λ x. same_prefix e x.prefix) raised ≡ false → raised_of raised e ≡ None
@@ -215,6 +220,41 @@ put_keeps old mid lists later p id before paths own late x gap seen unseen s c i
     let q = put_alike old mid lists later p id before paths own late x gap s c (λ e. false≢true (sym off ∙ (same_prefix-Decides p s.prefix).1 e))
     (λ g e same. false≢true (sym (unseen g e) ∙ (ap (is_member same_prefix seen) same ∙ is))) in
     (q.0, q.1, q.2.prefix, q.2.met, q.2.marked)
+
+-- what was an entry is one still
+pub put_there : (old mid : List Row) (lists later : List PathKept) (p : Prefix) (id : ℕ) (before paths : List Path) (own : Own) (late : Option Late) → IsPut old mid lists later p id before paths own late
+    → ((g : Late) → late ≡ Some g → IsGap (map prefix_of old) g.place (host g.addr)) → IsAscending (map prefix_of old) → (e : Prefix) → Contains (map prefix_of old) e → Contains (map prefix_of mid) e
+put_there old mid lists later p id before paths own None x gap asc e c =
+    subst (λ l. Contains l e) (sym (ap (map prefix_of) x.ended.0 ∙ (turned_names x.start x.low lists x.between x.place p id before paths own x.row x.at x.replaced ∙ ap (map prefix_of) x.started))) c
+put_there old mid lists later p id before paths own (Some g) x gap asc e c =
+    subst (λ l. Contains l e) (sym (ap (map prefix_of) x.ended.set ∙ (set_names x.low x.ended.place x.ended.row _ x.ended.at refl ∙ turned_names x.start x.low lists x.between x.place p id before paths own x.row x.at x.replaced)))
+    (subst (λ l. Contains l e) (sym (hosted_names old x.start g x.started asc (gap g refl))) (inserted_old (map prefix_of old) g.place (host g.addr) e (gap g refl).inside c))
+
+-- a list is kept still that isn't given
+pub put_kept : (old mid : List Row) (lists later : List PathKept) (p : Prefix) (id : ℕ) (before paths : List Path) (own : Own) (late : Option Late) → IsPut old mid lists later p id before paths own late → (other : ℕ) → id ≢ other
+    → IsSome (kept_of lists other) → IsSome (kept_of later other)
+put_kept old mid lists later p id before paths own late x other off kept = by late x.ended
+  where
+    between : IsSome (kept_of x.between other)
+    between = (let l = some_list lists other kept in some_content (kept_of x.between other) l.0 (stays_on x.start x.low lists x.between x.place p id before paths own x.replaced other l.0 off l.1))
+
+    by : (late : Option Late) → IsEnded late x.low mid x.between later → IsSome (kept_of later other)
+    by None e = subst (λ l. IsSome (kept_of l other)) (sym e.1) between
+    by (Some g) e = kept_on x.between later (plain kinds.Cover ∷ []) g.list other e.taken between
+
+-- the rows' order once the other host went
+pub out_ordered : (gone : Option Last) (mid out : List Row) (between later : List PathKept) (made : ℕ) → IsOut gone mid out between later made → IsAscending (map prefix_of mid) → IsAscending (map prefix_of out)
+out_ordered None mid out between later made x asc = subst (λ l. IsAscending (map prefix_of l)) (sym x.0) asc
+out_ordered (Some g) mid out between later made x asc = ordered_gone mid out between later x.place (host g.addr) g.list (g.cover ∷ []) [] x.withdrawn asc x.row x.at x.own
+
+-- and the marks of those that are left
+pub out_keeps : (old : List Row) (seen : List Prefix) (p : Prefix) (gone : Option Last) (mid out : List Row) (between later : List PathKept) (made : ℕ) → IsOut gone mid out between later made → IsAscending (map prefix_of mid)
+    → KeepMarks old seen p mid → KeepMarks old seen p out
+out_keeps old seen p None mid out between later made x asc keep = subst (λ l. KeepMarks old seen p l) (sym x.0) keep
+out_keeps old seen p (Some g) mid out between later made x asc keep = λ s c is off.
+    let w = row_was mid out between later x.place (host g.addr) g.list (g.cover ∷ []) [] x.withdrawn asc x.row x.at x.own s c in
+    let q = keep w.0 w.1 (ap (is_member same_prefix seen) (sym w.2.0.prefix) ∙ is) (ap (same_prefix p) (sym w.2.0.prefix) ∙ off) in
+    (q.0, q.1, q.2 ∙ sym w.2.0.prefix, q.3 ∙ sym w.2.0.met, q.4 ∙ sym w.2.0.marked)
 
 -- names stay with other marks of loops
 pub relooped_name : (seen : List Prefix) (p : Prefix) (edges : List (Prefix × Prefix)) (r : Row) → (relooped_in seen p edges r).prefix ≡ r.prefix

@@ -1,4 +1,5 @@
--- The best route's list of a prefix replaced, with which the host of a next hop may come: what the rows and lists are then.
+-- The best route's list of a prefix replaced, with which the host of a next hop may come: what the rows and lists are then, while the host that goes
+-- with it is still there.
 use Rattle.std.proofs.Common.{arith, ◌≡◌, ◌≢◌, ℕ, ◌+◌, ◌-◌, ◌<◌, ◌≤◌, true, false, List, [], ◌∷◌, map, Option, Some, None, ◌⊎◌, inl, inr, refl, sym, ◌∙◌, ap, subst, slice_get, ◌↔◌}
 use Rattle.std.specs.Prelude.{Contains, slice_set}
 use Rattle.std.specs.List.{insert}
@@ -23,6 +24,7 @@ use Rattle.fib_resolve.proofs.PairLaws.{cover_short}
 use Rattle.fib_changes.specs.Differ.{Differ}
 use Rattle.fib_changes.specs.declared.change.Change.TheVariants as changes
 use Rattle.fib_changes.proofs.Edits.{in_front}
+use Rattle.fib_changes.proofs.Targets.{edge_entry}
 use Rattle.fib_interned.specs.Interned.{AreInterned}
 use Rattle.fib_interned.proofs.Finding.{contains_at, none_some, some_is}
 use Rattle.fib_entries.specs.Known.{Known, PathKept, content_of, holders, prefix_of, IsRow, StandsFor}
@@ -30,17 +32,19 @@ use Rattle.fib_entries.specs.inner.Coming.{blank_row, with_pairs}
 use Rattle.fib_entries.specs.inner.Fields.{AreCounted}
 use Rattle.fib_entries.specs.inner.Hosting.{IsHosted, IsListed, host_own}
 use Rattle.fib_entries.specs.inner.Leaf.{AreAttached, IsButFor, IsReplaced, goals_of, own_row, pushed}
-use Rattle.fib_entries.specs.inner.Led.{IsLedEdit, IsReaching}
+use Rattle.fib_entries.specs.inner.Led.{IsLedEdit, IsReaching, IsTurn}
 use Rattle.fib_entries.specs.inner.Part.{IsButForPart, in_part}
-use Rattle.fib_entries.specs.inner.Reaching.{IsPut, IsSettled, late_list}
+use Rattle.fib_entries.specs.inner.Reaching.{IsPut, IsSettled, gone_addrs, late_addrs, late_names, turned_addrs}
 use Rattle.fib_entries.specs.Rows.{Row}
 use Rattle.fib_entries.specs.declared.hosting.Late.{Late}
+use Rattle.fib_entries.specs.declared.parting.Last.{Last}
 use Rattle.fib_entries.specs.declared.replace.Own.{Own}
 use Rattle.fib_entries.proofs.Counting.{counts_some}
-use Rattle.fib_entries.proofs.Leafing.{is_not, only_one, outside, part_cases, part_host, part_not}
-use Rattle.fib_entries.proofs.LedLaws.{led_late_before, led_late_covered, led_late_led, led_late_other, led_targets}
-use Rattle.fib_entries.proofs.LedPairs.{led_holders, led_late_holders, led_source_after, led_source_before}
-use Rattle.fib_entries.proofs.LedReach.{late_cover_is, late_no_host, reach_edit, reach_edit_late, reach_goals, reach_goals_before, reach_goals_before_late, reach_goals_late, reach_host_late, reach_was}
+use Rattle.fib_entries.proofs.Housing.{hosted_names}
+use Rattle.fib_entries.proofs.Leafing.{is_not, only_one, part_cases, part_host, part_not}
+use Rattle.fib_entries.proofs.LedLaws.{led_late_covered, led_late_led, led_late_other}
+use Rattle.fib_entries.proofs.LedPairs.{gone_users, led_holders, led_source_after, led_source_before, led_to_own}
+use Rattle.fib_entries.proofs.LedReach.{late_cover_is, late_no_host, reach_edit, reach_goals, reach_goals_before, reach_host_late, reach_turn, reach_was}
 use Rattle.fib_entries.proofs.Linking.{attached_one, but_self, zip_at}
 use Rattle.fib_entries.proofs.Listing.{pair_of}
 use Rattle.fib_entries.proofs.PartRows.{row_by}
@@ -162,15 +166,18 @@ module _ (v : Known) (S T : Tables) (f : List Path → ℕ) (p : Prefix) (source
   between_content = list_content (known_with v put.start v.lists) (known_with v put.low put.between) S T p ((source, put.replaced.new_id) ∷ rest) new own relisting
 
 -- the new list has a user
-used_after : (S T : Tables) (p : Prefix) (source : FibSource) (late : List ℕ) → IsLedEdit S T p source late → 0 < holders T (paths_at p source T.routes)
+pub used_after : (S T : Tables) (p : Prefix) (source : FibSource) (late : List ℕ) → IsLedEdit S T p source late → 0 < holders T (paths_at p source T.routes)
 unfolding pair_of
 used_after S T p source late h = counts_some (λ z. pointwise same_path z.paths (paths_at p source T.routes)) (pairs T) (pair_of p source (paths_at p source T.routes)) (led_source_after S T p source late h) (list_self (paths_at p source T.routes))
 
 -- where no host comes
-module _ (v : Known) (mid : List Row) (later : List PathKept) (S T : Tables) (p : Prefix) (source : FibSource) (place id : ℕ) (old : List Path) (own : Own) (k : StandsFor v S) (m : IsReaching v.rows v.lists (map prefix_of v.rows) T p source place id old [])
+module _ (v : Known) (mid : List Row) (later : List PathKept) (S T : Tables) (p : Prefix) (source : FibSource) (place id : ℕ) (old : List Path) (own : Own) (gone : Option Last) (k : StandsFor v S) (m : IsReaching v.rows v.lists (map prefix_of v.rows) T p source place id old None gone)
     (differ : Differ (changes.Route p source ∷ []) S T) (after : IsSound T) (apart : AreInterned v.lists) (put : IsPut v.rows mid v.lists later p id old (paths_at p source T.routes) own None) (of_source : own.source ≡ source) where
-  edit : IsLedEdit S T p source []
-  edit = reach_edit v S T p source place id old k m differ after
+  edit : IsLedEdit S T p source (turned_addrs None gone)
+  edit = reach_edit v S T p source place id old None gone k m differ after
+
+  turn : IsTurn S T (late_addrs None) (gone_addrs gone)
+  turn = reach_turn v S T p source place id old None gone k m differ after
 
   in_start : (q : Row) → Contains put.start q → Contains v.rows q
   in_start q c = subst (λ l. Contains l q) put.started c
@@ -181,7 +188,20 @@ module _ (v : Known) (mid : List Row) (later : List PathKept) (S T : Tables) (p 
   row_same : put.row ≡ m.row
   row_same = some_is put.row m.row (sym (row_by v.rows k.ordered p put.row row_there (sym put.own_at)) ∙ row_by v.rows k.ordered p m.row (contains_at v.rows place m.row m.at) (sym m.own))
 
-  basis : Basis v S T (holders T) p source id old (paths_at p source T.routes) m.rest own put.start put.row
+  counts_step : (paths : List Path) → holders S paths + once (paths_at p source T.routes) paths ≡ holders T paths + gone_users gone paths + once old paths
+  counts_step paths = by (holders S paths) (holders T paths) (once (paths_at p source T.routes) paths) (once (paths_at p source S.routes) paths) (once old paths) (gone_users gone paths)
+      (led_holders S T p source None gone edit turn paths) (ap (λ l. once l paths) (reach_was v S T p source place id old None gone k m differ after))
+    where
+      by : (h t n w o u : ℕ) → t + w + u ≡ h + n + 0 → w ≡ o → h + n ≡ t + u + o
+      by h t n w o u a b = omega (arith, a, b)
+
+  more_used : (paths : List Path) → 0 < holders T paths → 0 < holders T paths + gone_users gone paths
+  more_used paths pos = omega (arith, pos)
+
+  counts_used : 0 < holders T (paths_at p source T.routes) + gone_users gone (paths_at p source T.routes)
+  counts_used = more_used (paths_at p source T.routes) (used_after S T p source (turned_addrs None gone) edit)
+
+  basis : Basis v S T (λ paths. holders T paths + gone_users gone paths) p source id old (paths_at p source T.routes) m.rest own put.start put.row
   basis = record {
     of_source = of_source;
     first = ap (λ z. z.pairs) row_same ∙ m.pairs;
@@ -190,37 +210,37 @@ module _ (v : Known) (mid : List Row) (later : List PathKept) (S T : Tables) (p 
     linked = λ q c. (k.rows q (in_start q c)).dependants p;
     dependants_once = (k.rows put.row row_there).dependants_once;
     counted = counted_by v S k apart;
-    goals_before = reach_goals_before v S T p source place id old k m differ after;
-    goals = reach_goals v S T p source place id old k m differ after;
-    step = λ paths. (let e = led_holders S T p source edit paths in let b = ap (λ l. once l paths) (reach_was v S T p source place id old [] k m differ after) in omega (arith, e, b));
-    used = used_after S T p source [] edit;
+    goals_before = reach_goals_before v S T p source place id old None gone k m differ after;
+    goals = reach_goals v S T p source place id old None gone k m differ after;
+    step = counts_step;
+    used = counts_used;
   }
 
   low_in : (s : Row) → Contains mid s → Contains put.low s
   low_in s c = subst (λ l. Contains l s) put.ended.0 c
 
-  own_is : (s : Row) → Contains mid s → p ≡ s.prefix → own_row p ((source, put.replaced.new_id) ∷ m.rest) own (own_dependants v S T (holders T) p source id old (paths_at p source T.routes) m.rest own None mid later put basis) ≡ s
-  own_is s c at = low_own v S T (holders T) p source id old (paths_at p source T.routes) m.rest own None mid later put basis s (low_in s c) at
+  own_is : (s : Row) → Contains mid s → p ≡ s.prefix → own_row p ((source, put.replaced.new_id) ∷ m.rest) own (own_dependants v S T (λ paths. holders T paths + gone_users gone paths) p source id old (paths_at p source T.routes) m.rest own None mid later put basis) ≡ s
+  own_is s c at = low_own v S T (λ paths. holders T paths + gone_users gone paths) p source id old (paths_at p source T.routes) m.rest own None mid later put basis s (low_in s c) at
 
-  leads : (d : Prefix) → Contains (own_dependants v S T (holders T) p source id old (paths_at p source T.routes) m.rest own None mid later put basis) d ↔ Contains (targets T d) p
+  leads : (d : Prefix) → Contains (own_dependants v S T (λ paths. holders T paths + gone_users gone paths) p source id old (paths_at p source T.routes) m.rest own None mid later put basis) d ↔ Contains (targets T d) p
   leads d = elim (either (same_prefix p d)) [
-    | inl is ↦ subst (λ z. Contains (own_dependants v S T (holders T) p source id old (paths_at p source T.routes) m.rest own None mid later put basis) z ↔ Contains (targets T z) p) ((same_prefix-Decides p d).0 is)
-        (low_led_own v S T (holders T) p source id old (paths_at p source T.routes) m.rest own None mid later put basis)
+    | inl is ↦ subst (λ z. Contains (own_dependants v S T (λ paths. holders T paths + gone_users gone paths) p source id old (paths_at p source T.routes) m.rest own None mid later put basis) z ↔ Contains (targets T z) p) ((same_prefix-Decides p d).0 is)
+        (low_led_own v S T (λ paths. holders T paths + gone_users gone paths) p source id old (paths_at p source T.routes) m.rest own None mid later put basis)
     | inr isnt ↦ (let off = is_not p d isnt in
-        let led = low_led v S T (holders T) p source id old (paths_at p source T.routes) m.rest own None mid later put basis d off in
-        let one = led_targets S T p source [] edit d (outside p d off) in
+        let led = low_led v S T (λ paths. holders T paths + gone_users gone paths) p source id old (paths_at p source T.routes) m.rest own None mid later put basis d off in
+        let same = led_to_own S T p source (turned_addrs None gone) edit d off in
         let mine = (k.rows put.row row_there).dependants d in (
-          λ c. subst (λ l. Contains l p) one (subst (Contains (targets S d)) put.own_at (mine.0 (led.0 c))),
-          λ c. led.1 (mine.1 (subst (Contains (targets S d)) (sym put.own_at) (subst (λ l. Contains l p) (sym one) c))),
+          λ c. same.0 (subst (Contains (targets S d)) put.own_at (mine.0 (led.0 c))),
+          λ c. led.1 (mine.1 (subst (Contains (targets S d)) (sym put.own_at) (same.1 c))),
         ))
   ]
 
-  names : map prefix_of mid ≡ map prefix_of v.rows
-  names = ap (map prefix_of) put.ended.0 ∙ (low_names v S T (holders T) p source id old (paths_at p source T.routes) m.rest own None mid later put basis ∙ ap (map prefix_of) put.started)
+  pub none_names : map prefix_of mid ≡ map prefix_of v.rows
+  none_names = ap (map prefix_of) put.ended.0 ∙ (low_names v S T (λ paths. holders T paths + gone_users gone paths) p source id old (paths_at p source T.routes) m.rest own None mid later put basis ∙ ap (map prefix_of) put.started)
 
   others : (s : Row) → Contains mid s → in_part p [] s.prefix ≡ false → (r : Row) × Contains v.rows r × IsButForPart (in_part p []) r s × ((d : Prefix) → in_part p [] d ≡ true → Contains s.dependants d ↔ Contains (targets T d) s.prefix)
   others s c off =
-      let x = low_relinked v S T (holders T) p source id old (paths_at p source T.routes) m.rest own None mid later put basis s (low_in s c) (part_not p [] s.prefix off) in (
+      let x = low_relinked v S T (λ paths. holders T paths + gone_users gone paths) p source id old (paths_at p source T.routes) m.rest own None mid later put basis s (low_in s c) (part_not p [] s.prefix off) in (
         x.0,
         in_start x.0 x.1,
         record {
@@ -239,10 +259,13 @@ module _ (v : Known) (mid : List Row) (later : List PathKept) (S T : Tables) (p 
         ],
       )
 
-  pub settled_none : IsSettled v S T p ((source, put.replaced.new_id) ∷ m.rest) put.replaced.new_id (paths_at p source T.routes) own None mid later
+  pub stays_none : (i : ℕ) (list : List Path) → 0 < holders T list + gone_users gone list → content_of v.lists i ≡ Some list → content_of later i ≡ Some list
+  stays_none i list pos is = subst (λ l. content_of l i ≡ Some list) (sym put.ended.1) (between_stays v S T (λ paths. holders T paths + gone_users gone paths) p source id old (paths_at p source T.routes) m.rest own None mid later put basis i list pos is)
+
+  pub settled_none : IsSettled v S T (λ paths. holders T paths + gone_users gone paths) p ((source, put.replaced.new_id) ∷ m.rest) put.replaced.new_id (paths_at p source T.routes) own None None mid later
   settled_none = record {
-    ordered = subst IsAscending (sym names) k.ordered;
-    names = λ e. (λ c. inl (subst (λ l. Contains l e) names c), λ c. elim c [ inl was ↦ subst (λ l. Contains l e) (sym names) was | inr none ↦ absurd (Contains-nil e none) ]);
+    ordered = subst IsAscending (sym none_names) k.ordered;
+    names = λ e. (λ c. inl (subst (λ l. Contains l e) none_names c, Contains-nil e), λ c. elim c [ inl was ↦ subst (λ l. Contains l e) (sym none_names) was.0 | inr none ↦ absurd (Contains-nil e none) ]);
     others = others;
     pairs = λ s c at. ap (λ z. z.pairs) (sym (own_is s c at));
     looped = λ s c at. ap (λ z. z.looped) (sym (own_is s c at));
@@ -250,12 +273,12 @@ module _ (v : Known) (mid : List Row) (later : List PathKept) (S T : Tables) (p 
     marked = λ s c at. ap (λ z. z.marked) (sym (own_is s c at));
     rank = λ s c at. ap (λ z. z.rank) (sym (own_is s c at));
     led = λ s c at d. subst (λ l. Contains l d ↔ Contains (targets T d) p) (ap (λ z. z.dependants) (own_is s c at)) (leads d);
-    led_once = λ s c at. subst AllDiffer (ap (λ z. z.dependants) (own_is s c at)) (low_once v S T (holders T) p source id old (paths_at p source T.routes) m.rest own None mid later put basis);
+    led_once = λ s c at. subst AllDiffer (ap (λ z. z.dependants) (own_is s c at)) (low_once v S T (λ paths. holders T paths + gone_users gone paths) p source id old (paths_at p source T.routes) m.rest own None mid later put basis);
     hosted = λ g s is c at. absurd (none_some g is);
     host_led = λ g s is c at. absurd (none_some g is);
-    counted = subst (λ l. AreCounted l (holders T)) (sym put.ended.1) (between_counted v S T (holders T) p source id old (paths_at p source T.routes) m.rest own None mid later put basis);
-    stays = λ i list pos is. subst (λ l. content_of l i ≡ Some list) (sym put.ended.1) (between_stays v S T (holders T) p source id old (paths_at p source T.routes) m.rest own None mid later put basis i list pos is);
-    content = subst (λ l. content_of l put.replaced.new_id ≡ Some (paths_at p source T.routes)) (sym put.ended.1) (between_content v S T (holders T) p source id old (paths_at p source T.routes) m.rest own None mid later put basis);
+    counted = subst (λ l. AreCounted l (λ paths. holders T paths + gone_users gone paths)) (sym put.ended.1) (between_counted v S T (λ paths. holders T paths + gone_users gone paths) p source id old (paths_at p source T.routes) m.rest own None mid later put basis);
+    stays = λ i list pos is. stays_none i list (more_used list pos) is;
+    content = subst (λ l. content_of l put.replaced.new_id ≡ Some (paths_at p source T.routes)) (sym put.ended.1) (between_content v S T (λ paths. holders T paths + gone_users gone paths) p source id old (paths_at p source T.routes) m.rest own None mid later put basis);
     host_content = λ g is. absurd (none_some g is);
   }
 
@@ -277,16 +300,22 @@ used_before S T p source late h paths = elim (either (pointwise same_path (paths
     under a b is pos = omega (arith, is, pos)
 
 -- where the host of a late next hop comes
-module _ (v : Known) (mid : List Row) (later : List PathKept) (S T : Tables) (p : Prefix) (source : FibSource) (place id : ℕ) (old : List Path) (own : Own) (g : Late) (k : StandsFor v S) (m : IsReaching v.rows v.lists (map prefix_of v.rows) T p source place id old (g ∷ []))
+module _ (v : Known) (mid : List Row) (later : List PathKept) (S T : Tables) (p : Prefix) (source : FibSource) (place id : ℕ) (old : List Path) (own : Own) (g : Late) (gone : Option Last) (k : StandsFor v S) (m : IsReaching v.rows v.lists (map prefix_of v.rows) T p source place id old (Some g) gone)
     (differ : Differ (changes.Route p source ∷ []) S T) (after : IsSound T) (apart : AreInterned v.lists) (put : IsPut v.rows mid v.lists later p id old (paths_at p source T.routes) own (Some g)) (of_source : own.source ≡ source) where
-  edit_late : IsLedEdit S T p source (g.addr ∷ [])
-  edit_late = reach_edit_late v S T p source place id old g k m differ after
+  edit_late : IsLedEdit S T p source (turned_addrs (Some g) gone)
+  edit_late = reach_edit v S T p source place id old (Some g) gone k m differ after
+
+  turn_late : IsTurn S T (late_addrs (Some g)) (gone_addrs gone)
+  turn_late = reach_turn v S T p source place id old (Some g) gone k m differ after
 
   one_late : Contains (g.addr ∷ []) g.addr
   one_late = in_front g.addr g.addr [] refl
 
+  one_turned : Contains (turned_addrs (Some g) gone) g.addr
+  one_turned = in_front g.addr g.addr (gone_addrs gone) refl
+
   own_host : p ≢ host g.addr
-  own_host = led_late_other S T p source (g.addr ∷ []) edit_late g.addr one_late
+  own_host = led_late_other S T p source (turned_addrs (Some g) gone) edit_late g.addr one_turned
 
   cover_at : m.hops.1.cover.prefix ≡ cover S g.addr
   cover_at = late_cover_is v S p g k m.hops.1
@@ -295,13 +324,13 @@ module _ (v : Known) (mid : List Row) (later : List PathKept) (S T : Tables) (p 
   not_cover is = (let e = ap (λ z. z.len) (sym cover_at ∙ is) in let lt = cover_short S g.addr in omega (arith, e, lt))
 
   own_cover : p ≢ m.hops.1.cover.prefix
-  own_cover is = led_late_covered S T p source (g.addr ∷ []) edit_late g.addr one_late (is ∙ cover_at)
+  own_cover is = led_late_covered S T p source (turned_addrs (Some g) gone) edit_late g.addr one_turned (is ∙ cover_at)
 
   no_host : Contains (entries S) (host g.addr) → ⊥
   no_host = late_no_host v S p g k m.hops.1
 
   host_goes : targets T (host g.addr) ≡ m.hops.1.cover.prefix ∷ []
-  host_goes = reach_host_late v S T p source place id old g k m differ after
+  host_goes = reach_host_late v S T p source place id old g gone k m differ after
 
   -- the rows with the host
   hosted : IsHosted v.rows put.start g
@@ -333,7 +362,7 @@ module _ (v : Known) (mid : List Row) (later : List PathKept) (S T : Tables) (p 
   start_linked q c = elim (start_from q c) [
     | inl is ↦ (
       λ i. absurd (Contains-nil p ((host_row.2.0.others p (λ e. own_host (sym e))).0 (subst (λ z. Contains z.dependants p) (sym is) i))),
-      λ i. absurd (led_late_before S T p source (g.addr ∷ []) edit_late p g.addr one_late (subst (Contains (targets S p)) (sym (ap (λ z. z.prefix) is) ∙ host_row.2.0.prefix) i)),
+      λ i. absurd (no_host (edge_entry S p (host g.addr) (subst (Contains (targets S p)) (sym (ap (λ z. z.prefix) is) ∙ host_row.2.0.prefix) i))),
     )
     | inr (off, x, there, but) ↦ (
       λ i. subst (Contains (targets S p)) (sym but.0.prefix) (((k.rows x there).dependants p).0 ((but.0.others p (λ e. own_host (sym e))).0 i)),
@@ -353,31 +382,31 @@ module _ (v : Known) (mid : List Row) (later : List PathKept) (S T : Tables) (p 
   ]
 
   was : paths_at p source S.routes ≡ old
-  was = reach_was v S T p source place id old (g ∷ []) k m differ after
+  was = reach_was v S T p source place id old (Some g) gone k m differ after
 
   old_used : (paths : List Path) → once old paths ≤ holders S paths
-  old_used paths = subst (λ l. once l paths ≤ holders S paths) was (used_before S T p source (g.addr ∷ []) edit_late paths)
+  old_used paths = subst (λ l. once l paths ≤ holders S paths) was (used_before S T p source (turned_addrs (Some g) gone) edit_late paths)
 
-  counts_step : (paths : List Path) → holders S paths + once (paths_at p source T.routes) paths ≡ counts_less S (paths_at p source T.routes) old paths + once old paths
+  counts_step_late : (paths : List Path) → holders S paths + once (paths_at p source T.routes) paths ≡ counts_less S (paths_at p source T.routes) old paths + once old paths
   unfolding counts_less
-  counts_step paths = by (holders S paths) (once (paths_at p source T.routes) paths) (once old paths) (old_used paths)
+  counts_step_late paths = by (holders S paths) (once (paths_at p source T.routes) paths) (once old paths) (old_used paths)
     where
       by : (h n o : ℕ) → o ≤ h → h + n ≡ ((h + n) - o) + o
       by h n o le = omega (arith, le)
 
-  counts_used : 0 < counts_less S (paths_at p source T.routes) old (paths_at p source T.routes)
+  counts_used_late : 0 < counts_less S (paths_at p source T.routes) old (paths_at p source T.routes)
   unfolding counts_less
-  counts_used = by (holders S (paths_at p source T.routes)) (once (paths_at p source T.routes) (paths_at p source T.routes)) (once old (paths_at p source T.routes)) (old_used (paths_at p source T.routes)) (unit_same (paths_at p source T.routes) (paths_at p source T.routes) refl)
+  counts_used_late = by (holders S (paths_at p source T.routes)) (once (paths_at p source T.routes) (paths_at p source T.routes)) (once old (paths_at p source T.routes)) (old_used (paths_at p source T.routes)) (unit_same (paths_at p source T.routes) (paths_at p source T.routes) refl)
     where
       by : (h n o : ℕ) → o ≤ h → n ≡ 1 → 0 < (h + n) - o
       by h n o le one = omega (arith, le, one)
 
-  counts_all : (paths : List Path) → counts_less S (paths_at p source T.routes) old paths + once (plain kinds.Cover ∷ []) paths ≡ holders T paths
-  counts_all paths = by (counts_less S (paths_at p source T.routes) old paths) (holders S paths) (holders T paths) (once (paths_at p source T.routes) paths) (once (paths_at p source S.routes) paths) (once old paths) (once (plain kinds.Cover ∷ []) paths)
-      (led_late_holders S T p source g.addr edit_late paths) (ap (λ l. once l paths) was) (counts_step paths)
+  counts_all : (paths : List Path) → counts_less S (paths_at p source T.routes) old paths + once (plain kinds.Cover ∷ []) paths ≡ holders T paths + gone_users gone paths
+  counts_all paths = by (counts_less S (paths_at p source T.routes) old paths) (holders S paths) (holders T paths) (once (paths_at p source T.routes) paths) (once (paths_at p source S.routes) paths) (once old paths) (once (plain kinds.Cover ∷ []) paths) (gone_users gone paths)
+      (led_holders S T p source (Some g) gone edit_late turn_late paths) (ap (λ l. once l paths) was) (counts_step_late paths)
     where
-      by : (f h t n w o c : ℕ) → t + w ≡ h + n + c → w ≡ o → h + n ≡ f + o → f + c ≡ t
-      by f h t n w o c a b e = omega (arith, a, b, e)
+      by : (f h t n w o c u : ℕ) → t + w + u ≡ h + n + c → w ≡ o → h + n ≡ f + o → f + c ≡ t + u
+      by f h t n w o c u a b e = omega (arith, a, b, e)
 
   basis_late : Basis v S T (counts_less S (paths_at p source T.routes) old) p source id old (paths_at p source T.routes) m.rest own put.start put.row
   basis_late = record {
@@ -388,10 +417,10 @@ module _ (v : Known) (mid : List Row) (later : List PathKept) (S T : Tables) (p 
     linked = start_linked;
     dependants_once = row_was.0.once own_before.dependants_once;
     counted = counted_by v S k apart;
-    goals_before = reach_goals_before_late v S T p source place id old g k m differ after;
-    goals = reach_goals_late v S T p source place id old g k m differ after;
-    step = counts_step;
-    used = counts_used;
+    goals_before = reach_goals_before v S T p source place id old (Some g) gone k m differ after;
+    goals = reach_goals v S T p source place id old (Some g) gone k m differ after;
+    step = counts_step_late;
+    used = counts_used_late;
   }
 
   -- and the host's list
@@ -439,7 +468,7 @@ module _ (v : Known) (mid : List Row) (later : List PathKept) (S T : Tables) (p 
     | inl is ↦ subst (λ z. Contains listed.row.dependants z ↔ Contains (targets T z) (host g.addr)) ((same_prefix-Decides p d).0 is) (subst (λ z. Contains listed.row.dependants p ↔ Contains (targets T p) z) listed.own listed_from.1)
     | inr isnt ↦ (let off = is_not p d isnt in (
       λ i. absurd (none_led d ((listed_from.0.others d off).0 i)),
-      λ i. absurd (off (sym (led_late_led S T p source (g.addr ∷ []) edit_late d g.addr one_late i))),
+      λ i. absurd (off (sym (led_late_led S T p source (turned_addrs (Some g) gone) edit_late d g.addr one_turned i))),
     ))
   ]
 
@@ -451,12 +480,6 @@ module _ (v : Known) (mid : List Row) (later : List PathKept) (S T : Tables) (p 
 
   inside : (d : Prefix) → in_part p (g.addr ∷ []) d ≡ true → (p ≡ d) ⊎ (host g.addr ≡ d)
   inside d is = elim (part_cases p (g.addr ∷ []) d is) [ inl same ↦ inl same | inr (a, one, at) ↦ inr (ap host (only_one g.addr a one) ∙ at) ]
-
-  beside_both : (d : Prefix) → p ≢ d → host g.addr ≢ d → in_part p (g.addr ∷ []) d ≡ false
-  beside_both d off_p off_h = elim (either (in_part p (g.addr ∷ []) d)) [
-    | inr isnt ↦ isnt
-    | inl is ↦ elim (inside d is) [ inl same ↦ absurd (off_p same) | inr same ↦ absurd (off_h same) ]
-  ]
 
   -- what leads to the prefix
   leads_late : (d : Prefix) → Contains (own_dependants v S T (counts_less S (paths_at p source T.routes) old) p source id old (paths_at p source T.routes) m.rest own (Some g) mid later put basis_late) d ↔ Contains (targets T d) p
@@ -471,10 +494,10 @@ module _ (v : Known) (mid : List Row) (later : List PathKept) (S T : Tables) (p 
             λ i. absurd (own_cover (sym (only_one m.hops.1.cover.prefix p (subst (λ l. Contains l p) host_goes i)))),
           )
           | inr away ↦ (let beside = is_not (host g.addr) d away in
-              let one = led_targets S T p source (g.addr ∷ []) edit_late d (beside_both d off beside) in
+              let same = led_to_own S T p source (turned_addrs (Some g) gone) edit_late d off in
               let mine = own_before.dependants d in (
-                λ c. subst (λ l. Contains l p) one (subst (Contains (targets S d)) m.own (mine.0 ((row_was.0.others d beside).0 (led.0 c)))),
-                λ c. led.1 ((row_was.0.others d beside).1 (mine.1 (subst (Contains (targets S d)) (sym m.own) (subst (λ l. Contains l p) (sym one) c)))),
+                λ c. same.0 (subst (Contains (targets S d)) m.own (mine.0 ((row_was.0.others d beside).0 (led.0 c)))),
+                λ c. led.1 ((row_was.0.others d beside).1 (mine.1 (subst (Contains (targets S d)) (sym m.own) (same.1 c)))),
               ))
         ])
   ]
@@ -529,13 +552,13 @@ module _ (v : Known) (mid : List Row) (later : List PathKept) (S T : Tables) (p 
   host_content = content_taken put.between later (plain kinds.Cover ∷ []) g.list listed.taken listed.apart (counts_less S (paths_at p source T.routes) old) low_counted
 
   -- the list of hosts by their cover may be none between, and is there again
-  stays_late : (i : ℕ) (list : List Path) → 0 < holders T list → content_of v.lists i ≡ Some list → content_of later i ≡ Some list
+  pub stays_late : (i : ℕ) (list : List Path) → 0 < holders T list + gone_users gone list → content_of v.lists i ≡ Some list → content_of later i ≡ Some list
   stays_late i list pos is = elim (either (pointwise same_path (plain kinds.Cover ∷ []) list)) [
     | inl same ↦ (let e = list_is (plain kinds.Cover ∷ []) list same in
         let number : i ≡ g.list = one_number v.lists apart i g.list list is (m.hops.1.listed ∙ ap Some e) in
         ap (content_of later) number ∙ (host_content ∙ ap Some e))
     | inr isnt ↦ later_stays i list (between_stays v S T (counts_less S (paths_at p source T.routes) old) p source id old (paths_at p source T.routes) m.rest own (Some g) mid later put basis_late i list
-        (more (counts_less S (paths_at p source T.routes) old list) (once (plain kinds.Cover ∷ []) list) (holders T list) (counts_all list)
+        (more (counts_less S (paths_at p source T.routes) old list) (once (plain kinds.Cover ∷ []) list) (holders T list + gone_users gone list) (counts_all list)
         (unit_other (plain kinds.Cover ∷ []) list (λ e. false≢true (sym isnt ∙ subst (λ z. pointwise same_path (plain kinds.Cover ∷ []) z ≡ true) e (list_self (plain kinds.Cover ∷ []))))) pos) is)
   ]
     where
@@ -559,12 +582,15 @@ module _ (v : Known) (mid : List Row) (later : List PathKept) (S T : Tables) (p 
   host_led_late : (s : Row) → Contains mid s → host g.addr ≡ s.prefix → ((d : Prefix) → Contains s.dependants d ↔ Contains (targets T d) (host g.addr)) × AllDiffer s.dependants
   host_led_late s c at = (let is = ap (λ z. z.dependants) (mid_host s c at) in (λ d. subst (λ l. Contains l d ↔ Contains (targets T d) (host g.addr)) is (host_leads d), subst AllDiffer is host_once))
 
-  pub settled_late : IsSettled v S T p ((source, put.replaced.new_id) ∷ m.rest) put.replaced.new_id (paths_at p source T.routes) own (Some g) mid later
+  pub late_rows : map prefix_of mid ≡ insert (map prefix_of v.rows) g.place (host g.addr)
+  late_rows = mid_names ∙ hosted_names v.rows put.start g hosted k.ordered m.hops.1.gap
+
+  pub settled_late : IsSettled v S T (λ paths. holders T paths + gone_users gone paths) p ((source, put.replaced.new_id) ∷ m.rest) put.replaced.new_id (paths_at p source T.routes) own (Some g) None mid later
   settled_late = record {
     ordered = subst IsAscending (sym mid_names) start_ordered;
     names = λ e. (
-      λ c. elim ((start_with e).0 (subst (λ l. Contains l e) mid_names c)) [ inl before ↦ inl before | inr same ↦ inr (in_front (host g.addr) e [] same) ],
-      λ c. subst (λ l. Contains l e) (sym mid_names) ((start_with e).1 (elim c [ inl before ↦ inl before | inr it ↦ inr (only_one (host g.addr) e it) ])),
+      λ c. elim ((start_with e).0 (subst (λ l. Contains l e) mid_names c)) [ inl before ↦ inl (before, Contains-nil e) | inr same ↦ inr (in_front (host g.addr) e [] same) ],
+      λ c. subst (λ l. Contains l e) (sym mid_names) ((start_with e).1 (elim c [ inl before ↦ inl before.0 | inr it ↦ inr (only_one (host g.addr) e it) ])),
     );
     others = others_late;
     pairs = λ s c at. ap (λ z. z.pairs) (sym (mid_own s c at));
@@ -576,9 +602,9 @@ module _ (v : Known) (mid : List Row) (later : List PathKept) (S T : Tables) (p 
     led_once = λ s c at. subst AllDiffer (ap (λ z. z.dependants) (mid_own s c at)) (low_once v S T (counts_less S (paths_at p source T.routes) old) p source id old (paths_at p source T.routes) m.rest own (Some g) mid later put basis_late);
     hosted = λ h s is c at. by_late h (some_is g h is) s c at;
     host_led = λ h s is c at. led_by_late h (some_is g h is) s c at;
-    counted = recounted later (λ paths. counts_less S (paths_at p source T.routes) old paths + once (plain kinds.Cover ∷ []) paths) (holders T) counts_all
+    counted = recounted later (λ paths. counts_less S (paths_at p source T.routes) old paths + once (plain kinds.Cover ∷ []) paths) (λ paths. holders T paths + gone_users gone paths) counts_all
         (counted_taken put.between later (plain kinds.Cover ∷ []) g.list listed.taken listed.apart (counts_less S (paths_at p source T.routes) old) low_counted);
-    stays = stays_late;
+    stays = λ i list pos is. stays_late i list (omega (arith, pos)) is;
     content = later_stays put.replaced.new_id (paths_at p source T.routes) (between_content v S T (counts_less S (paths_at p source T.routes) old) p source id old (paths_at p source T.routes) m.rest own (Some g) mid later put basis_late);
     host_content = λ h is. subst (λ z. content_of later z.list ≡ Some (plain kinds.Cover ∷ [])) (some_is g h is) host_content;
   }
@@ -592,8 +618,21 @@ module _ (v : Known) (mid : List Row) (later : List PathKept) (S T : Tables) (p 
       led_by_late h is s c = subst (λ z. host z.addr ≡ s.prefix → ((d : Prefix) → Contains s.dependants d ↔ Contains (targets T d) (host z.addr)) × AllDiffer s.dependants) is (host_led_late s c)
 
 -- what the rows and lists are, whether a host comes or not
-pub settled : (v : Known) (mid : List Row) (later : List PathKept) (S T : Tables) (p : Prefix) (source : FibSource) (place id : ℕ) (old : List Path) (own : Own) (late : Option Late) (k : StandsFor v S) (m : IsReaching v.rows v.lists (map prefix_of v.rows) T p source place id old (late_list late))
-    (differ : Differ (changes.Route p source ∷ []) S T) (after : IsSound T) (apart : AreInterned v.lists) (put : IsPut v.rows mid v.lists later p id old (paths_at p source T.routes) own late) → own.source ≡ source
-    → IsSettled v S T p ((source, put.replaced.new_id) ∷ m.rest) put.replaced.new_id (paths_at p source T.routes) own late mid later
-settled v mid later S T p source place id old own None k m differ after apart put is = settled_none v mid later S T p source place id old own k m differ after apart put is
-settled v mid later S T p source place id old own (Some g) k m differ after apart put is = settled_late v mid later S T p source place id old own g k m differ after apart put is
+pub settled : (v : Known) (mid : List Row) (later : List PathKept) (S T : Tables) (p : Prefix) (source : FibSource) (place id : ℕ) (old : List Path) (own : Own) (late : Option Late) (gone : Option Last) (k : StandsFor v S)
+    (m : IsReaching v.rows v.lists (map prefix_of v.rows) T p source place id old late gone) (differ : Differ (changes.Route p source ∷ []) S T) (after : IsSound T) (apart : AreInterned v.lists) (put : IsPut v.rows mid v.lists later p id old (paths_at p source T.routes) own late) → own.source ≡ source
+    → IsSettled v S T (λ paths. holders T paths + gone_users gone paths) p ((source, put.replaced.new_id) ∷ m.rest) put.replaced.new_id (paths_at p source T.routes) own late None mid later
+settled v mid later S T p source place id old own None gone k m differ after apart put is = settled_none v mid later S T p source place id old own gone k m differ after apart put is
+settled v mid later S T p source place id old own (Some g) gone k m differ after apart put is = settled_late v mid later S T p source place id old own g gone k m differ after apart put is
+
+-- a list that is still used, or that of the host that goes, keeps its number
+pub settled_stays : (v : Known) (mid : List Row) (later : List PathKept) (S T : Tables) (p : Prefix) (source : FibSource) (place id : ℕ) (old : List Path) (own : Own) (late : Option Late) (gone : Option Last) (k : StandsFor v S)
+    (m : IsReaching v.rows v.lists (map prefix_of v.rows) T p source place id old late gone) (differ : Differ (changes.Route p source ∷ []) S T) (after : IsSound T) (apart : AreInterned v.lists) (put : IsPut v.rows mid v.lists later p id old (paths_at p source T.routes) own late) → own.source ≡ source
+    → (i : ℕ) (list : List Path) → 0 < holders T list + gone_users gone list → content_of v.lists i ≡ Some list → content_of later i ≡ Some list
+settled_stays v mid later S T p source place id old own None gone k m differ after apart put is = stays_none v mid later S T p source place id old own gone k m differ after apart put is
+settled_stays v mid later S T p source place id old own (Some g) gone k m differ after apart put is = stays_late v mid later S T p source place id old own g gone k m differ after apart put is
+
+pub settled_names : (v : Known) (mid : List Row) (later : List PathKept) (S T : Tables) (p : Prefix) (source : FibSource) (place id : ℕ) (old : List Path) (own : Own) (late : Option Late) (gone : Option Last) (k : StandsFor v S)
+    (m : IsReaching v.rows v.lists (map prefix_of v.rows) T p source place id old late gone) (differ : Differ (changes.Route p source ∷ []) S T) (after : IsSound T) (apart : AreInterned v.lists) (put : IsPut v.rows mid v.lists later p id old (paths_at p source T.routes) own late) → own.source ≡ source
+    → map prefix_of mid ≡ late_names v.rows late
+settled_names v mid later S T p source place id old own None gone k m differ after apart put is = none_names v mid later S T p source place id old own gone k m differ after apart put is
+settled_names v mid later S T p source place id old own (Some g) gone k m differ after apart put is = late_rows v mid later S T p source place id old own g gone k m differ after apart put is

@@ -88,7 +88,7 @@ module _ (old new : List Row) (lists later : List PathKept) (place : ℕ) (p : P
         let inside = kept_in gone.0 w.0 n.pairs w.1 away in
         (w.0, inside, same ∙ w.2, (w.3.0, still q.1 w.0 inside w.3.1))
 
-    named_gone : AreNamed new later
+    pub named_gone : AreNamed new later
     named_gone = record {
       pairs = without gone.0 n.pairs;
       counted = counted_given lists later before id content r.given r.apart (count_in n.pairs) (count_in (without gone.0 n.pairs)) n.counted step;

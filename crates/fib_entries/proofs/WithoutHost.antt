@@ -56,7 +56,7 @@ use Rattle.fib_entries.proofs.Using.{once, unit_same, counted_given, given_stays
 use Rattle.fib_entries.proofs.WithHost.{list_hop, no_list, no_source}
 use Rattle.fib_entries.proofs.Withdrawing.{order_at, names_gone, ordered_gone, but_for, row_was}
 
-abbrev is_cover : PathKind → Bool
+abbrev pub is_cover : PathKind → Bool
 is_cover kinds.Cover = true
 is_cover kinds.Drop = false
 is_cover kinds.Local = false
@@ -119,7 +119,7 @@ module _ (v : Known) (S T : Tables) (p : Prefix) (source : FibSource) (place id 
       | inr later ↦ absurd (path_there T after p source r later it m.gone)
     ];
     late_out = λ a c. subst (λ z. (z < 2 ^ 32) × (contains p z ≡ false)) (only_one g.addr a c) (m.last.small, m.last.away);
-    late_alone = λ a c r off there hop. unused_but v S k p source g.addr m.last.row m.last.there m.last.own m.last.alone (λ x d at. (all_own x d at).0) m.last.unhidden r off there (subst (Contains (recursive_hops r)) (sym (only_one g.addr a c)) hop);
+    late_alone = λ a c r off there hop. unused_but v S k p source g.addr m.last.row m.last.there m.last.own m.last.alone (λ x d at other. absurd (other (all_own x d at).0)) m.last.unhidden r off there (subst (Contains (recursive_hops r)) (sym (only_one g.addr a c)) hop);
     late_derived = λ a c x d is. (host_all x d (ap host (only_one g.addr a c) ∙ sym is)).0;
     late_loose = λ a c. subst (λ z. attached_by S z ≡ None) (only_one g.addr a c) loose;
   }

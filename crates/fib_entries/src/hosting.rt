@@ -40,6 +40,9 @@ use std::cmp::Ordering;
 /// The most objects that two entries make.
 pub const MOST_OF_TWO: u32 = 18;
 
+/// And one.
+pub const MOST_OF_ONE: u32 = 9;
+
 /// A next hop whose host comes with a route, and is attached to no interface.
 #[derive(Clone, Copy)]
 pub struct Late {

@@ -1,20 +1,16 @@
 // What the list of a best route needs so that another can take its place, whatever leads to the prefix.
-ghost use Rattle.std.specs.Prelude.{◌≡◌, ◌⊎◌, ◌<◌, ◌^◌, ◌∷◌, ℕ, true, false, None, IsTrue, IfSome, map, nat_lt, List as Items};
+ghost use Rattle.std.specs.Prelude.{◌≡◌, ◌⊎◌, ◌<◌, ◌^◌, ◌∷◌, ℕ, true, false, None, IsTrue, IfSome, nat_lt, List as Items};
 ghost use Rattle.std.specs.List.{list_all, list_any};
-ghost use Rattle.fib_cover.specs.Covers.{IsAscending};
 ghost use Rattle.fib_resolve.specs.Forwarding.{is_attached_list};
 ghost use Rattle.fib_resolve.specs.Keys.{same_source};
 ghost use Rattle.fib_resolve.specs.Pairs.{attached_of};
 ghost use Rattle.fib_resolve.specs.declared.types.FibSource.{FibSource as FibSourceValue};
-ghost use Rattle.fib_entries.specs.Known.{prefix_of};
-ghost use Rattle.fib_entries.specs.inner.Led.{IsSuited, path_beside};
+ghost use Rattle.fib_entries.specs.inner.Led.{path_beside};
 
 use crate::hosting::is_loose_list;
-use crate::leaf::suits;
 use crate::look::is_same;
 use crate::rows::Row;
 use fib_addr::Prefix;
-use fib_blocks::Blocks;
 use fib_paths::PathListId;
 use fib_resolve::{FibSource, Neighbor, Path, PathKind, keys};
 
@@ -34,14 +30,6 @@ pub fn are_beside(p: Prefix, paths: &[Path]) -> bool
     ensures { result ≡ list_all (path_beside p) paths.now }
 {
     paths.iter().all(|path| is_beside(p, path))
-}
-
-/// Whether the paths are plain, and others have their Hop ends and lead to the entries of their next hops too.
-pub fn is_suited(rows: &Blocks<Row>, p: Prefix, paths: &[Path]) -> bool
-    requires { IsAscending (map prefix_of rows.now) }
-    ensures { IsTrue result → IsSuited rows.now p paths.now }
-{
-    suits(rows, p, paths) && are_beside(p, paths)
 }
 
 /// Whether the list is one path that leaves by an interface, as a path that needs an attached next hop asks.

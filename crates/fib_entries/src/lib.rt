@@ -15,6 +15,7 @@ mod dependants;
 mod edges;
 mod ends;
 mod entries;
+mod few_rows;
 mod follow;
 mod going;
 mod groups;

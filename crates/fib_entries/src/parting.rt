@@ -4,7 +4,6 @@ ghost use Rattle.std.specs.List.{list_all, list_any};
 ghost use Rattle.fib_addr.specs.Prefixes.{Prefix as PrefixValue, host};
 ghost use Rattle.fib_cover.specs.Covers.{IsAscending};
 ghost use Rattle.fib_interned.specs.Interned.{kept_of};
-ghost use Rattle.fib_resolve.specs.Edits.{paths_at};
 ghost use Rattle.fib_resolve.specs.Pairs.{plain, recursive_of};
 ghost use Rattle.fib_resolve.specs.declared.types.FibSource.{FibSource as FibSourceValue};
 ghost use Rattle.fib_resolve.specs.declared.types.FibSource.TheVariants as sources;
@@ -12,6 +11,7 @@ ghost use Rattle.fib_resolve.specs.declared.types.Path.{Path as PathValue};
 ghost use Rattle.fib_resolve.specs.declared.types.PathKind.TheVariants as kinds;
 ghost use Rattle.fib_entries.specs.Known.{content_of, prefix_of, rank_of};
 ghost use Rattle.fib_entries.specs.Rows.{Row as RowValue};
+ghost use Rattle.fib_entries.specs.declared.parting.Last.{Last as LastValue};
 ghost use Rattle.fib_entries.specs.inner.Building.{AreHeld};
 ghost use Rattle.fib_entries.specs.inner.Compare.{AreKept};
 ghost use Rattle.fib_entries.specs.inner.Fields.{AreAmong, has_several};
@@ -94,7 +94,7 @@ fn is_hop(path: &Path, a: Addr) -> bool
 }
 
 /// Whether a path of the list has that next hop.
-fn has_hop(paths: &[Path], a: Addr) -> bool
+pub fn has_hop(paths: &[Path], a: Addr) -> bool
     ensures { result ≡ list_any (path_at a) paths.now }
 {
     paths.iter().any(|path| is_hop(path, a))
@@ -125,18 +125,45 @@ fn is_in_row(rows: &Blocks<Row>, lists: &PathLists, e: Prefix, a: Addr) -> bool
     }
 }
 
-/// Whether one of the lists of these rows has it.
-fn is_hidden(rows: &Blocks<Row>, lists: &PathLists, several: &[Prefix], a: Addr) -> bool
+/// Whether one of the lists of these rows has it, but for that of `p`.
+fn is_hidden(rows: &Blocks<Row>, lists: &PathLists, several: &[Prefix], p: Prefix, a: Addr) -> bool
     requires ascending { IsAscending (map prefix_of rows.now) }
     requires held { AreHeld rows.now lists.now }
-    ensures { result ≡ false → (e : PrefixValue) → Contains several.now e → IsNotIn rows.now lists.now e a }
+    ensures { result ≡ false → (e : PrefixValue) → Contains several.now e → p ≢ e → IsNotIn rows.now lists.now e a }
 {
     for e in several {
-        if is_in_row(rows, lists, *e, a) {
+        if is_in_other(rows, lists, *e, p, a) {
             return true;
         }
     }
     false
+}
+
+/// Whether one of the lists of the prefix's row has it, where that isn't the row of `p`.
+fn is_in_other(rows: &Blocks<Row>, lists: &PathLists, e: Prefix, p: Prefix, a: Addr) -> bool
+    requires ascending { IsAscending (map prefix_of rows.now) }
+    requires held { AreHeld rows.now lists.now }
+    ensures { result ≡ false → p ≢ e → IsNotIn rows.now lists.now e a }
+{
+    if is_same(p, e) {
+        return false;
+    }
+    is_in_row(rows, lists, e, a)
+}
+
+/// Whether one of the row's lists that aren't its best has the next hop that goes, if one does.
+pub fn is_in_rest(r: &Row, lists: &PathLists, gone: &Option<Last>) -> bool
+    requires { AreKept lists.now r.now.pairs }
+    ensures { result ≡ false → (g : LastValue) (first : FibSourceValue × ℕ) (rest : Items (FibSourceValue × ℕ)) (q : FibSourceValue × ℕ) (paths : Items PathValue) → gone.now ≡ Some g → r.now.pairs ≡ first ∷ rest →
+        Contains rest q → content_of lists.now q.1 ≡ Some paths → list_any (path_at g.addr) paths ≡ false }
+{
+    match gone {
+        Some(g) => match r.pairs() {
+            [_, rest @ ..] => is_in_list(lists, rest, g.addr),
+            [] => false,
+        },
+        None => false,
+    }
 }
 
 /// Whether the prefix alone leads to the row's entry.
@@ -195,7 +222,7 @@ pub fn last_for(
     }
     let list = host_list(lists, r)?;
     let cover = order.cover(addr)?;
-    if is_hidden(rows, lists, index.several(), addr) {
+    if is_hidden(rows, lists, index.several(), p, addr) {
         return None;
     }
     Some(Last { addr, cover, list })
@@ -221,7 +248,7 @@ fn both_moved(
 }
 
 /// The rank of the prefix's row; 0 where there is none.
-fn rank(rows: &Blocks<Row>, e: Prefix) -> u32
+pub fn rank(rows: &Blocks<Row>, e: Prefix) -> u32
     requires { IsAscending (map prefix_of rows.now) }
     ensures { result ≡ rank_of rows.now e }
 {
@@ -247,7 +274,7 @@ fn withdraw_host(rows: &mut Blocks<Row>, lists: &mut PathLists, at: usize, g: &L
 }
 
 /// The host's row goes, and how many objects go with it. Takes no memory.
-fn part(rows: &mut Blocks<Row>, lists: &mut PathLists, g: &Last) -> u32
+pub fn part(rows: &mut Blocks<Row>, lists: &mut PathLists, g: &Last) -> u32
     requires ascending { IsAscending (map prefix_of rows.old) }
     requires there { Contains (map prefix_of rows.old) (host g.now.addr) }
     requires kept { IsSome (kept_of lists.old g.now.list) }

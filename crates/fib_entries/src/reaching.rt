@@ -1,5 +1,5 @@
-// The list of a prefix's best route replaced by another where cycles may lead through it, and a host may come with it.
-ghost use Rattle.std.specs.Prelude.{◌≡◌, ◌≢◌, ◌<◌, ◌≤◌, ◌^◌, ◌-◌, ◌++◌, ◌∷◌, [], true, false, None, IsSome, IsTrue, IsFalse, IfOk, IfSome, OnErr, OnOk, Some, Contains, map, slice_get, length, List as Items};
+// The list of a prefix's best route replaced by another where cycles may lead through it, and a host may come with it and another go.
+ghost use Rattle.std.specs.Prelude.{◌≡◌, ◌≢◌, ◌<◌, ◌≤◌, ◌^◌, ◌-◌, ◌++◌, ◌∷◌, [], true, false, None, IsSome, IsTrue, IsFalse, IfOk, IfSome, OnErr, OnOk, Some, Contains, map, List as Items};
 ghost use Rattle.std.specs.List.{list_all, list_any};
 ghost use Rattle.fib_cover.specs.Covers.{IsAscending};
 ghost use Rattle.fib_addr.specs.Prefixes.{Prefix as PrefixValue, host, same_prefix};
@@ -10,21 +10,25 @@ ghost use Rattle.fib_resolve.specs.Edits.{paths_at};
 ghost use Rattle.fib_resolve.specs.declared.types.Path.{Path as PathValue};
 ghost use Rattle.fib_entries.specs.Known.{prefix_of, rank_of};
 ghost use Rattle.fib_entries.specs.inner.Building.{AreHeld};
+ghost use Rattle.fib_entries.specs.inner.Fields.{AreAmong, has_several};
 ghost use Rattle.fib_entries.specs.inner.Hosting.{IsComing};
 ghost use Rattle.fib_entries.specs.inner.Leaf.{goal_of, is_plain};
-ghost use Rattle.fib_entries.specs.inner.Led.{IsReaching, IsSuited, path_beside, shared_late};
+ghost use Rattle.fib_entries.specs.inner.Led.{IsReaching, but_hops, has_hop, path_beside, shared_gone, shared_late};
 ghost use Rattle.fib_entries.specs.inner.Looping.{AreRelooped};
+ghost use Rattle.fib_entries.specs.declared.parting.Last.{Last as LastValue};
 ghost use Rattle.fib_entries.specs.inner.Raising.{moved_from, raised_prefix};
-ghost use Rattle.fib_entries.specs.inner.Reaching.{AreBelow, HasCover, HasPairs, IsBestAt, IsCoverStill, IsExchanged, IsFitLate, HasReached, IsLateBelow, IsPut, IsUnseen, late_hosts, late_moved, IsRisenKept, kept_goal, kind_loops, late_list, looped_mark, looped_own};
+ghost use Rattle.fib_entries.specs.inner.Reaching.{AreBelow, HasCover, HasPairs, IsBestAt, IsCoverStill, IsExchanged, IsFitGone, IsFitLate, HasReached, IsLateBelow, IsOut, IsPut, IsUnseen, gone_hosts, gone_moved, late_hosts, late_moved, IsRisenKept, kept_goal, kind_loops, looped_mark, looped_own, turned_hosts};
 
 use crate::change::{Target, copied};
 use crate::changes::{Followed, Moved, Touched};
 use crate::coming::room;
 use crate::hosting::{Late, greater, late_for, list_host, put_host, take_host};
+use crate::index::Index;
 use crate::leaf::{are_plain, are_shared, bits, is_none, is_written, plain_mark, rank_to};
-use crate::led::{are_beside, are_small, best_list, is_quiet, is_suited};
+use crate::led::{are_beside, are_small, best_list, is_quiet};
 use crate::look::{is_same, place_of};
 use crate::looping::Loops;
+use crate::parting::{Last, has_hop, is_in_rest, last_for, part, rank};
 use crate::raising::{Raised, moved_by, raise, set_ranks};
 use crate::relooping::{Relooped, reloop};
 use crate::replace::{Own, Swap, replace};
@@ -37,23 +41,30 @@ use fib_paths::{PathListId, PathLists};
 use fib_resolve::{Aim, FibSource, Marked, Path, PathKind, Tables};
 use std::alloc::{AllocError, Global};
 
-/// What comes with a list: what the row gets, the host that comes, the ranks that rise, what the marks of rows become to which the prefix
-/// leads, and those of these that are touched.
+/// The next hop whose host comes with a list, if one does, and the one whose host goes with the list before.
+#[derive(Clone, Copy)]
+pub struct Turned {
+    pub late: Option<Late>,
+    pub gone: Option<Last>,
+}
+
+/// What comes with a list: what the row gets, the hosts that come and go, the ranks that rise, what the marks of rows become to which the
+/// prefix leads, and those of these that are touched.
 #[derive(Drop)]
 pub struct Course {
     pub own: Own,
-    pub late: Option<Late>,
+    pub turned: Turned,
     pub raised: List<Raised>,
     pub reloopings: Vec<Relooped>,
     pub again: List<Prefix>,
 }
 
-/// The place of a row whose best list is replaced, that list's number, and the next hop whose host comes with the other, if one does.
+/// The place of a row whose best list is replaced, that list's number, and the next hops whose hosts come and go with it.
 #[derive(Clone, Copy)]
 pub struct Spot {
     pub place: usize,
     pub id: PathListId,
-    pub late: Option<Late>,
+    pub turned: Turned,
 }
 
 /// The place of the prefix's row and the number of its best list, where that is of that source.
@@ -82,13 +93,56 @@ fn late_of(
 ) -> Option<Option<Late>>
     requires ascending { IsAscending (map prefix_of rows.now) }
     requires held { AreHeld rows.now lists.now }
-    ensures { IfSome result (λ x. shared_late rows.now lists.now order.now p (late_list x) new.now) }
+    ensures { IfSome result (λ x. shared_late rows.now lists.now order.now p x new.now) }
 {
     if are_shared(rows, p, new) {
         return Some(None);
     }
     let late = late_for(rows, lists, order, p, new)?;
     Some(Some(late))
+}
+
+/// The next hop of the list whose host goes with it, where there is one. None where others don't share the list's next hops but for one that
+/// can go.
+fn gone_of(
+    rows: &Blocks<Row>,
+    lists: &PathLists,
+    order: &PrefixSet,
+    index: &Index,
+    p: Prefix,
+    old: &[Path],
+) -> Option<Option<Last>>
+    requires ascending { IsAscending (map prefix_of rows.now) }
+    requires held { AreHeld rows.now lists.now }
+    requires several { AreAmong has_several rows.now index.now.several }
+    ensures { IfSome result (λ x. shared_gone rows.now lists.now order.now p x old.now) }
+{
+    if are_shared(rows, p, old) {
+        return Some(None);
+    }
+    let last = last_for(rows, lists, order, index, p, old)?;
+    Some(Some(last))
+}
+
+/// Whether the path's next hop is one of that list's.
+fn is_kept(others: &[Path], path: &Path) -> bool
+    ensures { result ≡ has_hop others.now path.now.kind }
+{
+    match path.kind {
+        PathKind::Recursive(a) => has_hop(others, a),
+        _ => false,
+    }
+}
+
+/// The paths whose next hops the other list doesn't have.
+fn but_hops(alloc: Global, others: &[Path], paths: &[Path]) -> Result<Vec<Path>, AllocError>
+    ensures { IfOk result (λ v. v.items ≡ but_hops others.now paths.now) }
+{
+    paths
+        .iter()
+        .copied()
+        .filter(|path| !is_kept(others, path))
+        .collect(alloc)
 }
 
 /// Whether the paths are plain, and end elsewhere than at the prefix's own host.
@@ -98,42 +152,57 @@ fn are_fit(p: Prefix, paths: &[Path]) -> bool
     are_plain(paths) && are_beside(p, paths)
 }
 
-/// The place of the prefix's row and the number of its best list, where the change of that list makes another entry of the prefix alone and
-/// of the host of a late next hop.
+/// The place of the prefix's row and the number of its best list, where the change of that list makes another entry of the prefix alone, of
+/// the host of a late next hop, and of that of a last one. Next hops of both lists stay, whoever else has them.
 pub fn reaching(
+    alloc: Global,
     rows: &Blocks<Row>,
     lists: &PathLists,
     order: &PrefixSet,
+    index: &Index,
     to: &Target<'_>,
-) -> Option<Spot>
+) -> Result<Option<Spot>, AllocError>
     requires ascending { IsAscending (map prefix_of rows.now) }
     requires held { AreHeld rows.now lists.now }
+    requires several { AreAmong has_several rows.now index.now.several }
     requires list { to.now.new.now ≡ paths_at to.now.prefix to.now.source to.now.tables.now.routes }
-    ensures { IfSome result (λ x. (old : Items PathValue) × IsReaching rows.now lists.now order.now to.now.tables.now to.now.prefix to.now.source x.place x.id old (late_list x.late)) }
+    ensures { IfOk result (λ o. IfSome o (λ x. (old : Items PathValue) × IsReaching rows.now lists.now order.now to.now.tables.now to.now.prefix to.now.source x.place x.id old x.turned.late x.turned.gone)) }
 {
-    let at = best_place(rows, to.prefix, to.source)?;
+    let Some(at) = best_place(rows, to.prefix, to.source) else {
+        return Ok(None);
+    };
     let old = lists.content(at.1);
     if is_none(to.new) {
-        return None;
+        return Ok(None);
     }
     if !are_small(to.tables.neighbors.as_slice()) {
-        return None;
+        return Ok(None);
     }
     if !is_quiet(to.prefix, old, to.new) {
-        return None;
+        return Ok(None);
     }
-    if !is_suited(rows, to.prefix, old) {
-        return None;
+    if !are_fit(to.prefix, old) {
+        return Ok(None);
     }
     if !are_fit(to.prefix, to.new) {
-        return None;
+        return Ok(None);
     }
-    let late = late_of(rows, lists, order, to.prefix, to.new)?;
-    Some(Spot {
+    let fresh = but_hops(alloc, old, to.new)?;
+    let Some(late) = late_of(rows, lists, order, to.prefix, fresh.as_slice()) else {
+        return Ok(None);
+    };
+    let stale = but_hops(alloc, to.new, old)?;
+    let Some(gone) = gone_of(rows, lists, order, index, to.prefix, stale.as_slice()) else {
+        return Ok(None);
+    };
+    if is_in_rest(&rows[at.0], lists, &gone) {
+        return Ok(None);
+    }
+    Ok(Some(Spot {
         place: at.0,
         id: at.1,
-        late,
-    })
+        turned: Turned { late, gone },
+    }))
 }
 
 /// Whether the path is looped, where these edges are on cycles.
@@ -282,7 +351,7 @@ fn keep_to_one(loops: &Loops, p: Prefix, paths: &[Path], raised: &[Raised]) -> b
 }
 
 /// Whether that prefix is one of these.
-fn is_raised(raised: &[Raised], e: Prefix) -> bool
+pub fn is_raised(raised: &[Raised], e: Prefix) -> bool
     ensures { result ≡ list_any (λ x. same_prefix e x.prefix) raised.now }
 {
     raised.iter().any(|x| is_same(e, x.prefix))
@@ -429,35 +498,70 @@ pub fn put(
     }
 }
 
-fn touched_first(alloc: Global, p: Prefix, late: &Option<Late>) -> Result<Vec<Prefix>, AllocError>
-    ensures { IfOk result (λ v. v.items ≡ p ∷ late_hosts late.now) }
+/// The host that goes leaves its row, where there is one, and how many objects go with it. Takes no memory.
+fn leave_gone(rows: &mut Blocks<Row>, lists: &mut PathLists, gone: &Option<Last>) -> u32
+    requires ascending { IsAscending (map prefix_of rows.old) }
+    requires there { (g : LastValue) → gone.now ≡ Some g → Contains (map prefix_of rows.old) (host g.addr) }
+    requires kept { (g : LastValue) → gone.now ≡ Some g → IsSome (kept_of lists.old g.list) }
+    ensures out { IsOut gone.now rows.old rows.new lists.old lists.new result }
+    ensures few { result ≤ 9 }
 {
-    let mut out = Vec::new(alloc);
-    out.push(p)?;
-    match late {
-        Some(g) => {
-            out.push(Prefix::host(g.addr))?;
-            Ok(out)
-        }
-        None => Ok(out),
+    match gone {
+        Some(g) => part(rows, lists, g),
+        None => 0,
     }
 }
 
-/// The prefix, the host that comes, and those beside.
+/// The prefix, the host that comes, and the one that goes.
+fn touched_first(alloc: Global, p: Prefix, turned: &Turned) -> Result<Vec<Prefix>, AllocError>
+    ensures { IfOk result (λ v. v.items ≡ p ∷ turned_hosts turned.now.late turned.now.gone) }
+{
+    let mut out = Vec::new(alloc);
+    out.push(p)?;
+    put_late_host(&mut out, &turned.late)?;
+    put_gone_host(&mut out, &turned.gone)?;
+    Ok(out)
+}
+
+fn put_late_host(out: &mut Vec<Prefix>, late: &Option<Late>) -> Result<(), AllocError>
+    ensures { OnOk result (out.new.items ≡ out.old.items ++ late_hosts late.now) }
+{
+    match late {
+        Some(g) => {
+            out.push(Prefix::host(g.addr))?;
+            Ok(())
+        }
+        None => Ok(()),
+    }
+}
+
+fn put_gone_host(out: &mut Vec<Prefix>, gone: &Option<Last>) -> Result<(), AllocError>
+    ensures { OnOk result (out.new.items ≡ out.old.items ++ gone_hosts gone.now) }
+{
+    match gone {
+        Some(g) => {
+            out.push(Prefix::host(g.addr))?;
+            Ok(())
+        }
+        None => Ok(()),
+    }
+}
+
+/// The prefix, the hosts that come and go, and those beside.
 fn touched_with(
     alloc: Global,
     p: Prefix,
-    late: &Option<Late>,
+    turned: &Turned,
     again: &[Prefix],
 ) -> Result<List<Prefix>, AllocError>
-    ensures { IfOk result (λ v. v ≡ p ∷ late_hosts late.now ++ again.now) }
+    ensures { IfOk result (λ v. v ≡ p ∷ turned_hosts turned.now.late turned.now.gone ++ again.now) }
 {
-    let mut out = touched_first(alloc, p, late)?;
+    let mut out = touched_first(alloc, p, turned)?;
     out.extend_from_slice(again)?;
     Ok(List::from_vec(out))
 }
 
-fn moved_first(alloc: Global, late: &Option<Late>) -> Result<Vec<Moved>, AllocError>
+fn late_moved(alloc: Global, late: &Option<Late>) -> Result<Vec<Moved>, AllocError>
     ensures { IfOk result (λ v. v.items ≡ late_moved late.now) }
 {
     let mut out = Vec::new(alloc);
@@ -473,18 +577,40 @@ fn moved_first(alloc: Global, late: &Option<Late>) -> Result<Vec<Moved>, AllocEr
     }
 }
 
-/// The host that comes, which had no rank, and those that rise.
+fn put_gone_moved(
+    out: &mut Vec<Moved>,
+    rows: &Blocks<Row>,
+    gone: &Option<Last>,
+) -> Result<(), AllocError>
+    requires { IsAscending (map prefix_of rows.now) }
+    ensures { OnOk result (out.new.items ≡ out.old.items ++ gone_moved rows.now gone.now) }
+{
+    match gone {
+        Some(g) => {
+            let prefix = Prefix::host(g.addr);
+            out.push(Moved {
+                prefix,
+                rank: rank(rows, prefix),
+            })?;
+            Ok(())
+        }
+        None => Ok(()),
+    }
+}
+
+/// The host that comes, which had no rank, the one that goes, and those that rise.
 fn moved_with(
     alloc: Global,
     rows: &Blocks<Row>,
-    late: &Option<Late>,
+    turned: &Turned,
     raised: &[Raised],
 ) -> Result<List<Moved>, AllocError>
     requires { IsAscending (map prefix_of rows.now) }
-    ensures { IfOk result (λ v. v ≡ late_moved late.now ++ map (moved_from rows.now) raised.now) }
+    ensures { IfOk result (λ v. v ≡ (late_moved turned.now.late ++ gone_moved rows.now turned.now.gone) ++ map (moved_from rows.now) raised.now) }
 {
     let rest = moved_by(alloc, rows, raised)?;
-    let mut out = moved_first(alloc, late)?;
+    let mut out = late_moved(alloc, &turned.late)?;
+    put_gone_moved(&mut out, rows, &turned.gone)?;
     out.extend_from_slice(rest.as_slice())?;
     Ok(List::from_vec(out))
 }
@@ -494,24 +620,24 @@ fn told(
     alloc: Global,
     rows: &Blocks<Row>,
     p: Prefix,
-    late: &Option<Late>,
+    turned: &Turned,
     again: &[Prefix],
     raised: &[Raised],
 ) -> Result<Followed, AllocError>
     requires { IsAscending (map prefix_of rows.now) }
-    ensures touched { IfOk result (λ f. f.touched ≡ p ∷ late_hosts late.now ++ again.now) }
-    ensures moved { IfOk result (λ f. f.moved ≡ late_moved late.now ++ map (moved_from rows.now) raised.now) }
+    ensures touched { IfOk result (λ f. f.touched ≡ p ∷ turned_hosts turned.now.late turned.now.gone ++ again.now) }
+    ensures moved { IfOk result (λ f. f.moved ≡ (late_moved turned.now.late ++ gone_moved rows.now turned.now.gone) ++ map (moved_from rows.now) raised.now) }
 {
-    let touched = touched_with(alloc, p, late, again)?;
-    let moved = moved_with(alloc, rows, late, raised)?;
+    let touched = touched_with(alloc, p, turned, again)?;
+    let moved = moved_with(alloc, rows, turned, raised)?;
     Ok(Followed {
         touched: Touched::of(touched),
         moved,
     })
 }
 
-/// Replaces the list of the prefix's row, whose number that is, with what comes of it: the host, marks of loops and ranks. After want of
-/// memory all is as before.
+/// Replaces the list of the prefix's row, whose number that is, with what comes of it: the hosts, marks of loops and ranks. Tells it, and how
+/// many objects went with the host that goes. After want of memory all is as before.
 pub fn turn_reached(
     alloc: Global,
     rows: &mut Blocks<Row>,
@@ -519,22 +645,24 @@ pub fn turn_reached(
     id: PathListId,
     to: &Target<'_>,
     course: Course,
-) -> Result<Followed, AllocError>
+) -> Result<(Followed, u32), AllocError>
     requires ascending { IsAscending (map prefix_of rows.old) }
     requires row { HasPairs rows.old to.now.prefix }
     requires kept { IsSome (kept_of lists.old id) }
     requires room { IsUsedLess lists.old to.now.new.now (2 ^ 32 - 1) }
-    requires late { IsFitLate rows.old lists.old to.now.prefix id course.late }
+    requires late { IsFitLate rows.old lists.old to.now.prefix id course.turned.late }
+    requires gone { IsFitGone rows.old lists.old id course.turned.gone }
     requires once { AllDiffer (map raised_prefix course.raised) }
-    requires relooped { (seen : Items PrefixValue) × (edges : Items (PrefixValue × PrefixValue)) × AreRelooped rows.old seen to.now.prefix edges course.reloopings.items × IsUnseen course.late seen }
-    ensures done { IfOk result (λ f. (seen : Items PrefixValue) (edges : Items (PrefixValue × PrefixValue)) → AreRelooped rows.old seen to.now.prefix edges course.reloopings.items → IsUnseen course.late seen →
-        HasReached rows.old rows.new lists.old lists.new to.now.prefix id to.now.new.now course.own course.late seen edges course.again course.raised f) }
+    requires relooped { (seen : Items PrefixValue) × (edges : Items (PrefixValue × PrefixValue)) × AreRelooped rows.old seen to.now.prefix edges course.reloopings.items × IsUnseen course.turned.late seen }
+    ensures done { IfOk result (λ x. (seen : Items PrefixValue) (edges : Items (PrefixValue × PrefixValue)) → AreRelooped rows.old seen to.now.prefix edges course.reloopings.items → IsUnseen course.turned.late seen →
+        HasReached rows.old rows.new lists.old lists.new to.now.prefix id to.now.new.now course.own course.turned.late course.turned.gone seen edges course.again course.raised x.1 x.0) }
+    ensures few { IfOk result (λ x. x.1 ≤ 9) }
     ensures rows { OnErr result (rows.new ≡ rows.old) }
     ensures lists { OnErr result (lists.new ≡ lists.old) }
 {
     let Course {
         own,
-        late,
+        turned,
         raised,
         reloopings,
         again,
@@ -544,7 +672,7 @@ pub fn turn_reached(
         alloc,
         rows,
         to.prefix,
-        &late,
+        &turned,
         again.as_slice(),
         raised.as_slice(),
     )?;
@@ -555,8 +683,9 @@ pub fn turn_reached(
         old: old.as_slice(),
         new: to.new,
     };
-    put(alloc, rows, lists, &swap, own, &late)?;
+    put(alloc, rows, lists, &swap, own, &turned.late)?;
+    let made = leave_gone(rows, lists, &turned.gone);
     reloop(rows, reloopings);
     set_ranks(rows, raised.as_slice());
-    Ok(followed)
+    Ok((followed, made))
 }

@@ -1,5 +1,5 @@
 -- A leaf that goes with its one route, and with it the host of a next hop that no other route has. No contract of a public call rests on this.
-use Rattle.std.specs.Prelude.{◌≡◌, ◌⊎◌, ◌+◌, ◌<◌, ◌^◌, ◌==◌, ℕ, Bool, true, false, List, [], ◌∷◌, filter_map, Contains, Some, slice_get}
+use Rattle.std.specs.Prelude.{◌≡◌, ◌≢◌, ◌⊎◌, ◌+◌, ◌<◌, ◌^◌, ◌==◌, ℕ, Bool, true, false, List, [], ◌∷◌, filter_map, Contains, Some, slice_get}
 use Rattle.std.specs.List.{list_all, list_any}
 use Rattle.fib_addr.specs.Prefixes.{Prefix, IsPrefix, contains, host}
 use Rattle.fib_cover.specs.Covers.{IsLongestMatch}
@@ -38,8 +38,8 @@ path_at a q = hop_at a q.kind
 abbrev pub IsNotIn : List Row → List PathKept → Prefix → ℕ → Type 0
 IsNotIn rows lists e a = (r : Row) (q : FibSource × ℕ) (paths : List Path) → Contains rows r → r.prefix ≡ e → Contains r.pairs q → content_of lists q.1 ≡ Some paths → list_any (path_at a) paths ≡ false
 
--- the host's row has the one pair of a next hop that its cover doesn't attach, p alone leads to it, and no row with several lists has it in
--- one of them, as that of a route that isn't chosen would
+-- the host's row has the one pair of a next hop that its cover doesn't attach, p alone leads to it, and no other row with several lists has it
+-- in one of them, as that of a route that isn't chosen would
 pub record IsLast (rows : List Row) (lists : List PathKept) (order : List Prefix) (p : Prefix) (g : Last) : Type 0 where
   pub row : Row
   pub there : Contains rows row
@@ -50,7 +50,7 @@ pub record IsLast (rows : List Row) (lists : List PathKept) (order : List Prefix
   pub small : g.addr < 2 ^ 32
   pub away : contains p g.addr ≡ false
   pub longest : IsLongestMatch order 32 g.addr (Some g.cover)
-  pub unhidden : (r : Row) → Contains rows r → has_several r ≡ true → IsNotIn rows lists r.prefix g.addr
+  pub unhidden : (r : Row) → Contains rows r → has_several r ≡ true → p ≢ r.prefix → IsNotIn rows lists r.prefix g.addr
 
 -- the row at that place is a leaf's, with the one list of that source, the route is gone, and with it goes the host of one of its next hops
 pub record IsParting (rows : List Row) (lists : List PathKept) (order : List Prefix) (T : Tables) (p : Prefix) (source : FibSource) (place id : ℕ) (old : List Path) (g : Last) : Type 0 where

@@ -1,11 +1,12 @@
--- The change of the best route's list of a prefix that others may lead to, on cycles or not, with which the host of a next hop may come. No
--- contract of a public call rests on this.
-use Rattle.std.specs.Prelude.{◌≡◌, ◌≢◌, length, ◌↔◌, ◌⊎◌, ◌<◌, ◌≤◌, ◌++◌, ◌&&◌, ℕ, Bool, true, false, List, [], ◌∷◌, map, Contains, Option, Some, None, slice_get, not}
-use Rattle.std.specs.List.{list_any}
+-- The change of the best route's list of a prefix that others may lead to, on cycles or not, with which the host of a next hop may come and
+-- that of another go. No contract of a public call rests on this.
+use Rattle.std.specs.Prelude.{◌≡◌, ◌≢◌, length, ◌↔◌, ◌⊎◌, ◌<◌, ◌≤◌, ◌++◌, ◌&&◌, ℕ, Bool, true, false, List, [], ◌∷◌, map, Contains, IsSome, Option, Some, None, slice_get, not}
+use Rattle.std.specs.List.{insert, list_any}
 use Rattle.std.specs.Set.{is_member}
 use Rattle.fib_reach.specs.Walks.{AllDiffer}
 use Rattle.fib_addr.specs.Prefixes.{Prefix, IsPrefix, host, same_prefix}
 use Rattle.fib_cover.specs.Covers.{IsAscending}
+use Rattle.fib_interned.specs.Interned.{kept_of}
 use Rattle.fib_resolve.specs.Keys.{same_source, source_rank}
 use Rattle.fib_resolve.specs.Loops.{targets}
 use Rattle.fib_resolve.specs.Pairs.{plain}
@@ -22,19 +23,17 @@ use Rattle.fib_entries.specs.inner.Hosting.{IsComing, IsHosted, IsListed, host_o
 use Rattle.fib_entries.specs.inner.Leaf.{AreReplaced, goal_of, plain_aim, plain_counts}
 use Rattle.fib_entries.specs.inner.Looping.{has_ends, relooped_in}
 use Rattle.fib_entries.specs.inner.Part.{IsButForPart, in_part}
+use Rattle.fib_entries.specs.inner.Parting.{IsParted}
 use Rattle.fib_entries.specs.inner.Raising.{AreBack, FallBut, moved_from, raised_of, raised_prefix, raised_row, rank_with}
 use Rattle.fib_entries.specs.Rows.{Row}
 use Rattle.fib_entries.specs.declared.changes.Followed.{Followed}
 use Rattle.fib_entries.specs.declared.changes.Moved.{Moved}
 use Rattle.fib_entries.specs.declared.hosting.Late.{Late}
+use Rattle.fib_entries.specs.declared.parting.Last.{Last}
 use Rattle.fib_entries.specs.declared.raising.Raised.{Raised}
 use Rattle.fib_entries.specs.declared.replace.Own.{Own}
 
 -- the host that comes, if there is one
-abbrev pub late_list : Option Late → List Late
-late_list None = []
-late_list (Some g) = g ∷ []
-
 abbrev pub late_addrs : Option Late → List ℕ
 late_addrs None = []
 late_addrs (Some g) = g.addr ∷ []
@@ -43,10 +42,40 @@ abbrev pub late_hosts : Option Late → List Prefix
 late_hosts None = []
 late_hosts (Some g) = host g.addr ∷ []
 
--- it had no rank
+-- and the one that goes
+abbrev pub gone_addrs : Option Last → List ℕ
+gone_addrs None = []
+gone_addrs (Some g) = g.addr ∷ []
+
+abbrev pub gone_hosts : Option Last → List Prefix
+gone_hosts None = []
+gone_hosts (Some g) = host g.addr ∷ []
+
+abbrev pub gone_host : Option Last → Option Prefix
+gone_host None = None
+gone_host (Some g) = Some (host g.addr)
+
+-- both
+abbrev pub turned_addrs : Option Late → Option Last → List ℕ
+turned_addrs late gone = late_addrs late ++ gone_addrs gone
+
+abbrev pub turned_hosts : Option Late → Option Last → List Prefix
+turned_hosts late gone = late_hosts late ++ gone_hosts gone
+
+-- the prefixes of the rows with the host that comes
+abbrev pub late_names : List Row → Option Late → List Prefix
+late_names rows None = map prefix_of rows
+late_names rows (Some g) = insert (map prefix_of rows) g.place (host g.addr)
+
+-- the one had no rank
 abbrev pub late_moved : Option Late → List Moved
 late_moved None = []
 late_moved (Some g) = record { prefix = host g.addr; rank = 0 } ∷ []
+
+-- the other had one
+abbrev pub gone_moved : List Row → Option Last → List Moved
+gone_moved rows None = []
+gone_moved rows (Some g) = record { prefix = host g.addr; rank = rank_of rows (host g.addr) } ∷ []
 
 -- whether a path of the prefix is looped, where these edges are on cycles
 abbrev pub kind_loops : List (Prefix × Prefix) → Prefix → PathKind → Bool
@@ -102,23 +131,32 @@ pub record IsPut (old mid : List Row) (lists later : List PathKept) (p : Prefix)
   pub replaced : AreReplaced start low lists between place p id before paths own
   pub ended : IsEnded late low mid between later
 
--- that, then the rows of these prefixes got the marks of the loops, and ranks rose; what is told are the prefix, the host that came and those
--- of which a path is looped that wasn't, and the ranks that are others
-pub record HasReached (old new : List Row) (lists later : List PathKept) (p : Prefix) (id : ℕ) (paths : List Path) (own : Own) (late : Option Late) (seen : List Prefix) (edges : List (Prefix × Prefix)) (again : List Prefix) (raised : List Raised) (f : Followed) : Type 0 where
+-- then the other host went, where one does, with as many objects
+abbrev pub IsOut : Option Last → List Row → List Row → List PathKept → List PathKept → ℕ → Type 0
+IsOut None mid out between later made = (out ≡ mid) × (later ≡ between) × (made ≡ 0)
+IsOut (Some g) mid out between later made = IsParted mid out between later g made
+
+-- all that, then the rows of these prefixes got the marks of the loops, and ranks rose; what is told are the prefix, the hosts that came and
+-- went and those of which a path is looped that wasn't, and the ranks that are others
+pub record HasReached (old new : List Row) (lists later : List PathKept) (p : Prefix) (id : ℕ) (paths : List Path) (own : Own) (late : Option Late) (gone : Option Last) (seen : List Prefix) (edges : List (Prefix × Prefix)) (again : List Prefix) (raised : List Raised) (made : ℕ) (f : Followed) : Type 0 where
   pub before : List Path
   pub content : content_of lists id ≡ Some before
   pub mid : List Row
-  pub put : IsPut old mid lists later p id before paths own late
-  pub ranked : new ≡ map (raised_row raised) (map (relooped_in seen p edges) mid)
-  pub touched : f.touched ≡ p ∷ late_hosts late ++ again
-  pub moved : f.moved ≡ late_moved late ++ map (moved_from old) raised
+  pub between : List PathKept
+  pub put : IsPut old mid lists between p id before paths own late
+  pub out : List Row
+  pub parted : IsOut gone mid out between later made
+  pub ranked : new ≡ map (raised_row raised) (map (relooped_in seen p edges) out)
+  pub touched : f.touched ≡ p ∷ turned_hosts late gone ++ again
+  pub moved : f.moved ≡ (late_moved late ++ gone_moved old gone) ++ map (moved_from old) raised
 
--- what the rows and lists are after the list was replaced and the host came: as the tables have it, but for loops and ranks
-pub record IsSettled (v : Known) (S T : Tables) (p : Prefix) (held : List (FibSource × ℕ)) (new_id : ℕ) (paths : List Path) (own : Own) (late : Option Late) (mid : List Row) (later : List PathKept) : Type 0 where
+-- what the rows and lists are after the list was replaced, the host came and the other went: as the tables have it, but for loops and ranks,
+-- and with so many users of lists
+pub record IsSettled (v : Known) (S T : Tables) (users : List Path → ℕ) (p : Prefix) (held : List (FibSource × ℕ)) (new_id : ℕ) (paths : List Path) (own : Own) (late : Option Late) (gone : Option Last) (mid : List Row) (later : List PathKept) : Type 0 where
   pub ordered : IsAscending (map prefix_of mid)
-  pub names : (e : Prefix) → Contains (map prefix_of mid) e ↔ Contains (map prefix_of v.rows) e ⊎ Contains (late_hosts late) e
-  pub others : (s : Row) → Contains mid s → in_part p (late_addrs late) s.prefix ≡ false
-      → (r : Row) × Contains v.rows r × IsButForPart (in_part p (late_addrs late)) r s × ((d : Prefix) → in_part p (late_addrs late) d ≡ true → Contains s.dependants d ↔ Contains (targets T d) s.prefix)
+  pub names : (e : Prefix) → Contains (map prefix_of mid) e ↔ (Contains (map prefix_of v.rows) e × (Contains (gone_hosts gone) e → ⊥)) ⊎ Contains (late_hosts late) e
+  pub others : (s : Row) → Contains mid s → in_part p (turned_addrs late gone) s.prefix ≡ false
+      → (r : Row) × Contains v.rows r × IsButForPart (in_part p (turned_addrs late gone)) r s × ((d : Prefix) → in_part p (turned_addrs late gone) d ≡ true → Contains s.dependants d ↔ Contains (targets T d) s.prefix)
   pub pairs : (s : Row) → Contains mid s → p ≡ s.prefix → s.pairs ≡ held
   pub looped : (s : Row) → Contains mid s → p ≡ s.prefix → s.looped ≡ own.looped
   pub met : (s : Row) → Contains mid s → p ≡ s.prefix → s.met ≡ own.met
@@ -129,7 +167,7 @@ pub record IsSettled (v : Known) (S T : Tables) (p : Prefix) (held : List (FibSo
   pub hosted : (g : Late) (s : Row) → late ≡ Some g → Contains mid s → host g.addr ≡ s.prefix → (c : Prefix)
       × ((s.pairs ≡ (sources.RecursiveResolution, g.list) ∷ []) × (s.looped ≡ (host_own c g.rank).looped) × (s.met ≡ (host_own c g.rank).met) × (s.marked ≡ (host_own c g.rank).marked) × (s.rank ≡ g.rank) × (targets T (host g.addr) ≡ c ∷ []))
   pub host_led : (g : Late) (s : Row) → late ≡ Some g → Contains mid s → host g.addr ≡ s.prefix → ((d : Prefix) → Contains s.dependants d ↔ Contains (targets T d) (host g.addr)) × AllDiffer s.dependants
-  pub counted : AreCounted later (holders T)
+  pub counted : AreCounted later users
   pub stays : (id : ℕ) (list : List Path) → 0 < holders T list → content_of v.lists id ≡ Some list → content_of later id ≡ Some list
   pub content : content_of later new_id ≡ Some paths
   pub host_content : (g : Late) → late ≡ Some g → content_of later g.list ≡ Some (plain kinds.Cover ∷ [])
@@ -189,6 +227,14 @@ pub record IsExchanged (old new : List Row) (lists later : List PathKept) (p : P
   pub at : slice_get old place ≡ Some row
   pub own_at : row.prefix ≡ p
   pub replaced : AreReplaced old new lists later place p id before paths own
+
+-- the host that goes isn't among those that rise
+abbrev pub IsGoneStill : Option Last → List Raised → Type 0
+IsGoneStill gone raised = (g : Last) → gone ≡ Some g → raised_of raised (host g.addr) ≡ None
+
+-- the host that goes is there, and its list is kept and isn't the one that is given
+abbrev pub IsFitGone : List Row → List PathKept → ℕ → Option Last → Type 0
+IsFitGone rows lists id gone = (g : Last) → gone ≡ Some g → Contains (map prefix_of rows) (host g.addr) × IsSome (kept_of lists g.list) × (id ≢ g.list)
 
 -- the host that comes isn't among these
 abbrev pub IsUnseen : Option Late → List Prefix → Type 0

@@ -26,5 +26,5 @@ returns-clause-last c =
       small = c.in_ok-addr.ensures.small;
       away = sym c.contains.ensures ∙ c.if-contains.false;
       longest = c.in_ok-cover.ensures;
-      unhidden = λ r there several. c.is_hidden.ensures c.if-is_hidden.false r.prefix (subst (λ (l : List Prefix). Contains l r.prefix) (sym c.several.ensures) (c.requires.several r there several));
+      unhidden = λ r there several other. c.is_hidden.ensures c.if-is_hidden.false r.prefix (subst (λ (l : List Prefix). Contains l r.prefix) (sym c.several.ensures) (c.requires.several r there several)) other;
     }
