@@ -1,6 +1,6 @@
 -- What a flag or a MAC that changed makes of marks, and how rows tell that an address is a neighbor.
 use Rattle.std.proofs.Common.{arith, ◌≡◌, ◌≢◌, ℕ, ◌-◌, ◌<◌, ◌≤◌, ◌^◌, Bool, true, false, not, ◌&&◌, ◌||◌, ◌==◌, List, [], ◌∷◌, ◌++◌, map, filter, length, Option, Some, None, ◌⊎◌, inl, inr, refl, sym, ◌∙◌, ap, ap₂, subst, if◌then◌else◌, ◌↔◌}
-use Rattle.std.specs.Prelude.{Contains, find, option_map, flat_map, nat_lt}
+use Rattle.std.specs.Prelude.{Contains, IsSome, find, option_map, flat_map, nat_lt}
 use Rattle.std.specs.List.{AllByRecursion}
 use Rattle.std.proofs.lemmas.Bool.{false≢true}
 use Rattle.std.proofs.lemmas.Bool.Decides.{Decides-eqb}
@@ -29,6 +29,7 @@ use Rattle.fib_resolve.specs.declared.types.Neighbor.{Neighbor}
 use Rattle.fib_resolve.specs.declared.types.Path.{Path}
 use Rattle.fib_resolve.specs.declared.types.PathKind.{PathKind}
 use Rattle.fib_resolve.specs.declared.types.PathKind.TheVariants as kinds
+use Rattle.fib_resolve.specs.declared.types.Route.{Route}
 use Rattle.fib_resolve.specs.declared.types.Tables.{Tables}
 use Rattle.fib_resolve.proofs.OneList.{one_if, one_unless}
 use Rattle.fib_resolve.proofs.PairLaws.{each-all}
@@ -37,12 +38,12 @@ use Rattle.fib_changes.specs.Sources.{HasNeighbor}
 use Rattle.fib_changes.specs.declared.change.Change.{Change}
 use Rattle.fib_changes.specs.declared.change.Change.TheVariants as changes
 use Rattle.fib_changes.proofs.SamePairs.{map_from, Origin, origin, base, neighbor, derived}
-use Rattle.fib_interned.proofs.Finding.{contains_at, find_place, none_some, some_is}
+use Rattle.fib_interned.proofs.Finding.{contains_at, find_place, some_is}
 use Rattle.fib_entries.specs.Known.{Known, prefix_of, StandsFor}
 use Rattle.fib_entries.specs.declared.ends.News.{News}
 use Rattle.fib_entries.specs.declared.ends.News.TheVariants as news
 use Rattle.fib_entries.specs.declared.changes.Followed.{Followed}
-use Rattle.fib_entries.specs.inner.Ends.{IsEndEdit, IsNews, HasNear, end_over, is_mac, has_flag, renewed, is_old, is_old_row}
+use Rattle.fib_entries.specs.inner.Ends.{IsEndEdit, IsNews, HasNear, end_over, has_flag, renewed, is_old, is_old_row}
 use Rattle.fib_entries.specs.inner.Leaf.{IsFollowed}
 use Rattle.fib_entries.proofs.Comparing.{differ_not}
 use Rattle.fib_entries.proofs.Ending.{cover_same, looped_same, met_same}
@@ -84,11 +85,11 @@ and_false : (b c : Bool) → c ≡ false → (b && c) ≡ false
 and_false true c is = is
 and_false false c is = refl
 
-not_other : (o : Option ℕ) → not (same_mac o o) ≡ false
+pub not_other : (o : Option ℕ) → not (same_mac o o) ≡ false
 not_other None = refl
 not_other (Some n) = ap not ((Decides-eqb n n).1 refl)
 
-real_by : (v : Known) (S : Tables) → StandsFor v S → (q : Prefix) → Contains (entries S) q → IsPrefix q
+pub real_by : (v : Known) (S : Tables) → StandsFor v S → (q : Prefix) → Contains (entries S) q → IsPrefix q
 real_by v S k q c = let m = map_from prefix_of v.rows q ((k.entries q).1 c) in subst IsPrefix m.2 (k.rows m.0 m.1).prefix
 
 not_flag : (up b : Bool) (m : Marked) → m.counts ≡ b → not (has_flag up m) ≡ differ b up
@@ -212,14 +213,14 @@ front_not us =
     edges : (a : Address) → AllByRecursion Other (edge_pairs us a)
     edges a = each-flat_map Other (edge_pair us) (edge_addresses a) (each-all (λ y. AllByRecursion Other (edge_pair us y)) (λ y. one_unless Other (is_address us y) _ (λ _. own)) (edge_addresses a))
 
-derived_not : (S : Tables) (a : ℕ) → source_rank (derived_pair S a).source ≢ 4
+pub derived_not : (S : Tables) (a : ℕ) → source_rank (derived_pair S a).source ≢ 4
 unfolding derived_pair
 derived_not S a e = omega (arith, e)
 
 written_not : (source : FibSource) → (source ≡ sources.Api) ⊎ (source ≡ sources.Cli) → source_rank source ≢ 4
 written_not source w e = elim w [ inl is ↦ (let r = ap source_rank is in omega (arith, r, e)) | inr is ↦ (let r = ap source_rank is in omega (arith, r, e)) ]
 
-abbrev link_pair : Neighbor → Pair
+abbrev pub link_pair : Neighbor → Pair
 link_pair n = one (host n.addr) sources.Adjacency (kinds.Hop n.addr n.interface)
 
 link_of : (S : Tables) (n : Neighbor) (x : Pair) → Contains (neighbor_pairs S n) x → link_pair n ≡ x
@@ -231,7 +232,7 @@ link_of S n x c = by (is_interface (attached_by S n.addr) n.interface) c
     by false m = absurd (Contains-nil x m)
 
 -- a neighbor's pair has one
-neighbor_of : (S : Tables) → IsSound S → (x : Pair) → Contains (pairs S) x → x.source ≡ sources.Adjacency → (n : Neighbor) × Contains S.neighbors n × (link_pair n ≡ x)
+pub neighbor_of : (S : Tables) → IsSound S → (x : Pair) → Contains (pairs S) x → x.source ≡ sources.Adjacency → (n : Neighbor) × Contains S.neighbors n × (link_pair n ≡ x)
 neighbor_of S sound x c is = by (origin S x c)
   where
     rank : source_rank x.source ≡ 4
@@ -260,55 +261,44 @@ near_by v S i a k (r, c, own, (q, m, (source, (paths, is, (p, (b, list, kind))))
     let one_path = first_is _ p (ap (λ z. z.paths) n.2 ∙ (some_is x.0.paths paths (sym x.3.1 ∙ is) ∙ list)) in
     (n.0, n.1, hop_is n.0.addr b n.0.interface i (ap (λ z. z.kind) one_path ∙ kind), at)
 
-module _ (v : Known) (S T : Tables) (i a mac : ℕ) (k : StandsFor v S) (after : IsSound T) (d : Differ (changes.Neighbor i a ∷ []) S T) (now : mac_of T i a ≡ Some mac) (near : HasNeighbor S i a) where
+-- a neighbor that has a MAC is one
+pub near_there : (T : Tables) (i a : ℕ) → IsSome (mac_of T i a) → HasNeighbor T i a
+near_there T i a known = by (find (is_neighbor i a) T.neighbors) refl known
+  where
+    by : (o : Option Neighbor) → find (is_neighbor i a) T.neighbors ≡ o → IsSome (option_map (λ n. n.mac) o) → HasNeighbor T i a
+    by None e known = absurd (false≢true known)
+    by (Some n) e known = (let f = find_place (is_neighbor i a) T.neighbors n e in
+        let both = and_both (n.interface == i) (n.addr == a) f.2 in
+        (n, contains_at T.neighbors f.0 n f.1, (Decides-eqb n.interface i).0 both.0, (Decides-eqb n.addr a).0 both.1))
+
+-- one neighbor alone can differ
+module _ (S T : Tables) (i a : ℕ) (d : Differ (changes.Neighbor i a ∷ []) S T) where
   beside : (c : Change) → (changes.Neighbor i a ≡ c → ⊥) → Contains (changes.Neighbor i a ∷ []) c → ⊥
   beside c off m = off (only_one (changes.Neighbor i a) c m)
 
   all_flags : (j : ℕ) → is_up S j ≡ is_up T j
   all_flags j = d.flags j (beside (changes.Flag j) (mac_flag i a j))
 
-  other_macs : (j b : ℕ) → ((j == i) && (b == a)) ≡ false → mac_of S j b ≡ mac_of T j b
+  pub mac_addresses : (x : Address) → Contains S.addresses x ↔ Contains T.addresses x
+  mac_addresses x = d.addresses x (beside (changes.Address x) (mac_address i a x))
+
+  pub mac_routes : (r : Route) → Contains S.routes r ↔ Contains T.routes r
+  mac_routes r = d.routes r (beside (changes.Route r.prefix r.source) (mac_route i a r.prefix r.source))
+
+  pub other_macs : (j b : ℕ) → ((j == i) && (b == a)) ≡ false → mac_of S j b ≡ mac_of T j b
   other_macs j b off = d.neighbors j b (beside (changes.Neighbor j b) (λ e. (let is = mac_is i a j b e in false≢true (sym off ∙ rw ((Decides-eqb j i).1 (sym is.0)) ((Decides-eqb b a).1 (sym is.1))))))
 
-  near_after : HasNeighbor T i a
-  near_after = by (find (is_neighbor i a) T.neighbors) refl
-    where
-      by : (o : Option Neighbor) → find (is_neighbor i a) T.neighbors ≡ o → HasNeighbor T i a
-      by None e = absurd (none_some mac (sym (ap (option_map (λ n. n.mac)) e) ∙ now))
-      by (Some n) e = (let f = find_place (is_neighbor i a) T.neighbors n e in
-          let both = and_both (n.interface == i) (n.addr == a) f.2 in
-          (n, contains_at T.neighbors f.0 n f.1, (Decides-eqb n.interface i).0 both.0, (Decides-eqb n.addr a).0 both.1))
+  pub other_neighbors : (j b : ℕ) → ((j == i) && (b == a)) ≡ false → HasNeighbor S j b ↔ HasNeighbor T j b
+  other_neighbors j b off = (near_half S T j b (other_macs j b off), near_half T S j b (sym (other_macs j b off)))
 
-  neighbors_same : (j b : ℕ) → HasNeighbor S j b ↔ HasNeighbor T j b
-  neighbors_same j b = elim (either ((j == i) && (b == a))) [
-    | inr off ↦ (near_half S T j b (other_macs j b off), near_half T S j b (sym (other_macs j b off)))
-    | inl is ↦ (let both = and_both (j == i) (b == a) is in
-        let at : HasNeighbor T j b = moved T (sym ((Decides-eqb j i).0 both.0)) (sym ((Decides-eqb b a).0 both.1)) near_after in
-        let was : HasNeighbor S j b = moved S (sym ((Decides-eqb j i).0 both.0)) (sym ((Decides-eqb b a).0 both.1)) near in
-        (λ _. at, λ _. was))
-  ]
-    where
-      moved : (U : Tables) → i ≡ j → a ≡ b → HasNeighbor U i a → HasNeighbor U j b
-      moved U e f (n, c, on, at) = (n, c, on ∙ e, at ∙ f)
-
-  mac_edit : IsEndEdit S T
-  mac_edit = record {
-    before = k.sound;
-    after = after;
-    addresses = λ x. d.addresses x (beside (changes.Address x) (mac_address i a x));
-    neighbors = neighbors_same;
-    routes = λ r. d.routes r (beside (changes.Route r.prefix r.source) (mac_route i a r.prefix r.source));
-    real = real_by v S k;
-  }
-
-  module _ (e : Prefix) (p : Path) where
+  module _ (mac : Option ℕ) (now : mac_of T i a ≡ mac) (e : Prefix) (p : Path) where
     counts_same : (j : ℕ) (aim : Aim) → mark_of aim (is_up S j) p ≡ mark_of aim (is_up T j) p
     counts_same j aim = ap (λ b. mark_of aim b p) (all_flags j)
 
-    mac_here : (j b : ℕ) (is : Bool) → ((j == i) && (b == a)) ≡ is → (if is then mark_of (aims.Ends (answers.Hop i a (Some mac))) (is_up S j) p else mark_of (aims.Ends (answers.Hop j b (mac_of S j b))) (is_up S j) p) ≡ mark_of (aims.Ends (answers.Hop j b (mac_of T j b))) (is_up S j) p
+    mac_here : (j b : ℕ) (is : Bool) → ((j == i) && (b == a)) ≡ is → (if is then mark_of (aims.Ends (answers.Hop i a mac)) (is_up S j) p else mark_of (aims.Ends (answers.Hop j b (mac_of S j b))) (is_up S j) p) ≡ mark_of (aims.Ends (answers.Hop j b (mac_of T j b))) (is_up S j) p
     mac_here j b true is =
         let both = and_both (j == i) (b == a) is in
-        ap₂ (λ x y. mark_of (aims.Ends (answers.Hop x y (Some mac))) (is_up S j) p) (sym ((Decides-eqb j i).0 both.0)) (sym ((Decides-eqb b a).0 both.1))
+        ap₂ (λ x y. mark_of (aims.Ends (answers.Hop x y mac)) (is_up S j) p) (sym ((Decides-eqb j i).0 both.0)) (sym ((Decides-eqb b a).0 both.1))
         ∙ ap (λ (o : Option ℕ). mark_of (aims.Ends (answers.Hop j b o)) (is_up S j) p) (sym now ∙ ap₂ (mac_of T) (sym ((Decides-eqb j i).0 both.0)) (sym ((Decides-eqb b a).0 both.1)))
     mac_here j b false off = ap (λ (o : Option ℕ). mark_of (aims.Ends (answers.Hop j b o)) (is_up S j) p) (other_macs j b off)
 
@@ -321,30 +311,13 @@ module _ (v : Known) (S T : Tables) (i a mac : ℕ) (k : StandsFor v S) (after :
     glean_hop j true = hop_mark j e.bits
     glean_hop j false = counts_same j (aims.Ends (answers.Glean j))
 
-    mac_kind : (kind : PathKind) → renewed (news.Mac i a mac) (mark_of (kind_aim S e kind) (kind_counts S e p.need kind) p) ≡ mark_of (kind_aim T e kind) (kind_counts T e p.need kind) p
-    unfolding mark_of
-    mac_kind kinds.Drop = refl
-    mac_kind kinds.Local = refl
-    mac_kind (kinds.Attached j) = glean_hop j (e.len == 32)
-    mac_kind (kinds.Hop b j) = hop_mark j b
-    mac_kind (kinds.Recursive b) = ap₂ (λ x y. mark_of (aims.On (host b)) (not x && y) p) (looped_same S T mac_edit e b) (met_same S T mac_edit p.need b)
-    mac_kind kinds.Cover = ap (λ q. mark_of (aims.On q) true p) (cover_same S T mac_edit e.bits)
-
-    mac_mark : renewed (news.Mac i a mac) (marked S e p) ≡ marked T e p
-    unfolding mark_of
-    mac_mark = mac_kind p.kind
-
     no_flag : (j : ℕ) → other_flag S T j ≡ false
     no_flag j = differ_not (is_up S j) (is_up T j) (all_flags j)
 
-    known_mac : (o : Option ℕ) → is_mac o mac ≡ same_mac o (Some mac)
-    known_mac None = refl
-    known_mac (Some n) = refl
-
-    old_here : (j b : ℕ) (is : Bool) → ((j == i) && (b == a)) ≡ is → (is && not (is_mac (mac_of S j b) mac)) ≡ other_mac S T j b
+    old_here : (j b : ℕ) (is : Bool) → ((j == i) && (b == a)) ≡ is → (is && not (same_mac (mac_of S j b) mac)) ≡ other_mac S T j b
     old_here j b true is =
         let both = and_both (j == i) (b == a) is in
-        ap not (known_mac (mac_of S j b)) ∙ ap (λ (o : Option ℕ). not (same_mac (mac_of S j b) o)) (sym now ∙ ap₂ (mac_of T) (sym ((Decides-eqb j i).0 both.0)) (sym ((Decides-eqb b a).0 both.1)))
+        ap (λ (o : Option ℕ). not (same_mac (mac_of S j b) o)) (sym now ∙ ap₂ (mac_of T) (sym ((Decides-eqb j i).0 both.0)) (sym ((Decides-eqb b a).0 both.1)))
     old_here j b false off = sym (subst (λ (o : Option ℕ). not (same_mac (mac_of S j b) o) ≡ false) (other_macs j b off) (not_other (mac_of S j b)))
 
     hop_old : (j b : ℕ) → is_old (news.Mac i a mac) (mark_of (aims.Ends (hop_end S j b)) (is_up S j) p) ≡ other_mac S T j b
@@ -356,21 +329,54 @@ module _ (v : Known) (S T : Tables) (i a mac : ℕ) (k : StandsFor v S) (after :
     glean_old j true = hop_old j e.bits
     glean_old j false = refl
 
-    mac_old_kind : (kind : PathKind) → is_old (news.Mac i a mac) (mark_of (kind_aim S e kind) (kind_counts S e p.need kind) p) ≡ kind_changes S T e p.need kind
-    unfolding mark_of
-    mac_old_kind kinds.Drop = refl
-    mac_old_kind kinds.Local = refl
-    mac_old_kind (kinds.Attached j) = glean_old j (e.len == 32) ∙ ap (λ c. c || ((e.len == 32) && other_mac S T j e.bits)) (sym (no_flag j))
-    mac_old_kind (kinds.Hop b j) = hop_old j b ∙ ap (λ c. c || other_mac S T j b) (sym (no_flag j))
-    mac_old_kind (kinds.Recursive b) = sym (rw (differ_not (looped S e b) (looped T e b) (looped_same S T mac_edit e b)) (differ_not (is_met S p.need b) (is_met T p.need b) (met_same S T mac_edit p.need b)))
-    mac_old_kind kinds.Cover = sym (ap not ((same_prefix-Decides (cover S e.bits) (cover T e.bits)).1 (cover_same S T mac_edit e.bits)))
+    -- where loops, needs and covers are the same, the mark gets the MAC
+    module _ (loops : (b : ℕ) → p.kind ≡ kinds.Recursive b → looped S e b ≡ looped T e b) (needs : (b : ℕ) → p.kind ≡ kinds.Recursive b → is_met S p.need b ≡ is_met T p.need b) (covers : cover S e.bits ≡ cover T e.bits) where
+      mac_kind : (kind : PathKind) → p.kind ≡ kind → renewed (news.Mac i a mac) (mark_of (kind_aim S e kind) (kind_counts S e p.need kind) p) ≡ mark_of (kind_aim T e kind) (kind_counts T e p.need kind) p
+      unfolding mark_of
+      mac_kind kinds.Drop is = refl
+      mac_kind kinds.Local is = refl
+      mac_kind (kinds.Attached j) is = glean_hop j (e.len == 32)
+      mac_kind (kinds.Hop b j) is = hop_mark j b
+      mac_kind (kinds.Recursive b) is = ap₂ (λ x y. mark_of (aims.On (host b)) (not x && y) p) (loops b is) (needs b is)
+      mac_kind kinds.Cover is = ap (λ q. mark_of (aims.On q) true p) covers
 
-    mac_old : is_old (news.Mac i a mac) (marked S e p) ≡ kind_changes S T e p.need p.kind
-    unfolding mark_of
-    mac_old = mac_old_kind p.kind
+      pub mac_mark : renewed (news.Mac i a mac) (marked S e p) ≡ marked T e p
+      unfolding mark_of
+      mac_mark = mac_kind p.kind refl
+
+      mac_old_kind : (kind : PathKind) → p.kind ≡ kind → is_old (news.Mac i a mac) (mark_of (kind_aim S e kind) (kind_counts S e p.need kind) p) ≡ kind_changes S T e p.need kind
+      unfolding mark_of
+      mac_old_kind kinds.Drop is = refl
+      mac_old_kind kinds.Local is = refl
+      mac_old_kind (kinds.Attached j) is = glean_old j (e.len == 32) ∙ ap (λ c. c || ((e.len == 32) && other_mac S T j e.bits)) (sym (no_flag j))
+      mac_old_kind (kinds.Hop b j) is = hop_old j b ∙ ap (λ c. c || other_mac S T j b) (sym (no_flag j))
+      mac_old_kind (kinds.Recursive b) is = sym (rw (differ_not (looped S e b) (looped T e b) (loops b is)) (differ_not (is_met S p.need b) (is_met T p.need b) (needs b is)))
+      mac_old_kind kinds.Cover is = sym (ap not ((same_prefix-Decides (cover S e.bits) (cover T e.bits)).1 covers))
+
+      pub mac_old : is_old (news.Mac i a mac) (marked S e p) ≡ kind_changes S T e p.need p.kind
+      unfolding mark_of
+      mac_old = mac_old_kind p.kind refl
+
+module _ (v : Known) (S T : Tables) (i a : ℕ) (mac : Option ℕ) (k : StandsFor v S) (after : IsSound T) (d : Differ (changes.Neighbor i a ∷ []) S T) (now : mac_of T i a ≡ mac) (near : HasNeighbor S i a) (near_after : HasNeighbor T i a) where
+  neighbors_same : (j b : ℕ) → HasNeighbor S j b ↔ HasNeighbor T j b
+  neighbors_same j b = elim (either ((j == i) && (b == a))) [
+    | inr off ↦ other_neighbors S T i a d j b off
+    | inl is ↦ (let both = and_both (j == i) (b == a) is in
+        let at : HasNeighbor T j b = moved T (sym ((Decides-eqb j i).0 both.0)) (sym ((Decides-eqb b a).0 both.1)) near_after in
+        let was : HasNeighbor S j b = moved S (sym ((Decides-eqb j i).0 both.0)) (sym ((Decides-eqb b a).0 both.1)) near in
+        (λ _. at, λ _. was))
+  ]
+    where
+      moved : (U : Tables) → i ≡ j → a ≡ b → HasNeighbor U i a → HasNeighbor U j b
+      moved U e f (n, c, on, at) = (n, c, on ∙ e, at ∙ f)
+
+  mac_edit : IsEndEdit S T
+  mac_edit = record { before = k.sound; after = after; addresses = mac_addresses S T i a d; neighbors = neighbors_same; routes = mac_routes S T i a d; real = real_by v S k }
 
   pub followed_mac : (most : ℕ) (f : Followed) → v.objects ≤ most → most < 2 ^ 32 - 1 → f.touched ≡ map prefix_of (filter (is_old_row (news.Mac i a mac)) v.rows) → f.moved ≡ [] → IsFollowed v (renewed_in (news.Mac i a mac) v) S T most f
-  followed_mac most f le lt touched moved = followed_renewed v S T k mac_edit (news.Mac i a mac) mac_mark mac_old most f le lt touched moved
+  followed_mac most f le lt touched moved =
+      followed_renewed v S T k mac_edit (news.Mac i a mac) (λ e p. mac_mark S T i a d mac now e p (λ b is. looped_same S T mac_edit e b) (λ b is. met_same S T mac_edit p.need b) (cover_same S T mac_edit e.bits))
+      (λ e p. mac_old S T i a d mac now e p (λ b is. looped_same S T mac_edit e b) (λ b is. met_same S T mac_edit p.need b) (cover_same S T mac_edit e.bits)) most f le lt touched moved
 
 -- what comes of the news of a change
 pub followed_news : (v : Known) (T : Tables) (change : Change) (n : News) (most : ℕ) (f : Followed) → IsNews v T change n → IsSound T → v.objects ≤ most → most < 2 ^ 32 - 1
@@ -384,7 +390,7 @@ followed_news v T (changes.Flag i) (news.Mac j b mac) most f is after le lt touc
 followed_news v T (changes.Neighbor i a) (news.Flag j up) most f is after le lt touched moved S k d = absurd is
 followed_news v T (changes.Neighbor i a) (news.Mac j b mac) most f is after le lt touched moved S k d =
     subst (λ (n : News). IsFollowed v (renewed_in n v) S T most f) same
-    (followed_mac v S T i a mac k after d is.2 (near_by v S i a k is.3) most f le lt (subst (λ (n : News). f.touched ≡ map prefix_of (filter (is_old_row n) v.rows)) (sym same) touched) moved)
+    (followed_mac v S T i a mac k after d is.2 (near_by v S i a k is.4) (near_there T i a (subst IsSome (sym is.2) is.3)) most f le lt (subst (λ (n : News). f.touched ≡ map prefix_of (filter (is_old_row n) v.rows)) (sym same) touched) moved)
   where
     same : news.Mac i a mac ≡ news.Mac j b mac
     same = ap₂ (λ x y. news.Mac x y mac) is.0 is.1

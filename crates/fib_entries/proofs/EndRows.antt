@@ -9,6 +9,7 @@ use Rattle.std.proofs.lemmas.Bool.Decides.{Decides-eqb}
 use Rattle.fib_list.proofs.Booleans.{and_both}
 use Rattle.fib_addr.specs.Prefixes.{Prefix}
 use Rattle.fib_cover.specs.Covers.{IsAscending, prefix_cmp}
+use Rattle.fib_resolve.specs.Touched.{same_mac}
 use Rattle.fib_resolve.specs.declared.aims.Aim.TheVariants as aims
 use Rattle.fib_resolve.specs.declared.aims.Marked.{Marked}
 use Rattle.fib_resolve.specs.declared.types.End.TheVariants as answers
@@ -59,7 +60,7 @@ module _ {X : Type 0} (key : X → Prefix) (test : X → Bool) where
       by true rest = (all.0, rest)
       by false rest = rest
 
-  ascending_left : (xs : List X) → IsAscending (map key xs) → IsAscending (map key (filter test xs))
+  pub ascending_left : (xs : List X) → IsAscending (map key xs) → IsAscending (map key (filter test xs))
   unfolding IsStrictlySortedBy
   ascending_left [] asc = tt
   ascending_left (x ∷ xs) asc = by (test x) (ascending_left xs asc.1) (each_left (λ q. prefix_cmp (key x) q ≡ Less) xs asc.0)
@@ -113,8 +114,12 @@ mark_new (news.Flag i up) m = by (aim_over i m.aim) refl
     by false off = ap (λ b. b && not (has_flag up m)) off
 mark_new (news.Mac i a mac) m = by (aim_at i a m.aim) refl
   where
-    by : (b : Bool) → aim_at i a m.aim ≡ b → is_old (news.Mac i a mac) (if b then with_aim (aims.Ends (answers.Hop i a (Some mac))) m else m) ≡ false
-    by true here = ap (λ b. ((i == i) && (a == a)) && not b) ((Decides-eqb mac mac).1 refl) ∙ and_off ((i == i) && (a == a))
+    same : (o : Option ℕ) → same_mac o o ≡ true
+    same None = refl
+    same (Some n) = (Decides-eqb n n).1 refl
+
+    by : (b : Bool) → aim_at i a m.aim ≡ b → is_old (news.Mac i a mac) (if b then with_aim (aims.Ends (answers.Hop i a mac)) m else m) ≡ false
+    by true here = ap (λ b. ((i == i) && (a == a)) && not b) (same mac) ∙ and_off ((i == i) && (a == a))
     by false off = ap (λ b. b && not (has_mac mac m.aim)) off
 
 marks_new : (n : News) (ms : List Marked) → list_any (is_old n) (map (renewed n) ms) ≡ false

@@ -13,8 +13,10 @@ use Rattle.fib_resolve.specs.Pairs.{base_pairs, pairs, entries, chosen, cover, a
 use Rattle.fib_resolve.specs.Loops.{targets, kind_targets, looped, looped_kind, Kept}
 use Rattle.fib_resolve.specs.Forwarding.{is_met}
 use Rattle.fib_resolve.specs.Sizes.{size}
+use Rattle.fib_resolve.specs.Tables.{IsSound}
 use Rattle.fib_resolve.specs.Touched.{differ}
 use Rattle.fib_resolve.specs.declared.pairs.Pair.{Pair}
+use Rattle.fib_resolve.specs.declared.types.Address.{Address}
 use Rattle.fib_resolve.specs.declared.types.Need.{Need}
 use Rattle.fib_resolve.specs.declared.types.Path.{Path}
 use Rattle.fib_resolve.specs.declared.types.PathKind.{PathKind}
@@ -74,7 +76,14 @@ none_matches a (q ∷ qs) none = rw (none q (in_front q q qs refl)) (none_matche
 all_hops_half : (S T : Tables) → ((r : Route) → Contains S.routes r → Contains T.routes r) → (a : ℕ) → Contains (all_hops S) a → Contains (all_hops T) a
 all_hops_half S T f a c = let r = flat_map_from recursive_hops S.routes a c in Contains-flat_map recursive_hops T.routes r.0 a (f r.0 r.1) r.2
 
-module _ (S T : Tables) (h : IsEndEdit S T) where
+-- the same addresses and routes
+pub record IsSameBase (S T : Tables) : Type 0 where
+  pub after : IsSound T
+  pub addresses : (a : Address) → Contains S.addresses a ↔ Contains T.addresses a
+  pub routes : (r : Route) → Contains S.routes r ↔ Contains T.routes r
+  pub real : (q : Prefix) → Contains (entries S) q → IsPrefix q
+
+module _ (S T : Tables) (h : IsSameBase S T) where
   base_half : (x : Pair) → Contains (base_pairs S) x → Contains (base_pairs T) x
   base_half x c = elim (base_cases S x c) [
     | inl early ↦ from_front T x (front_half S.addresses T.addresses h.addresses x early)
@@ -87,7 +96,7 @@ module _ (S T : Tables) (h : IsEndEdit S T) where
     | inr (r, k, is) ↦ subst (Contains (base_pairs S)) is (from_route S r ((h.routes r).1 k))
   ]
 
-  caught_base : BaseCaught S T (λ _. false)
+  pub caught_base : BaseCaught S T (λ _. false)
   caught_base x quiet = (base_half x, base_back x)
 
   good_before : ArePrefixes S
@@ -100,8 +109,8 @@ module _ (S T : Tables) (h : IsEndEdit S T) where
   unfolding cover
   beyond_cover U fine a beyond = none_matches a (short_prefixes U) (λ q c. none_contains a beyond q (fine q c))
 
-  pub cover_same : (a : ℕ) → cover S a ≡ cover T a
-  cover_same a = elim (cases_lt a (2 ^ 32)) [
+  pub cover_alike : (a : ℕ) → cover S a ≡ cover T a
+  cover_alike a = elim (cases_lt a (2 ^ 32)) [
     | inl small ↦ covers_agree S T (λ _. false) caught_base good a small refl refl
     | inr beyond ↦ (let off : a < 2 ^ 32 → ⊥ = not_both a (2 ^ 32) beyond in beyond_cover S good_before a off ∙ sym (beyond_cover T good a off))
   ]
@@ -109,21 +118,31 @@ module _ (S T : Tables) (h : IsEndEdit S T) where
       not_both : (a b : ℕ) → b ≤ a → a < b → ⊥
       not_both a b le lt = omega (arith, le, lt)
 
-  attached_same : (a : ℕ) → attached_by S a ≡ attached_by T a
+  pub attached_alike : (a : ℕ) → attached_by S a ≡ attached_by T a
   unfolding attached_by
-  attached_same a =
+  attached_alike a =
       ap attached_of (
       best_paths_same (cover S a) (base_pairs S) (base_pairs T) (λ x y c d p q. one_list T h.after x y (from_origin T x (base c)) (from_origin T y (base d)) p q)
       (λ x p. caught_base x refl) (best_pair (cover S a) (base_pairs S)) (best_pair (cover S a) (base_pairs T)) (best_of (cover S a) (base_pairs S)) (best_of (cover S a) (base_pairs T)))
-      ∙ ap (λ z. attached_of (paths_of (best_pair z (base_pairs T)))) (cover_same a)
+      ∙ ap (λ z. attached_of (paths_of (best_pair z (base_pairs T)))) (cover_alike a)
+
+  pub hops_alike : (a : ℕ) → Contains (all_hops S) a ↔ Contains (all_hops T) a
+  hops_alike a = (all_hops_half S T (λ r. (h.routes r).0) a, all_hops_half T S (λ r. (h.routes r).1) a)
+
+module _ (S T : Tables) (h : IsEndEdit S T) where
+  same_base : IsSameBase S T
+  same_base = record { after = h.after; addresses = h.addresses; routes = h.routes; real = h.real }
+
+  pub cover_same : (a : ℕ) → cover S a ≡ cover T a
+  cover_same a = cover_alike S T same_base a
 
   pub same_entry : (e : Prefix) → SameEntry S T e
   same_entry e = record {
     pairs = same_pairs_from S T e (record {
-      base = λ x p. caught_base x refl;
-      attached = λ a at. attached_same a;
+      base = λ x p. caught_base S T same_base x refl;
+      attached = λ a at. attached_alike S T same_base a;
       neighbor = λ a i at. h.neighbors i a;
-      hop = λ a at. (all_hops_half S T (λ r. (h.routes r).0) a, all_hops_half T S (λ r. (h.routes r).1) a);
+      hop = λ a at. hops_alike S T same_base a;
     });
     cover = λ p c is. cover_same e.bits;
   }

@@ -168,7 +168,7 @@ mark_exits (news.Flag i up) m = by (aim_over i m.aim)
     by false = refl
 mark_exits (news.Mac i a mac) m = by (aim_at i a m.aim) refl
   where
-    by : (b : Bool) → aim_at i a m.aim ≡ b → is_exit (if b then with_aim (aims.Ends (answers.Hop i a (Some mac))) m else m) ≡ is_exit m
+    by : (b : Bool) → aim_at i a m.aim ≡ b → is_exit (if b then with_aim (aims.Ends (answers.Hop i a mac)) m else m) ≡ is_exit m
     by true here = sym (at_exits i a m.aim here)
     by false off = refl
 

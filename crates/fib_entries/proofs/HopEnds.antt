@@ -33,7 +33,7 @@ use Rattle.fib_entries.proofs.Sharing.{each_true}
 use Rattle.fib_entries.proofs.Standing.{row_there}
 
 -- a path that ends at a neighbor has that Hop end
-end_of : (S : Tables) (e : Prefix) (kind : PathKind) (z : Adjacency) → aim_at z.interface z.next_hop (kind_aim S e kind) ≡ true → Contains (kind_adjacency e kind) z
+pub end_of : (S : Tables) (e : Prefix) (kind : PathKind) (z : Adjacency) → aim_at z.interface z.next_hop (kind_aim S e kind) ≡ true → Contains (kind_adjacency e kind) z
 end_of S e kinds.Drop z h = absurd (false≢true h)
 end_of S e kinds.Local z h = absurd (false≢true h)
 end_of S e (kinds.Attached i) z h = by (e.len == 32) h

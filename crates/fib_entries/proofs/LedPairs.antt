@@ -19,7 +19,7 @@ use Rattle.fib_resolve.specs.Loops.{targets}
 use Rattle.fib_resolve.specs.Pairs.{base_pairs, pairs, entries, cover, attached_by, is_interface, neighbor_pairs, derived_pair, derived_kind, one, route_pair, same_pair, plain}
 use Rattle.fib_resolve.specs.Tables.{IsSound, is_route}
 use Rattle.fib_resolve.specs.Touched.{is_touched}
-use Rattle.fib_resolve.specs.Sizes.{size, adjacencies, adjacencies_of}
+use Rattle.fib_resolve.specs.Sizes.{adjacencies, adjacencies_of}
 use Rattle.fib_resolve.specs.declared.pairs.Adjacency.{Adjacency}
 use Rattle.fib_resolve.specs.declared.pairs.Pair.{Pair}
 use Rattle.fib_resolve.specs.declared.types.Address.{Address}
@@ -118,10 +118,10 @@ address_not : (p : Prefix) (s : FibSource) (a : Address) → changes.Route p s �
 address_not p s a e = (cc)
 
 -- the pair of a neighbor
-abbrev hop_pair : ℕ → ℕ → Pair
+abbrev pub hop_pair : ℕ → ℕ → Pair
 hop_pair a i = one (host a) sources.Adjacency (kinds.Hop a i)
 
-near_is : (U : Tables) (n : Neighbor) (x : Pair) → Contains (neighbor_pairs U n) x → hop_pair n.addr n.interface ≡ x
+pub near_is : (U : Tables) (n : Neighbor) (x : Pair) → Contains (neighbor_pairs U n) x → hop_pair n.addr n.interface ≡ x
 unfolding neighbor_pairs
 near_is U n x c = by (is_interface (attached_by U n.addr) n.interface) c
   where
@@ -129,7 +129,7 @@ near_is U n x c = by (is_interface (attached_by U n.addr) n.interface) c
     by true k = only_one (hop_pair n.addr n.interface) x k
     by false k = absurd (Contains-nil x k)
 
-near_in : (U : Tables) (n : Neighbor) (x : Pair) → is_interface (attached_by U n.addr) n.interface ≡ true → hop_pair n.addr n.interface ≡ x → Contains (neighbor_pairs U n) x
+pub near_in : (U : Tables) (n : Neighbor) (x : Pair) → is_interface (attached_by U n.addr) n.interface ≡ true → hop_pair n.addr n.interface ≡ x → Contains (neighbor_pairs U n) x
 unfolding neighbor_pairs
 near_in U n x e is = rw e (in_front (hop_pair n.addr n.interface) x [] is)
 

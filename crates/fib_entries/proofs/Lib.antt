@@ -76,3 +76,8 @@ pub mod ReachedBy
 pub mod ReachFields
 pub mod Turned
 pub mod Turning
+pub mod NearLaws
+pub mod NearPairs
+pub mod NearSizes
+pub mod NearRows
+pub mod NearFields

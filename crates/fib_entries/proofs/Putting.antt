@@ -22,7 +22,7 @@ use Rattle.fib_entries.proofs.Settling.{set_from}
 use Rattle.fib_entries.proofs.Standing.{row_there}
 
 -- rows in which each prefix has the same rank
-same_ranks : (old new : List Row) → IsAscending (map prefix_of old) → (e : Prefix) → (Contains (map prefix_of old) e → Contains (map prefix_of new) e)
+pub same_ranks : (old new : List Row) → IsAscending (map prefix_of old) → (e : Prefix) → (Contains (map prefix_of old) e → Contains (map prefix_of new) e)
     → ((s : Row) → Contains new s → e ≡ s.prefix → (r : Row) × Contains old r × (s.prefix ≡ r.prefix) × (s.rank ≡ r.rank)) → rank_of new e ≡ rank_of old e
 same_ranks old new asc e stays from = by (row_of new e) refl
   where

@@ -13,7 +13,7 @@ use Rattle.fib_resolve.specs.Aims.{marked, marked_list}
 use Rattle.fib_resolve.specs.Loops.{looped_kind}
 use Rattle.fib_resolve.specs.Pairs.{chosen}
 use Rattle.fib_resolve.specs.Sizes.{size}
-use Rattle.fib_resolve.specs.Touched.{is_touched, kind_changes}
+use Rattle.fib_resolve.specs.Touched.{is_touched, kind_changes, same_mac}
 use Rattle.fib_resolve.specs.declared.aims.Aim.{Aim}
 use Rattle.fib_resolve.specs.declared.aims.Aim.TheVariants as aims
 use Rattle.fib_resolve.specs.declared.aims.Marked.{Marked}
@@ -34,7 +34,7 @@ use Rattle.fib_entries.specs.declared.changes.Followed.{Followed}
 use Rattle.fib_entries.specs.inner.Fields.{AreFields, Index}
 use Rattle.fib_entries.specs.declared.ends.News.{News}
 use Rattle.fib_entries.specs.declared.ends.News.TheVariants as news
-use Rattle.fib_entries.specs.inner.Ends.{IsEndEdit, aim_over, aim_at, is_mac, has_flag, has_mac, with_counts, with_aim, renewed, is_old, is_old_row, renewed_row, mapped}
+use Rattle.fib_entries.specs.inner.Ends.{IsEndEdit, aim_over, aim_at, has_flag, has_mac, with_counts, with_aim, renewed, is_old, is_old_row, renewed_row, mapped}
 use Rattle.fib_entries.specs.inner.Leaf.{IsFollowed}
 use Rattle.fib_entries.proofs.Anew.{filter_differ}
 use Rattle.fib_entries.proofs.Comparing.{map_same}
@@ -85,17 +85,17 @@ mapped_step f n xs ys x y lt inv val is =
     let at = slice_get_read ys (length ys) n x refl (omega (arith, lt, long)) val in
     ap (slice_set ys n) is ∙ (ap (λ l. slice_set l n (f x)) inv ∙ mapped_next f n xs x (sym (mapped_here f n xs) ∙ (ap (λ l. slice_get l n) (sym inv) ∙ at)))
 
-map_twice : {X Y Z : Type 0} (f : Y → Z) (g : X → Y) (xs : List X) → map f (map g xs) ≡ map (λ x. f (g x)) xs
+pub map_twice : {X Y Z : Type 0} (f : Y → Z) (g : X → Y) (xs : List X) → map f (map g xs) ≡ map (λ x. f (g x)) xs
 map_twice f g [] = refl
 map_twice f g (x ∷ xs) = ap (λ l. f (g x) ∷ l) (map_twice f g xs)
 
-any_map : {X Y : Type 0} (test : Y → Bool) (f : X → Y) (xs : List X) → list_any test (map f xs) ≡ list_any (λ x. test (f x)) xs
+pub any_map : {X Y : Type 0} (test : Y → Bool) (f : X → Y) (xs : List X) → list_any test (map f xs) ≡ list_any (λ x. test (f x)) xs
 any_map test f [] = refl
 any_map test f (x ∷ xs) = ap (λ b. test (f x) || b) (any_map test f xs)
 
-any_same : {X : Type 0} (f g : X → Bool) (xs : List X) → ((x : X) → f x ≡ g x) → list_any f xs ≡ list_any g xs
+pub any_same : {X : Type 0} (f g : X → Bool) (xs : List X) → ((x : X) → Contains xs x → f x ≡ g x) → list_any f xs ≡ list_any g xs
 any_same f g [] same = refl
-any_same f g (x ∷ xs) same = ap₂ (λ b c. b || c) (same x) (any_same f g xs same)
+any_same f g (x ∷ xs) same = ap₂ (λ b c. b || c) (same x (in_front x x xs refl)) (any_same f g xs (λ y c. same y (in_rest x y xs c)))
 
 -- a row of which the news makes no mark another is as it was
 
@@ -111,22 +111,24 @@ same_flag false m h = by m.counts h
     by true h = absurd (false≢true (sym h))
     by false h = refl
 
-is_that_mac : (known : Option ℕ) (mac : ℕ) → not (is_mac known mac) ≡ false → Some mac ≡ known
-is_that_mac None mac h = absurd (false≢true (sym h))
-is_that_mac (Some m) mac h = ap Some (sym ((Decides-eqb m mac).0 (unturned (m == mac) h)))
+is_that_mac : (known mac : Option ℕ) → not (same_mac known mac) ≡ false → mac ≡ known
+is_that_mac None None h = refl
+is_that_mac None (Some n) h = absurd (false≢true (sym h))
+is_that_mac (Some m) None h = absurd (false≢true (sym h))
+is_that_mac (Some m) (Some n) h = ap Some (sym ((Decides-eqb m n).0 (unturned (m == n) h)))
   where
     unturned : (b : Bool) → not b ≡ false → b ≡ true
     unturned true h = refl
     unturned false h = absurd (false≢true (sym h))
 
-same_aim : (i a mac : ℕ) (aim : Aim) → aim_at i a aim ≡ true → not (has_mac mac aim) ≡ false → aims.Ends (answers.Hop i a (Some mac)) ≡ aim
+same_aim : (i a : ℕ) (mac : Option ℕ) (aim : Aim) → aim_at i a aim ≡ true → not (has_mac mac aim) ≡ false → aims.Ends (answers.Hop i a mac) ≡ aim
 same_aim i a mac (aims.On e) here h = absurd (false≢true here)
 same_aim i a mac (aims.Ends answers.Drop) here h = absurd (false≢true here)
 same_aim i a mac (aims.Ends answers.Receive) here h = absurd (false≢true here)
 same_aim i a mac (aims.Ends (answers.Glean j)) here h = absurd (false≢true here)
 same_aim i a mac (aims.Ends (answers.Hop j b known)) here h =
     let both = and_both (j == i) (b == a) here in
-    ap (λ n. aims.Ends (answers.Hop n a (Some mac))) (sym ((Decides-eqb j i).0 both.0)) ∙ (ap (λ n. aims.Ends (answers.Hop j n (Some mac))) (sym ((Decides-eqb b a).0 both.1)) ∙ ap (λ (o : Option ℕ). aims.Ends (answers.Hop j b o)) (is_that_mac known mac h))
+    ap (λ n. aims.Ends (answers.Hop n a mac)) (sym ((Decides-eqb j i).0 both.0)) ∙ (ap (λ n. aims.Ends (answers.Hop j n mac)) (sym ((Decides-eqb b a).0 both.1)) ∙ ap (λ (o : Option ℕ). aims.Ends (answers.Hop j b o)) (is_that_mac known mac h))
 
 renewed_same : (n : News) (m : Marked) → is_old n m ≡ false → renewed n m ≡ m
 renewed_same (news.Flag i up) m h = by (aim_over i m.aim) h
@@ -136,7 +138,7 @@ renewed_same (news.Flag i up) m h = by (aim_over i m.aim) h
     by false h = refl
 renewed_same (news.Mac i a mac) m h = by (aim_at i a m.aim) refl h
   where
-    by : (b : Bool) → aim_at i a m.aim ≡ b → (b && not (has_mac mac m.aim)) ≡ false → (if b then with_aim (aims.Ends (answers.Hop i a (Some mac))) m else m) ≡ m
+    by : (b : Bool) → aim_at i a m.aim ≡ b → (b && not (has_mac mac m.aim)) ≡ false → (if b then with_aim (aims.Ends (answers.Hop i a mac)) m else m) ≡ m
     by true here h = ap (λ x. with_aim x m) (same_aim i a mac m.aim here h)
     by false here h = refl
 
@@ -160,7 +162,7 @@ pub renewed_names : (n : News) (rows : List Row) → map prefix_of (map (renewed
 renewed_names n [] = refl
 renewed_names n (r ∷ rows) = ap (λ l. r.prefix ∷ l) (renewed_names n rows)
 
-rank_renewed : (n : News) (rows : List Row) (e : Prefix) → rank_of (map (renewed_row n) rows) e ≡ rank_of rows e
+pub rank_renewed : (n : News) (rows : List Row) (e : Prefix) → rank_of (map (renewed_row n) rows) e ≡ rank_of rows e
 rank_renewed n [] e = refl
 rank_renewed n (r ∷ rows) e = elim (either (same_prefix e r.prefix)) [ inl is ↦ rw is refl | inr isnt ↦ rw isnt (rank_renewed n rows e) ]
 
@@ -194,7 +196,7 @@ module _ (v : Known) (S T : Tables) (k : StandsFor v S) (h : IsEndEdit S T) (n :
   old_touched : (e : Prefix) → list_any (is_old n) (marked_list S e) ≡ is_touched S T e
   unfolding marked_list is_touched
   old_touched e =
-      any_map (is_old n) (marked S e) (chosen S e) ∙ (any_same (λ p. is_old n (marked S e p)) (λ p. kind_changes S T e p.need p.kind) (chosen S e) (λ p. old_mark e p)
+      any_map (is_old n) (marked S e) (chosen S e) ∙ (any_same (λ p. is_old n (marked S e p)) (λ p. kind_changes S T e p.need p.kind) (chosen S e) (λ p c. old_mark e p)
       ∙ sym (ap (λ b. not b || list_any (λ p. kind_changes S T e p.need p.kind) (chosen S e)) (both_halves S T e (same_entry S T h e).pairs)))
 
   pairs_after : (e : Prefix) (held : List (FibSource × ℕ)) → ArePairs v.lists S e held → ArePairs v.lists T e held

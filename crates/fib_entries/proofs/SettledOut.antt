@@ -42,7 +42,7 @@ use Rattle.fib_entries.proofs.LedPairs.{come_in, gone_users, go_in, led_go_entry
 use Rattle.fib_entries.proofs.LedReach.{reach_cover_gone, reach_edit, reach_host_gone, reach_none_gone, reach_turn}
 use Rattle.fib_entries.proofs.Settled.{settled, settled_stays, used_after}
 use Rattle.fib_entries.proofs.Taking.{list_self}
-use Rattle.fib_entries.proofs.Using.{counted_given, given_stays, once, recounted, unit_same}
+use Rattle.fib_entries.proofs.Using.{counted_given, given_stays, recounted, unit_same}
 use Rattle.fib_entries.proofs.Withdrawing.{but_for, ordered_gone, row_was}
 
 -- a host that comes is a prefix of the list of those

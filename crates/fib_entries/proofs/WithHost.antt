@@ -74,7 +74,7 @@ zip_insert P (x ∷ xs) [] k z a h = absurd a
 zip_insert P (x ∷ xs) (y ∷ ys) zero z a h = (h, a)
 zip_insert P (x ∷ xs) (y ∷ ys) (suc k) z a h = (a.0, zip_insert P xs ys k z a.1 h)
 
-head_is : {X : Type 0} (xs : List X) (x : X) → slice_get xs 0 ≡ Some x → (rest : List X) × (xs ≡ x ∷ rest)
+pub head_is : {X : Type 0} (xs : List X) (x : X) → slice_get xs 0 ≡ Some x → (rest : List X) × (xs ≡ x ∷ rest)
 head_is [] x h = absurd (none_some x h)
 head_is (y ∷ ys) x h = (ys, ap (λ z. z ∷ ys) (some_is y x h))
 

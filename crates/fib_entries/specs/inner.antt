@@ -17,3 +17,4 @@ pub mod Led
 pub mod Looping
 pub mod Reaching
 pub mod Course
+pub mod Near

@@ -1,17 +1,18 @@
 // A change of an interface's flag or of a neighbor's MAC, followed in the marks of the rows.
-ghost use Rattle.std.specs.Prelude.{◌≡◌, ◌∷◌, ◌++◌, ℕ, [], IsTrue, IsSome, IfOk, OnOk, OnErr, Contains, map, filter, option_copied, find, if◌then◌else◌, List as Items};
+ghost use Rattle.std.specs.Prelude.{◌≡◌, ◌∷◌, ◌++◌, ℕ, [], IsTrue, IsSome, Some, IfOk, OnOk, OnErr, Contains, map, filter, option_copied, find, if◌then◌else◌, List as Items};
 ghost use Rattle.fib_addr.specs.Prefixes.{host, Prefix as PrefixValue};
 ghost use Rattle.fib_cover.specs.Covers.{IsAscending};
 ghost use Rattle.fib_interned.specs.Interned.{kept_of};
 ghost use Rattle.fib_resolve.specs.Forwarding.{is_up};
 ghost use Rattle.fib_resolve.specs.declared.types.FibSource.{FibSource as FibSourceValue};
 ghost use Rattle.fib_resolve.specs.Resolution.{is_neighbor, mac_of};
+ghost use Rattle.fib_resolve.specs.Touched.{same_mac};
 ghost use Rattle.fib_entries.specs.Known.{prefix_of, row_of};
 ghost use Rattle.fib_entries.specs.Rows.{Row as RowValue};
 ghost use Rattle.fib_entries.specs.inner.Building.{AreHeld};
 ghost use Rattle.fib_entries.specs.inner.Compare.{AreKept};
 ghost use Rattle.fib_entries.specs.inner.Fields.{AreAmong};
-ghost use Rattle.fib_entries.specs.inner.Ends.{aim_over, aim_at, is_mac, has_flag, has_mac, renewed, is_exit, has_exit, is_old, is_old_row, is_old_in, renewed_row, AreRenewing, IsLink, IsNear};
+ghost use Rattle.fib_entries.specs.inner.Ends.{aim_over, aim_at, has_flag, has_mac, renewed, is_exit, has_exit, is_old, is_old_row, is_old_in, renewed_row, AreRenewing, IsLink, IsNear};
 
 use crate::changes::{Followed, Touched};
 use crate::look::{place_of, row};
@@ -32,11 +33,11 @@ pub enum News {
         interface: u32,
         up: bool,
     },
-    /// A neighbor's MAC.
+    /// A neighbor's MAC; None where it is a neighbor no more.
     Mac {
         interface: u32,
         next_hop: Addr,
-        mac: Mac,
+        mac: Option<Mac>,
     },
 }
 
@@ -156,21 +157,31 @@ pub fn is_at(interface: u32, next_hop: Addr, mark: &Marked) -> bool
     }
 }
 
-fn is_mac(known: Option<Mac>, mac: Mac) -> bool
-    ensures { result ≡ is_mac known mac }
+fn is_mac(known: Mac, mac: Option<Mac>) -> bool
+    ensures { result ≡ same_mac (Some known) mac }
 {
-    match known {
-        Some(other) => other == mac,
+    match mac {
+        Some(other) => known == other,
         None => false,
     }
 }
 
-/// Whether they leave with that MAC.
-fn has_mac(mac: Mac, mark: &Marked) -> bool
+/// Whether both are that MAC, or there is none.
+fn is_same_mac(known: Option<Mac>, mac: Option<Mac>) -> bool
+    ensures { result ≡ same_mac known mac }
+{
+    match known {
+        Some(known) => is_mac(known, mac),
+        None => mac.is_none(),
+    }
+}
+
+/// Whether they leave with that MAC, or without one.
+fn has_mac(mac: Option<Mac>, mark: &Marked) -> bool
     ensures { result ≡ has_mac mac mark.now.aim }
 {
     match mark.aim {
-        Aim::Ends(End::Hop { mac: known, .. }) => is_mac(known, mac),
+        Aim::Ends(End::Hop { mac: known, .. }) => is_same_mac(known, mac),
         _ => false,
     }
 }
@@ -234,8 +245,8 @@ fn is_old_at(rows: &Blocks<Row>, prefix: Prefix, news: &News) -> bool
     }
 }
 
-/// Those of which it does.
-fn old_among(
+/// Those of the prefixes of which it does.
+pub fn old_among(
     alloc: Global,
     rows: &Blocks<Row>,
     prefixes: &[Prefix],
@@ -269,7 +280,7 @@ fn renew(mark: &mut Marked, news: &News)
                 mark.aim = Aim::Ends(End::Hop {
                     interface,
                     next_hop,
-                    mac: Some(mac),
+                    mac,
                 });
             }
         }
@@ -305,7 +316,7 @@ fn renew_at(alloc: Global, rows: &mut Blocks<Row>, prefix: Prefix, news: &News)
 }
 
 /// Renews the rows of these prefixes, which are those of which a mark becomes another.
-fn renew_rows(alloc: Global, rows: &mut Blocks<Row>, touched: &[Prefix], news: &News)
+pub fn renew_rows(alloc: Global, rows: &mut Blocks<Row>, touched: &[Prefix], news: &News)
     requires ascending { IsAscending (map prefix_of rows.old) }
     requires touched { touched.now ≡ map prefix_of (filter (is_old_row news.now) rows.old) }
     ensures { rows.new ≡ map (renewed_row news.now) rows.old }

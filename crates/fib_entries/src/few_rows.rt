@@ -107,7 +107,7 @@ impl Entries {
             Some(mac) => Some(News::Mac {
                 interface,
                 next_hop: addr,
-                mac,
+                mac: Some(mac),
             }),
             None => None,
         }

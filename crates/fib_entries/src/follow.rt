@@ -15,7 +15,7 @@ use crate::changes::{FollowError, Followed, Moved, Touched};
 use crate::compare::are_alike;
 use crate::entries::Entries;
 use crate::rows::Row;
-use fib_addr::Prefix;
+use fib_addr::{Addr, Prefix};
 use fib_changes::Change;
 use fib_config::Config;
 use fib_list::List;
@@ -256,9 +256,34 @@ impl Entries {
             [Change::Route { prefix, source }] => {
                 self.follow_route(after, *prefix, *source, most)
             }
+            [Change::Neighbor { interface, addr }] => {
+                self.follow_hop(after.tables(), *interface, *addr, most)
+            }
             [change] => self.follow_news(after.tables(), *change, most),
             _ => Ok(None),
         }
+    }
+
+    /// The same where a neighbor came, went, or got another MAC.
+    fn follow_hop(
+        &mut self,
+        tables: &Tables,
+        interface: u32,
+        addr: Addr,
+        most: u32,
+    ) -> Result<Option<Followed>, AllocError>
+        requires sound { IsSound tables.now }
+        requires most { most < 2 ^ 32 - 1 }
+        ensures followed { IfOk result (λ o. IfSome o (λ f. (S : TablesValue) → StandsFor self.old S →
+            Differ (change_kinds.Neighbor interface addr ∷ []) S tables.now → IsFollowed self.old self.new S tables.now most f)) }
+        ensures none { IfOk result (λ o. IfNone o (self.new ≡ self.old)) }
+        ensures err { OnErr result (self.new ≡ self.old) }
+    {
+        let change = Change::Neighbor { interface, addr };
+        if let Some(followed) = self.follow_news(tables, change, most)? {
+            return Ok(Some(followed));
+        }
+        self.follow_neighbor(tables, interface, addr, most)
     }
 
     /// The same where a route's list changed, which is looked up once.

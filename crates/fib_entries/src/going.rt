@@ -95,7 +95,7 @@ pub fn withdraw(
 }
 
 /// The rank of the row at that place.
-fn rank_at(rows: &Blocks<Row>, place: usize) -> u32
+pub fn rank_at(rows: &Blocks<Row>, place: usize) -> u32
     requires { place < length rows.now }
     ensures { (r : RowValue) → slice_get rows.now place ≡ Some r → result ≡ r.rank }
 {

@@ -26,6 +26,7 @@ mod led;
 mod links;
 mod look;
 mod looping;
+mod near;
 mod parting;
 mod parts;
 mod plies;

@@ -1,5 +1,5 @@
 -- The change of an interface's flag or of a neighbor's MAC, followed in the marks of the rows. No contract of a public call rests on this.
-use Rattle.std.specs.Prelude.{◌≡◌, ◌↔◌, ℕ, zero, suc, Bool, true, false, not, Option, Some, None, ◌&&◌, ◌==◌, List, [], ◌∷◌, map, filter, Contains, if◌then◌else◌}
+use Rattle.std.specs.Prelude.{◌≡◌, ◌↔◌, ℕ, zero, suc, Bool, true, false, not, Option, Some, None, IsSome, ◌&&◌, ◌==◌, List, [], ◌∷◌, map, filter, Contains, if◌then◌else◌}
 use Rattle.std.specs.List.{list_any}
 use Rattle.fib_addr.specs.Prefixes.{Prefix, IsPrefix, host}
 use Rattle.fib_cover.specs.Covers.{IsAscending}
@@ -9,6 +9,7 @@ use Rattle.fib_resolve.specs.Forwarding.{is_up}
 use Rattle.fib_resolve.specs.Resolution.{mac_of}
 use Rattle.fib_resolve.specs.Pairs.{entries}
 use Rattle.fib_resolve.specs.Tables.{IsSound}
+use Rattle.fib_resolve.specs.Touched.{same_mac}
 use Rattle.fib_resolve.specs.declared.aims.Aim.{Aim}
 use Rattle.fib_resolve.specs.declared.aims.Aim.TheVariants as aims
 use Rattle.fib_resolve.specs.declared.aims.Marked.{Marked}
@@ -58,18 +59,14 @@ abbrev pub aim_at : ℕ → ℕ → Aim → Bool
 aim_at i a (aims.On e) = false
 aim_at i a (aims.Ends end) = end_at i a end
 
-abbrev pub is_mac : Option ℕ → ℕ → Bool
-is_mac None mac = false
-is_mac (Some known) mac = known == mac
-
--- with that MAC
-abbrev pub end_mac : ℕ → End → Bool
+-- with that MAC, or without one
+abbrev pub end_mac : Option ℕ → End → Bool
 end_mac mac answers.Drop = false
 end_mac mac answers.Receive = false
 end_mac mac (answers.Glean j) = false
-end_mac mac (answers.Hop j b known) = is_mac known mac
+end_mac mac (answers.Hop j b known) = same_mac known mac
 
-abbrev pub has_mac : ℕ → Aim → Bool
+abbrev pub has_mac : Option ℕ → Aim → Bool
 has_mac mac (aims.On e) = false
 has_mac mac (aims.Ends end) = end_mac mac end
 
@@ -86,7 +83,7 @@ with_aim aim m = record { aim = aim; counts = m.counts; weight = m.weight; prefe
 -- the mark after the news
 abbrev pub renewed : News → Marked → Marked
 renewed (news.Flag i up) m = if aim_over i m.aim then with_counts up m else m
-renewed (news.Mac i a mac) m = if aim_at i a m.aim then with_aim (aims.Ends (answers.Hop i a (Some mac))) m else m
+renewed (news.Mac i a mac) m = if aim_at i a m.aim then with_aim (aims.Ends (answers.Hop i a mac)) m else m
 
 -- which makes it another
 abbrev pub is_old : News → Marked → Bool
@@ -146,7 +143,7 @@ abbrev pub IsNews : Known → Tables → Change → News → Type 0
 IsNews v T (changes.Flag i) (news.Flag j up) = (i ≡ j) × (up ≡ is_up T i)
 IsNews v T (changes.Flag i) (news.Mac j b mac) = ⊥
 IsNews v T (changes.Neighbor i a) (news.Flag j up) = ⊥
-IsNews v T (changes.Neighbor i a) (news.Mac j b mac) = (i ≡ j) × (a ≡ b) × (mac_of T i a ≡ Some mac) × HasNear v i a
+IsNews v T (changes.Neighbor i a) (news.Mac j b mac) = (i ≡ j) × (a ≡ b) × (mac_of T i a ≡ mac) × IsSome mac × HasNear v i a
 IsNews v T (changes.Address x) n = ⊥
 IsNews v T (changes.Route p s) n = ⊥
 
