@@ -1,9 +1,8 @@
 -- A prefix that comes with its first route: what its edit is, and its row.
-use Rattle.std.proofs.Common.{arith, ◌≡◌, ◌≢◌, ℕ, ◌<◌, ◌^◌, true, false, ◌==◌, List, [], ◌∷◌, map, Some, None, ◌⊎◌, inl, inr, refl, sym, ◌∙◌, ap, subst, ◌↔◌}
+use Rattle.std.proofs.Common.{arith, ◌≡◌, ◌≢◌, ℕ, ◌<◌, ◌^◌, true, false, ◌==◌, List, [], ◌∷◌, map, Some, ◌⊎◌, inl, inr, refl, sym, ◌∙◌, ap, subst, ◌↔◌}
 use Rattle.std.specs.Prelude.{Contains, filter_map}
 use Rattle.std.specs.List.{list_all}
 use Rattle.std.proofs.lemmas.Bool.{false≢true}
-use Rattle.std.proofs.lemmas.Map.Views.{Contains-from_any}
 use Rattle.fib_list.proofs.Lists.{either, Contains-nil, Contains-flat_map}
 use Rattle.fib_list.proofs.Booleans.{and_both}
 use Rattle.fib_addr.specs.Prefixes.{Prefix, IsPrefix, same_prefix, contains, host}
@@ -12,7 +11,7 @@ use Rattle.fib_resolve.specs.Aims.{marked, marked_list}
 use Rattle.fib_resolve.specs.Edits.{paths_at}
 use Rattle.fib_resolve.specs.Keys.{need_rank}
 use Rattle.fib_resolve.specs.Loops.{targets, looped_kind}
-use Rattle.fib_resolve.specs.Pairs.{entries, chosen, recursive_of, recursive_hops, route_pair, attached_by}
+use Rattle.fib_resolve.specs.Pairs.{entries, chosen, recursive_of, recursive_hops, route_pair}
 use Rattle.fib_resolve.specs.Tables.{IsSound, is_route}
 use Rattle.fib_resolve.specs.declared.types.FibSource.{FibSource}
 use Rattle.fib_resolve.specs.declared.types.Path.{Path}
@@ -20,10 +19,11 @@ use Rattle.fib_resolve.specs.declared.types.Route.{Route}
 use Rattle.fib_resolve.specs.declared.types.Tables.{Tables}
 use Rattle.fib_resolve.proofs.OneList.{one_list}
 use Rattle.fib_changes.specs.Differ.{Differ}
+use Rattle.fib_changes.specs.Sources.{all_hops}
 use Rattle.fib_changes.specs.declared.change.Change.TheVariants as changes
 use Rattle.fib_changes.proofs.Edits.{in_cases, in_front}
 use Rattle.fib_changes.proofs.SamePairs.{map_from, from_origin, base}
-use Rattle.fib_changes.proofs.Targets.{edge_entry, hop_entry}
+use Rattle.fib_changes.proofs.Targets.{edge_entry}
 use Rattle.fib_entries.specs.Known.{PathKept, Known, content_of, prefix_of, IsRow, StandsFor, kind_met}
 use Rattle.fib_entries.specs.inner.Coming.{IsBelonging, blank_row, with_pairs}
 use Rattle.fib_entries.specs.inner.Leaf.{IsLeafEdit, IsButFor, goals_of, is_plain, plain_kind, plain_mark, plain_own}
@@ -59,10 +59,10 @@ module _ (v : Known) (S T : Tables) (p : Prefix) (source : FibSource) (place : �
     | inr (none, is) ↦ absurd (none r c it)
   ]
 
-  -- its edit, where late are next hops that no other route has and that their covers don't attach
+  -- its edit, where late are next hops that no route has yet
   pub belonging_edit : (late : List ℕ) → Differ (changes.Route p source ∷ []) S T
       → ((a : ℕ) → Contains (filter_map recursive_of (paths_at p source T.routes)) a → Contains late a ⊎ ((d : Prefix) × (d ≢ p) × Contains (targets S d) (host a)))
-      → ((a : ℕ) → Contains late a → (a < 2 ^ 32) × (contains p a ≡ false) × (Contains (entries S) (host a) → ⊥) × (attached_by S a ≡ None)) → IsLeafEdit S T p source late
+      → ((a : ℕ) → Contains late a → (a < 2 ^ 32) × (contains p a ≡ false) × (Contains (all_hops S) a → ⊥)) → IsLeafEdit S T p source late
   belonging_edit late differ hops out = record {
     before = k.sound;
     after = after;
@@ -80,9 +80,7 @@ module _ (v : Known) (S T : Tables) (p : Prefix) (source : FibSource) (place : �
       | inr later ↦ hops a (subst (λ l. Contains (filter_map recursive_of l) a) (list_after r later it) hop)
     ];
     late_out = λ a c. (let o = out a c in (o.0, o.1));
-    late_alone = λ a c r off there hop. (out a c).2 (Contains-from_any (λ x y. (same_prefix-Decides x y).0) (host a) (entries S) (hop_entry S a (Contains-flat_map recursive_hops S.routes r a there hop)));
-    late_derived = λ a c x d is. absurd ((out a c).2 (entry_of_pair S x (host a) d is));
-    late_loose = λ a c. (out a c).3;
+    late_alone = λ a c r off there hop. (out a c).2 (Contains-flat_map recursive_hops S.routes r a there hop);
   }
 
 -- the row of the prefix, whose marks are those of plain paths

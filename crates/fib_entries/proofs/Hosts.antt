@@ -26,8 +26,8 @@ use Rattle.fib_resolve.proofs.PairLaws.{each-all}
 use Rattle.fib_resolve.proofs.Touching.{best_of, BestOf, untouched_pairs}
 use Rattle.fib_changes.specs.Sources.{all_hops}
 use Rattle.fib_changes.proofs.SamePairs.{Origin, origin, from_origin, base, neighbor, derived, near_from, near_host, derived_host}
-use Rattle.fib_entries.specs.inner.Leaf.{IsLeafEdit}
-use Rattle.fib_entries.proofs.Leafing.{front, base_cases, base_came, each_has, entry_of_pair, pair_at, own_prefix, host_other, host_is, late_loose_after}
+use Rattle.fib_entries.specs.inner.Leaf.{IsLeafEdit, AreWhole}
+use Rattle.fib_entries.proofs.Leafing.{front, base_cases, base_came, each_has, entry_of_pair, pair_at, own_prefix, host_other, host_is, late_attached}
 
 -- no base pair is made of a next hop
 IsGiven : Pair → Type 0
@@ -126,14 +126,14 @@ went_touched S T e c gone = elim (either (is_touched S T e)) [
   | inr isnt ↦ (let x = pair_at S e c in absurd (gone (entry_of_pair T x.0 e ((untouched_pairs S T e x.0 isnt (sym x.2)).0 x.1) x.2)))
 ]
 
-module _ (S T : Tables) (p : Prefix) (source : FibSource) (late : List ℕ) (h : IsLeafEdit S T p source late) where
+module _ (S T : Tables) (p : Prefix) (source : FibSource) (late : List ℕ) (h : IsLeafEdit S T p source late) (whole : AreWhole S late) where
   -- the host of a late next hop is such a one, before and after
   pub loose_before : (a : ℕ) → Contains late a → IsUnattached S a
-  loose_before a m = record { loose = h.late_loose a m; based = λ x c is. base_given S h.before x c (h.late_derived a m x (from_origin S x (base c)) is) }
+  loose_before a m = record { loose = whole.loose a m; based = λ x c is. base_given S h.before x c (whole.derived a m x (from_origin S x (base c)) is) }
 
   pub loose_after : (a : ℕ) → Contains late a → IsUnattached T a
   loose_after a m = record {
-    loose = late_loose_after S T p source late h a m;
+    loose = sym (late_attached S T p source late h a m) ∙ whole.loose a m;
     based = λ x c is. elim (base_came S T p source late h x c) [
       | inl was ↦ (loose_before a m).based x was is
       | inr (r, k, it, at) ↦ host_other S T p source late h a (sym (own_prefix S T p source late h r it) ∙ ap (λ z. z.prefix) at ∙ is)

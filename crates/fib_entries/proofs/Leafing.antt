@@ -321,7 +321,7 @@ outside p e off = rw (not_it p e off) (by (e.len == 32))
     by false = refl
 
 -- a walk by its last edge
-last_step : {A : Type 0} (E : A → A → Type 0) (n : ℕ) (x y : A) → Walk E (suc n) x y → (z : A) × Walk E n x z × E z y
+pub last_step : {A : Type 0} (E : A → A → Type 0) (n : ℕ) (x y : A) → Walk E (suc n) x y → (z : A) × Walk E n x z × E z y
 last_step E zero x y w = (x, refl, subst (E x) w.2 w.1)
 last_step E (suc n) x y w = let r = last_step E n w.0 y w.2 in (r.0, (w.0, w.1, r.1), r.2)
 
@@ -339,10 +339,10 @@ module _ (S T : Tables) (p : Prefix) (source : FibSource) (h : Differ (changes.R
   addresses_beside : (a : Address) → Contains S.addresses a ↔ Contains T.addresses a
   addresses_beside a = h.addresses a (elsewhere (changes.Address a) (λ e. address_not p source a e))
 
-  flags_beside : (i : ℕ) → is_up S i ≡ is_up T i
+  pub flags_beside : (i : ℕ) → is_up S i ≡ is_up T i
   flags_beside i = h.flags i (elsewhere (changes.Flag i) (λ e. flag_not p source i e))
 
-  macs_beside : (i a : ℕ) → mac_of S i a ≡ mac_of T i a
+  pub macs_beside : (i a : ℕ) → mac_of S i a ≡ mac_of T i a
   macs_beside i a = h.neighbors i a (elsewhere (changes.Neighbor i a) (λ e. neighbor_not p source i a e))
 
   pub near_beside : NeighborsCaught S T (λ _. false)
@@ -640,13 +640,12 @@ module _ (S T : Tables) (p : Prefix) (source : FibSource) (late : List ℕ) (h :
     ];
   }
 
-  -- a late next hop keeps its cover, and isn't attached by it
+  -- a late next hop keeps its cover, which attaches it as before
   pub late_cover : (a : ℕ) → Contains late a → cover S a ≡ cover T a
   late_cover a c = (let out = h.late_out a c in covers_agree S T (same_prefix p) base_caught good a out.0 (not_cover S a out.0 out.1) (not_cover T a out.0 out.1))
 
-  pub late_loose_after : (a : ℕ) → Contains late a → attached_by T a ≡ None
-  late_loose_after a c = (let out = h.late_out a c in
-      sym (attached_agrees S T (same_prefix p) base_caught good a h.after out.0 (not_cover S a out.0 out.1) (not_cover T a out.0 out.1)) ∙ h.late_loose a c)
+  pub late_attached : (a : ℕ) → Contains late a → attached_by S a ≡ attached_by T a
+  late_attached a c = (let out = h.late_out a c in attached_agrees S T (same_prefix p) base_caught good a h.after out.0 (not_cover S a out.0 out.1) (not_cover T a out.0 out.1))
 
   -- a late next hop is one of these routes alone
   late_of : (U : Tables) → ((r : Route) → is_route p source r ≡ false → Contains U.routes r → Contains S.routes r) → (a : ℕ) → Contains late a

@@ -84,8 +84,6 @@ module _ (v : Known) (S T : Tables) (p : Prefix) (source : FibSource) (place id 
     ];
     late_out = λ a c. absurd (Contains-nil a c);
     late_alone = λ a c. absurd (Contains-nil a c);
-    late_derived = λ a c. absurd (Contains-nil a c);
-    late_loose = λ a c. absurd (Contains-nil a c);
   }
 
 module _ (v w : Known) (S T : Tables) (p : Prefix) (source : FibSource) (place id : ℕ) (old : List Path) (most : ℕ) (k : StandsFor v S) (m : IsLeaving v.rows v.lists T p source place id old) (differ : Differ (changes.Route p source ∷ []) S T) (after : IsSound T)

@@ -55,6 +55,14 @@ pub mod Owning
 pub mod WithHost
 pub mod WithoutHost
 pub mod PartedFields
+pub mod Gateways
+pub mod GatePairs
+pub mod Gaining
+pub mod GateFields
+pub mod Gating
+pub mod SparePairs
+pub mod Lost
+pub mod SpareFields
 pub mod HostFields
 pub mod Gaps
 pub mod Summing

@@ -77,6 +77,4 @@ module _ (v : Known) (S T : Tables) (p : Prefix) (source : FibSource) (place id 
     ];
     late_out = λ a c. absurd (Contains-nil a c);
     late_alone = λ a c. absurd (Contains-nil a c);
-    late_derived = λ a c. absurd (Contains-nil a c);
-    late_loose = λ a c. absurd (Contains-nil a c);
   }

@@ -33,6 +33,7 @@ use Rattle.fib_changes.specs.Sources.{all_hops}
 use Rattle.fib_changes.specs.declared.change.Change.TheVariants as changes
 use Rattle.fib_changes.proofs.Edits.{in_cases, in_front, in_rest}
 use Rattle.fib_changes.proofs.SamePairs.{map_from}
+use Rattle.fib_changes.proofs.Targets.{hop_entry}
 use Rattle.fib_interned.specs.Interned.{AreInterned}
 use Rattle.fib_interned.proofs.Finding.{contains_at, some_is, none_some}
 use Rattle.fib_entries.specs.Known.{Known, content_of, prefix_of, rank_of, rank_in, ArePairs, IsRow, StandsFor, holders, kind_met}
@@ -40,7 +41,7 @@ use Rattle.fib_entries.specs.Changes.{AreTouched, AreMoved}
 use Rattle.fib_entries.specs.inner.Coming.{blank_row}
 use Rattle.fib_entries.specs.inner.Fields.{AreCounted}
 use Rattle.fib_entries.specs.inner.Hosting.{IsHosting, HasHosted, host_own}
-use Rattle.fib_entries.specs.inner.Leaf.{IsLeafEdit, IsFollowed, AreAttached, goal_of, goals_of, pushed, plain_own}
+use Rattle.fib_entries.specs.inner.Leaf.{IsLeafEdit, AreWhole, IsFollowed, AreAttached, goal_of, goals_of, pushed, plain_own}
 use Rattle.fib_entries.specs.inner.Part.{in_part, IsButForPart, IsPartEdit, IsPartMade}
 use Rattle.fib_entries.specs.declared.changes.Followed.{Followed}
 use Rattle.fib_entries.specs.declared.hosting.Late.{Late}
@@ -117,15 +118,27 @@ module _ (v : Known) (S T : Tables) (p : Prefix) (source : FibSource) (place : �
       let is = first_chosen v S k m.late.cover.prefix l.pair head.0 l.list k.sound (subst (λ q. ArePairs v.lists S m.late.cover.prefix q) head.1 cover_row.pairs) l.content in
       attached_by_chosen S g.addr k.sound ∙ (ap (λ e. attached_of (chosen S e)) (sym cover_is) ∙ (ap attached_of (sym is) ∙ l.loose))
 
+  no_hop : Contains (all_hops S) g.addr → ⊥
+  no_hop c = no_host (Contains-from_any (λ x y. (same_prefix-Decides x y).0) (host g.addr) (entries S) (hop_entry S g.addr c))
+
   pub hosting_edit : IsLeafEdit S T p source (g.addr ∷ [])
   hosting_edit = belonging_edit v S T p source place k m.belongs after (g.addr ∷ []) differ (λ a c. led_but v S p k (paths_at p source T.routes) g.addr a m.shared c)
-      (λ a c. subst (λ z. (z < 2 ^ 32) × (contains p z ≡ false) × (Contains (entries S) (host z) → ⊥) × (attached_by S z ≡ None)) (only_one g.addr a c) (m.late.small, m.late.away, no_host, loose))
+      (λ a c. subst (λ z. (z < 2 ^ 32) × (contains p z ≡ false) × (Contains (all_hops S) z → ⊥)) (only_one g.addr a c) (m.late.small, m.late.away, no_hop))
+
+  pub hosting_whole : AreWhole S (g.addr ∷ [])
+  hosting_whole = record {
+    derived = λ a c x d is. absurd (no_host (entry_of_pair S x (host g.addr) d (is ∙ ap host (sym (only_one g.addr a c)))));
+    loose = λ a c. subst (λ z. attached_by S z ≡ None) (only_one g.addr a c) loose;
+  }
 
 module _ (v w : Known) (S T : Tables) (p : Prefix) (source : FibSource) (place top made most : ℕ) (g : Late) (f : Followed) (k : StandsFor v S) (m : IsHosting v.rows v.lists (map prefix_of v.rows) T p source place g) (differ : Differ (changes.Route p source ∷ []) S T) (after : IsSound T)
     (apart : AreInterned v.lists) (c : HasHosted T v.rows w.rows v.lists w.lists g p source (paths_at p source T.routes) (top + 1) made f) (count : w.objects ≡ v.objects + made) (fits : w.objects ≤ most) (small : most < 2 ^ 32 - 1)
     (above : (t : Prefix) → Contains (goals_of (paths_at p source T.routes)) t → rank_of v.rows t ≤ top) (over : g.rank ≤ top) where
   h : IsLeafEdit S T p source (g.addr ∷ [])
   h = hosting_edit v S T p source place g k m differ after
+
+  whole : AreWhole S (g.addr ∷ [])
+  whole = hosting_whole v S T p source place g k m differ after
 
   late_in : Contains (g.addr ∷ []) g.addr
   late_in = in_front g.addr g.addr [] refl
@@ -182,7 +195,7 @@ module _ (v w : Known) (S T : Tables) (p : Prefix) (source : FibSource) (place t
   hop_there = (late_hop S T p source (g.addr ∷ []) h g.addr late_in).1 (list_hop T p source g.addr m.hop)
 
   host_there : Contains (entries T) (host g.addr)
-  host_there = (late_entry S T p source (g.addr ∷ []) h g.addr late_in).1 hop_there
+  host_there = (late_entry S T p source (g.addr ∷ []) h whole g.addr late_in).1 hop_there
 
   no_host_was : Contains (entries S) (host g.addr) → ⊥
   no_host_was = no_host v S T p source place g k m differ after
@@ -195,7 +208,7 @@ module _ (v w : Known) (S T : Tables) (p : Prefix) (source : FibSource) (place t
       let sp = counted_none S p source (own_before S T p source (g.addr ∷ []) h) paths (none_was v S T p source place k m.belongs after) in
       let tp = counted_own T p source (own_after S T p source (g.addr ∷ []) h) paths m.belongs.some in
       let sh = host_uncounted S g.addr paths (λ y d is. no_host_was (entry_of_pair S y (host g.addr) d is)) in
-      let th = host_counted T g.addr paths (loose_pair g.addr) refl (late_there S T p source (g.addr ∷ []) h g.addr late_in hop_there) (λ y d is. late_pair S T p source (g.addr ∷ []) h g.addr late_in y d is) in
+      let th = host_counted T g.addr paths (loose_pair g.addr) refl (late_there S T p source (g.addr ∷ []) h whole g.addr late_in hop_there) (λ y d is. late_pair S T p source (g.addr ∷ []) h whole g.addr late_in y d is) in
       sums (holders T paths) (holders S paths) _ _ _ _ _ _ (once (paths_at p source T.routes) paths) (once (plain kinds.Cover ∷ []) paths) e s t sp tp sh th
     where
       sums : (ht hs cs ct ps pt ss tt op oh : ℕ) → ht + cs ≡ hs + ct → cs ≡ ps + ss → ct ≡ pt + tt → ps ≡ 0 → pt ≡ op → ss ≡ 0 → tt ≡ oh → hs + op + oh ≡ ht
@@ -224,7 +237,7 @@ module _ (v w : Known) (S T : Tables) (p : Prefix) (source : FibSource) (place t
   none_before = plain_targets S p [] (chosen_before S T p source (g.addr ∷ []) h ∙ none_was v S T p source place k m.belongs after) refl
 
   host_targets : targets T (host g.addr) ≡ m.late.cover.prefix ∷ []
-  host_targets = late_targets S T p source (g.addr ∷ []) h g.addr late_in hop_there ∙ ap (λ z. z ∷ []) (sym cover_now)
+  host_targets = late_targets S T p source (g.addr ∷ []) h whole g.addr late_in hop_there ∙ ap (λ z. z ∷ []) (sym cover_now)
 
   in_goals : Contains (goals_of (paths_at p source T.routes)) (host g.addr)
   in_goals = hop_goal (paths_at p source T.routes) g.addr m.hop
@@ -278,27 +291,27 @@ module _ (v w : Known) (S T : Tables) (p : Prefix) (source : FibSource) (place t
   host_row s t at =
       let x = both_h v.rows w.rows (host g.addr) p m.late.cover.prefix (goals_of (paths_at p source T.routes)) (host_own m.late.cover.prefix g.rank) (plain_own T source (paths_at p source T.routes) (top + 1))
       ((sources.RecursiveResolution, g.list) ∷ []) ((source, c.placed.new_id) ∷ []) both k.ordered not_host s t at not_cover in
-      let list = late_chosen S T p source (g.addr ∷ []) h g.addr late_in hop_there in
+      let list = late_chosen S T p source (g.addr ∷ []) h whole g.addr late_in hop_there in
       let own : s.prefix ≡ host g.addr = sym at in
       record {
         prefix = subst IsPrefix at (record { short = omega arith; fits = m.late.small; cleared = omega arith });
         pairs = subst (ArePairs w.lists T s.prefix) (ap (λ z. z.pairs) x.1) (record {
           best_first = (tt, tt);
-          found = λ y d is. (let e = late_pair S T p source (g.addr ∷ []) h g.addr late_in y d (sym is ∙ own) in (
+          found = λ y d is. (let e = late_pair S T p source (g.addr ∷ []) h whole g.addr late_in y d (sym is ∙ own) in (
             (sources.RecursiveResolution, g.list),
             in_front (sources.RecursiveResolution, g.list) (sources.RecursiveResolution, g.list) [] refl,
             (ap (λ z. z.source) (sym e), host_content ∙ ap (λ z. Some z.paths) (sym e)),
           ));
           real = λ q d. (let e = only_one (sources.RecursiveResolution, g.list) q d in (
             loose_pair g.addr,
-            late_there S T p source (g.addr ∷ []) h g.addr late_in hop_there,
+            late_there S T p source (g.addr ∷ []) h whole g.addr late_in hop_there,
             own,
             (ap (λ z. z.0) (sym e), ap (λ z. content_of w.lists z.1) (sym e) ∙ host_content),
           ));
         });
         looped = ap (λ z. z.looped) (sym x.1) ∙ (x.2 ∙ ap (map (λ q. looped_kind T s.prefix q.kind)) (sym (ap (chosen T) own ∙ list)));
         met = ap (λ z. z.met) (sym x.1) ∙ (x.3 ∙ ap (map (λ q. kind_met T q.need q.kind)) (sym (ap (chosen T) own ∙ list)));
-        marked = ap (λ z. z.marked) (sym x.1) ∙ (x.4 ∙ (ap (λ z. record { aim = aims.On z; counts = true; weight = 1; preference = 0 } ∷ []) cover_now ∙ sym (ap (marked_list T) own ∙ late_marks S T p source (g.addr ∷ []) h g.addr late_in hop_there)));
+        marked = ap (λ z. z.marked) (sym x.1) ∙ (x.4 ∙ (ap (λ z. record { aim = aims.On z; counts = true; weight = 1; preference = 0 } ∷ []) cover_now ∙ sym (ap (marked_list T) own ∙ late_marks S T p source (g.addr ∷ []) h whole g.addr late_in hop_there)));
         dependants = λ d. subst (λ l. Contains l d ↔ Contains (targets T d) s.prefix) (ap (λ z. z.dependants) x.1) (
           λ i. (let y = (x.5 d).0 i in subst (λ z. Contains (targets T z) s.prefix) y.0 (subst (λ l. Contains l s.prefix) (sym goals) (subst (Contains (goals_of (paths_at p source T.routes))) at y.1))),
           λ i. (x.5 d).1 (sym (late_led S T p source (g.addr ∷ []) h d g.addr late_in (subst (Contains (targets T d)) own i)), in_goals),
@@ -408,7 +421,7 @@ module _ (v w : Known) (S T : Tables) (p : Prefix) (source : FibSource) (place t
       ])
       (λ e is z i. elim (inside e is) [
         | inl same ↦ own_end z (ends_by T p (paths_at p source T.routes) (chosen_after S T p source (g.addr ∷ []) h) z (subst (λ q. Contains (adjacencies_of T q) z) (sym same) i))
-        | inr same ↦ absurd (Contains-nil z (ends_by T (host g.addr) (plain kinds.Cover ∷ []) (late_chosen S T p source (g.addr ∷ []) h g.addr late_in hop_there) z (subst (λ q. Contains (adjacencies_of T q) z) (sym same) i)))
+        | inr same ↦ absurd (Contains-nil z (ends_by T (host g.addr) (plain kinds.Cover ∷ []) (late_chosen S T p source (g.addr ∷ []) h whole g.addr late_in hop_there) z (subst (λ q. Contains (adjacencies_of T q) z) (sym same) i)))
       ])
 
   size_law : size T ≡ size S + made
@@ -477,7 +490,7 @@ module _ (v w : Known) (S T : Tables) (p : Prefix) (source : FibSource) (place t
     touched = λ e. (
       λ i. elim (in_cases p e (host g.addr ∷ []) i) [
         | inl same ↦ subst (λ z. is_touched S T z ≡ true) same (own_touched S T p source (g.addr ∷ []) h (λ is. m.belongs.some (sym is ∙ none_was v S T p source place k m.belongs after)))
-        | inr later ↦ subst (λ z. is_touched S T z ≡ true) (only_one (host g.addr) e later) (late_touched S T p source (g.addr ∷ []) h g.addr late_in no_host_was host_there)
+        | inr later ↦ subst (λ z. is_touched S T z ≡ true) (only_one (host g.addr) e later) (late_touched S T p source (g.addr ∷ []) h whole g.addr late_in no_host_was host_there)
       ],
       λ is. elim (inside e (touched_inside v w S T (in_part p (g.addr ∷ [])) edit_part.beside k made_part.kept e is)) [
         | inl same ↦ in_front p e (host g.addr ∷ []) same

@@ -30,7 +30,7 @@ use Rattle.fib_interned.proofs.Finding.{contains_at}
 use Rattle.fib_entries.specs.Known.{Known, content_of, prefix_of, rank_of, rank_in, StandsFor, holders}
 use Rattle.fib_entries.specs.Changes.{AreTouched, AreMoved}
 use Rattle.fib_entries.specs.inner.Fields.{AreCounted}
-use Rattle.fib_entries.specs.inner.Leaf.{IsLeafEdit, IsFollowed, goals_of}
+use Rattle.fib_entries.specs.inner.Leaf.{IsLeafEdit, AreWhole, IsFollowed, goals_of}
 use Rattle.fib_entries.specs.inner.Part.{in_part, IsButForPart, IsPartEdit, IsPartMade}
 use Rattle.fib_entries.specs.inner.Parting.{IsParting, HasParted}
 use Rattle.fib_entries.specs.declared.changes.Followed.{Followed}
@@ -120,14 +120,21 @@ module _ (v : Known) (S T : Tables) (p : Prefix) (source : FibSource) (place id 
     ];
     late_out = λ a c. subst (λ z. (z < 2 ^ 32) × (contains p z ≡ false)) (only_one g.addr a c) (m.last.small, m.last.away);
     late_alone = λ a c r off there hop. unused_but v S k p source g.addr m.last.row m.last.there m.last.own m.last.alone (λ x d at other. absurd (other (all_own x d at).0)) m.last.unhidden r off there (subst (Contains (recursive_hops r)) (sym (only_one g.addr a c)) hop);
-    late_derived = λ a c x d is. (host_all x d (ap host (only_one g.addr a c) ∙ sym is)).0;
-    late_loose = λ a c. subst (λ z. attached_by S z ≡ None) (only_one g.addr a c) loose;
+  }
+
+  pub parting_whole : AreWhole S (g.addr ∷ [])
+  parting_whole = record {
+    derived = λ a c x d is. (host_all x d (ap host (only_one g.addr a c) ∙ sym is)).0;
+    loose = λ a c. subst (λ z. attached_by S z ≡ None) (only_one g.addr a c) loose;
   }
 
 module _ (v w : Known) (S T : Tables) (p : Prefix) (source : FibSource) (place id made most : ℕ) (old : List Path) (g : Last) (f : Followed) (k : StandsFor v S) (m : IsParting v.rows v.lists (map prefix_of v.rows) T p source place id old g) (differ : Differ (changes.Route p source ∷ []) S T) (after : IsSound T)
     (apart : AreInterned v.lists) (c : HasParted v.rows w.rows v.lists w.lists place p id old g made f) (count : w.objects + made ≡ v.objects) (under : v.objects ≤ most) (small : most < 2 ^ 32 - 1) where
   h : IsLeafEdit S T p source (g.addr ∷ [])
   h = parting_edit v S T p source place id old g k m differ after
+
+  whole : AreWhole S (g.addr ∷ [])
+  whole = parting_whole v S T p source place id old g k m differ after
 
   late_in : Contains (g.addr ∷ []) g.addr
   late_in = in_front g.addr g.addr [] refl
@@ -139,11 +146,11 @@ module _ (v w : Known) (S T : Tables) (p : Prefix) (source : FibSource) (place i
   hop_there = hop_was v S T p source place id old g k m differ after
 
   host_was : Contains (entries S) (host g.addr)
-  host_was = (late_entry_before S T p source (g.addr ∷ []) h g.addr late_in).1 hop_there
+  host_was = (late_entry_before S T p source (g.addr ∷ []) h whole g.addr late_in).1 hop_there
 
   no_host_now : Contains (entries T) (host g.addr) → ⊥
   no_host_now i =
-      let r = flat_map_from recursive_hops T.routes g.addr ((late_entry S T p source (g.addr ∷ []) h g.addr late_in).0 i) in
+      let r = flat_map_from recursive_hops T.routes g.addr ((late_entry S T p source (g.addr ∷ []) h whole g.addr late_in).0 i) in
       elim (either (is_route p source r.0)) [
         | inl it ↦ path_there T after p source r.0 r.1 it m.gone
         | inr off ↦ h.late_alone g.addr late_in r.0 off ((routes_beside S T p source differ r.0 off).1 r.1) r.2
@@ -168,7 +175,7 @@ module _ (v w : Known) (S T : Tables) (p : Prefix) (source : FibSource) (place i
   cover_at = cover_is v S T p source place id old g k m differ after
 
   host_goals : targets S (host g.addr) ≡ g.cover ∷ []
-  host_goals = late_targets_before S T p source (g.addr ∷ []) h g.addr late_in hop_there ∙ ap (λ z. z ∷ []) (sym cover_at)
+  host_goals = late_targets_before S T p source (g.addr ∷ []) h whole g.addr late_in hop_there ∙ ap (λ z. z ∷ []) (sym cover_at)
 
   -- rows without the prefix, and then without the host
   low_ordered : IsAscending (map prefix_of c.low)
@@ -230,7 +237,7 @@ module _ (v w : Known) (S T : Tables) (p : Prefix) (source : FibSource) (place i
       let sp = counted_own S p source (own_before S T p source (g.addr ∷ []) h) paths (some_was v S T p source place id old g k m differ after) in
       let same = ap (λ l. once l paths) (list_was v S T p source place id old g k m differ after) in
       let tp = counted_none T p source (own_after S T p source (g.addr ∷ []) h) paths m.gone in
-      let sh = host_counted S g.addr paths (loose_pair g.addr) refl (late_there_before S T p source (g.addr ∷ []) h g.addr late_in hop_there) (λ y d is. late_pair_before S T p source (g.addr ∷ []) h g.addr late_in y d is) in
+      let sh = host_counted S g.addr paths (loose_pair g.addr) refl (late_there_before S T p source (g.addr ∷ []) h whole g.addr late_in hop_there) (λ y d is. late_pair_before S T p source (g.addr ∷ []) h whole g.addr late_in y d is) in
       let th = host_uncounted T g.addr paths (λ y d is. no_host_now (entry_of_pair T y (host g.addr) d is)) in
       sums (holders T paths) (holders S paths) _ _ _ _ _ _ (once (paths_at p source S.routes) paths) (once (plain kinds.Cover ∷ []) paths) (once old paths) e s t sp same tp sh th
     where
@@ -274,7 +281,7 @@ module _ (v w : Known) (S T : Tables) (p : Prefix) (source : FibSource) (place i
 
   -- the late host's list leads to its cover, so it has no Hop end
   host_no_end : (z : Adjacency) → Contains (adjacencies_of S (host g.addr)) z → ⊥
-  host_no_end z i = Contains-nil z (ends_by S (host g.addr) (plain kinds.Cover ∷ []) (loose_chosen S g.addr (loose_before S T p source (g.addr ∷ []) h g.addr late_in) hop_there) z i)
+  host_no_end z i = Contains-nil z (ends_by S (host g.addr) (plain kinds.Cover ∷ []) (loose_chosen S g.addr (loose_before S T p source (g.addr ∷ []) h whole g.addr late_in) hop_there) z i)
 
   -- and a Hop end of the prefix is that of another host
   own_end : (z : Adjacency) → Contains (ends_in p old) z → HasEnd S (in_part p (g.addr ∷ [])) z
@@ -369,7 +376,7 @@ module _ (v w : Known) (S T : Tables) (p : Prefix) (source : FibSource) (place i
   host_rank : rank_of v.rows (cover S g.addr) < rank_of v.rows (host g.addr)
   host_rank = k.falls (host g.addr) (cover S g.addr) (
     plain kinds.Cover,
-    subst (λ l. Contains l (plain kinds.Cover)) (sym (loose_chosen S g.addr (loose_before S T p source (g.addr ∷ []) h g.addr late_in) hop_there)) (in_front (plain kinds.Cover) (plain kinds.Cover) [] refl),
+    subst (λ l. Contains l (plain kinds.Cover)) (sym (loose_chosen S g.addr (loose_before S T p source (g.addr ∷ []) h whole g.addr late_in) hop_there)) (in_front (plain kinds.Cover) (plain kinds.Cover) [] refl),
     refl,
     in_front (cover S g.addr) (cover S g.addr) [] refl,
   )
@@ -380,7 +387,7 @@ module _ (v w : Known) (S T : Tables) (p : Prefix) (source : FibSource) (place i
     touched = λ e. (
       λ i. elim (in_cases p e (host g.addr ∷ []) i) [
         | inl same ↦ subst (λ z. is_touched S T z ≡ true) same (own_touched S T p source (g.addr ∷ []) h (λ is. some_was v S T p source place id old g k m differ after (is ∙ m.gone)))
-        | inr later ↦ subst (λ z. is_touched S T z ≡ true) (only_one (host g.addr) e later) (late_touched_before S T p source (g.addr ∷ []) h g.addr late_in host_was no_host_now)
+        | inr later ↦ subst (λ z. is_touched S T z ≡ true) (only_one (host g.addr) e later) (late_touched_before S T p source (g.addr ∷ []) h whole g.addr late_in host_was no_host_now)
       ],
       λ is. elim (inside e (touched_inside v w S T (in_part p (g.addr ∷ [])) edit_part.beside k made_part.kept e is)) [
         | inl same ↦ in_front p e (host g.addr ∷ []) same

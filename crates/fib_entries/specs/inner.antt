@@ -12,6 +12,8 @@ pub mod Coming
 pub mod Part
 pub mod Hosting
 pub mod Parting
+pub mod Gateway
+pub mod Losing
 pub mod Raising
 pub mod Led
 pub mod Looping

@@ -11,8 +11,10 @@ ghost use Rattle.fib_entries.specs.inner.Course.{IsCourse};
 ghost use Rattle.fib_entries.specs.inner.Ends.{IsNews};
 ghost use Rattle.fib_entries.specs.inner.Led.{IsReaching};
 ghost use Rattle.fib_entries.specs.inner.Reaching.{HasReached};
+ghost use Rattle.fib_entries.specs.inner.Gateway.{IsGaining};
 ghost use Rattle.fib_entries.specs.inner.Hosting.{IsHosting};
 ghost use Rattle.fib_entries.specs.inner.Leaf.{IsClear, IsFollowed};
+ghost use Rattle.fib_entries.specs.inner.Losing.{IsLosing};
 ghost use Rattle.fib_entries.specs.inner.Parting.{IsParting};
 ghost use Rattle.fib_changes.specs.Differ.{Differ};
 ghost use Rattle.fib_changes.specs.declared.change.Change.TheVariants as changes;
@@ -25,12 +27,14 @@ use crate::course::{course, host_gone, host_of, made_by, put_late, take_gone, ta
 use crate::ends;
 use crate::ends::News;
 use crate::entries::Entries;
+use crate::gateway::{Gateway, gain, gateway_for};
 use crate::going::{leave, leaving, size_at};
 use crate::hosting::{
     Late, MOST_OF_ONE, MOST_OF_TWO, come_hosted, greater, insert_both, late_for, remove_both,
 };
 use crate::leaf::{are_far, is_none, leaf_place, only_list, ready, top_rank};
 use crate::look::row;
+use crate::losing::{lose, spare_for};
 use crate::parting::{Last, last_for, leave_parting};
 use crate::plies::{beyond, lowered, own_size, raised};
 use crate::reaching::{Course, Spot, reaching, turn_reached};
@@ -305,7 +309,93 @@ impl Entries {
         }
     }
 
-    /// The same where the prefix comes, with or without a host.
+    /// The place where the prefix's row belongs, and the gateway among its next hops, where it comes with the route of that source and list.
+    /// The list is the route's in the tables.
+    fn gaining(
+        &self,
+        tables: &Tables,
+        prefix: Prefix,
+        source: FibSource,
+        new: &[Path],
+    ) -> Option<(usize, Gateway)>
+        requires list { new.now ≡ paths_at prefix source tables.now.routes }
+        requires clear { IsClear self.now.rows tables.now.neighbors prefix }
+        ensures { IfSome result (λ x. IsGaining self.now.rows self.now.lists (map prefix_of self.now.rows) tables.now prefix source x.0 x.1) }
+    {
+        let Some(place) = belongs(&self.rows, tables, prefix, source, new) else {
+            return None;
+        };
+        let Some(gateway) = gateway_for(&self.rows, &self.lists, &self.order, prefix, new) else {
+            return None;
+        };
+        Some((place, gateway))
+    }
+
+    /// Follows the first route of that prefix and source, where rows and neighbors tell that the prefix comes with it, that the host of one of
+    /// its next hops gets its pair, and that nothing else is touched; None where they don't. The list is the route's in the tables. After want
+    /// of memory all is as before.
+    pub(crate) fn follow_gaining(
+        &mut self,
+        tables: &Tables,
+        prefix: Prefix,
+        source: FibSource,
+        new: &[Path],
+        most: u32,
+    ) -> Result<Option<Followed>, AllocError>
+        requires sound { IsSound tables.now }
+        requires list { new.now ≡ paths_at prefix source tables.now.routes }
+        requires clear { IsClear self.old.rows tables.now.neighbors prefix }
+        requires most { most < 2 ^ 32 - 1 }
+        ensures followed { IfOk result (λ o. IfSome o (λ f. (S : TablesValue) → StandsFor self.old S →
+            Differ (changes.Route prefix source ∷ []) S tables.now → IsFollowed self.old self.new S tables.now most f)) }
+        ensures none { IfOk result (λ o. IfNone o (self.new ≡ self.old)) }
+        ensures err { OnErr result (self.new ≡ self.old) }
+    {
+        let Some((place, gateway)) = self.gaining(tables, prefix, source, new) else {
+            return Ok(None);
+        };
+        if !self.lists.has_room(new) {
+            return Ok(None);
+        }
+        let top = top_rank(&self.rows, new);
+        if top == u32::MAX {
+            return Ok(None);
+        }
+        let size = own_size(&self.rows, place, place, prefix);
+        let Some(objects) = raised(self.objects, size, most) else {
+            return Ok(None);
+        };
+        let to = Target {
+            tables,
+            prefix,
+            source,
+            new,
+            rank: top + 1,
+        };
+        self.index.note(prefix, new, None)?;
+        self.index.note_several(Prefix::host(gateway.addr))?;
+        self.order.insert(prefix)?;
+        match gain(
+            self.alloc,
+            &mut self.rows,
+            &mut self.lists,
+            gateway,
+            place,
+            to,
+        ) {
+            Ok(followed) => {
+                self.objects = objects;
+                Ok(Some(followed))
+            }
+            Err(e) => {
+                self.order.remove(prefix);
+                self.index.forget(prefix, &[], None);
+                Err(e)
+            }
+        }
+    }
+
+    /// The same where the prefix comes, with or without a host, or by way of a gateway.
     fn follow_new(
         &mut self,
         tables: &Tables,
@@ -323,9 +413,12 @@ impl Entries {
         ensures none { IfOk result (λ o. IfNone o (self.new ≡ self.old)) }
         ensures err { OnErr result (self.new ≡ self.old) }
     {
-        match self.follow_coming(tables, prefix, source, new, most)? {
+        if let Some(followed) = self.follow_coming(tables, prefix, source, new, most)? {
+            return Ok(Some(followed));
+        }
+        match self.follow_hosting(tables, prefix, source, new, most)? {
             Some(followed) => Ok(Some(followed)),
-            None => self.follow_hosting(tables, prefix, source, new, most),
+            None => self.follow_gaining(tables, prefix, source, new, most),
         }
     }
 
@@ -565,7 +658,81 @@ impl Entries {
         Ok(Some(parted.0))
     }
 
-    /// The same where the row goes, with or without a host.
+    /// The place of the prefix's row, the number of its list, and the gateway among its next hops, where the row goes with the route of that
+    /// source, whose list is then that. The list is the route's in the tables.
+    fn losing(
+        &self,
+        tables: &Tables,
+        prefix: Prefix,
+        source: FibSource,
+        new: &[Path],
+    ) -> Option<((usize, PathListId), Gateway)>
+        requires list { new.now ≡ paths_at prefix source tables.now.routes }
+        requires clear { IsClear self.now.rows tables.now.neighbors prefix }
+        ensures { IfSome result (λ x. (old : Items PathValue) × IsLosing self.now.rows self.now.lists tables.now prefix source x.0.0 x.0.1 old x.1) }
+    {
+        let _tables = tables;
+        let Some(place) = leaf_place(&self.rows, prefix, source) else {
+            return None;
+        };
+        let Some(id) = only_list(&self.rows[place], source) else {
+            return None;
+        };
+        if !is_none(new) {
+            return None;
+        }
+        let old = self.lists.content(id);
+        let Some(gateway) = spare_for(&self.rows, &self.lists, &self.index, prefix, old) else {
+            return None;
+        };
+        if id == gateway.list {
+            return None;
+        }
+        Some(((place, id), gateway))
+    }
+
+    /// Follows the loss of the route of that prefix and source, where rows and the tables tell that the prefix's row goes with it, that the
+    /// host of one of its next hops loses its pair, and that nothing else is touched; None where they don't. The list is the route's in the
+    /// tables. After want of memory all is as before.
+    pub(crate) fn follow_losing(
+        &mut self,
+        tables: &Tables,
+        prefix: Prefix,
+        source: FibSource,
+        new: &[Path],
+        most: u32,
+    ) -> Result<Option<Followed>, AllocError>
+        requires sound { IsSound tables.now }
+        requires list { new.now ≡ paths_at prefix source tables.now.routes }
+        requires clear { IsClear self.old.rows tables.now.neighbors prefix }
+        requires most { most < 2 ^ 32 - 1 }
+        ensures followed { IfOk result (λ o. IfSome o (λ f. (S : TablesValue) → StandsFor self.old S →
+            Differ (changes.Route prefix source ∷ []) S tables.now → IsFollowed self.old self.new S tables.now most f)) }
+        ensures none { IfOk result (λ o. IfNone o (self.new ≡ self.old)) }
+        ensures err { OnErr result (self.new ≡ self.old) }
+    {
+        let Some((at, gateway)) = self.losing(tables, prefix, source, new) else {
+            return Ok(None);
+        };
+        let size = size_at(&self.rows, at.0, prefix);
+        let Some(objects) = lowered(self.objects, size, most) else {
+            return Ok(None);
+        };
+        let followed = lose(
+            self.alloc,
+            &mut self.rows,
+            &mut self.lists,
+            at,
+            prefix,
+            &gateway,
+        )?;
+        self.order.remove(prefix);
+        self.index.forget(prefix, &[], None);
+        self.objects = objects;
+        Ok(Some(followed))
+    }
+
+    /// The same where the row goes, with or without a host, or by way of a gateway.
     fn follow_gone(
         &mut self,
         tables: &Tables,
@@ -583,9 +750,12 @@ impl Entries {
         ensures none { IfOk result (λ o. IfNone o (self.new ≡ self.old)) }
         ensures err { OnErr result (self.new ≡ self.old) }
     {
-        match self.follow_going(tables, prefix, source, new, most)? {
+        if let Some(followed) = self.follow_going(tables, prefix, source, new, most)? {
+            return Ok(Some(followed));
+        }
+        match self.follow_parting(tables, prefix, source, new, most)? {
             Some(followed) => Ok(Some(followed)),
-            None => self.follow_parting(tables, prefix, source, new, most),
+            None => self.follow_losing(tables, prefix, source, new, most),
         }
     }
 

@@ -4,8 +4,10 @@ ghost use Rattle.std.specs.List.{list_any};
 ghost use Rattle.fib_addr.specs.Prefixes.{Prefix as PrefixValue};
 ghost use Rattle.fib_cover.specs.Covers.{IsAscending, is_inside};
 ghost use Rattle.fib_entries.specs.inner.Fields.{AreAmong, IsForgotten, IsIndexed, IsNoted, is_of, kind_leaves, leave};
+ghost use Rattle.fib_entries.specs.inner.Gateway.{IsSeveral};
 
 use crate::ends::has_exit;
+use crate::look::is_same;
 use crate::rows::Row;
 use fib_addr::Prefix;
 use fib_blocks::Blocks;
@@ -109,6 +111,18 @@ impl Index {
         Ok(())
     }
 
+    /// The prefix's row may get several lists.
+    pub fn note_several(&mut self, prefix: Prefix) -> Result<(), AllocError>
+        ensures ok { OnOk result (IsSeveral self.old self.new prefix) }
+        ensures err { OnErr result (self.new ≡ self.old) }
+    {
+        if is_listed(self.several.as_slice(), prefix) {
+            return Ok(());
+        }
+        self.several.push(prefix)?;
+        Ok(())
+    }
+
     /// The prefix's row has that list, and that host's row is gone. Takes no memory.
     pub fn forget(&mut self, prefix: Prefix, paths: &[Path], host: Option<Prefix>)
         ensures { IsForgotten self.old self.new prefix paths.now host }
@@ -120,6 +134,13 @@ impl Index {
             self.hosts.remove(host);
         }
     }
+}
+
+/// Whether the prefix is one of these.
+fn is_listed(list: &[Prefix], prefix: Prefix) -> bool
+    ensures { IsTrue result → Contains list.now prefix }
+{
+    list.iter().any(|e| is_same(prefix, *e))
 }
 
 /// Whether packets of the path leave by an interface.

@@ -70,7 +70,7 @@ fn own_hop(rows: &Blocks<Row>, p: Prefix, path: &Path) -> Option<Addr>
 }
 
 /// The first such next hop.
-fn last_hop(rows: &Blocks<Row>, p: Prefix, paths: &[Path]) -> Option<Addr>
+pub fn last_hop(rows: &Blocks<Row>, p: Prefix, paths: &[Path]) -> Option<Addr>
     requires { IsAscending (map prefix_of rows.now) }
     ensures hop { IfSome result (λ a. Contains (filter_map recursive_of paths.now) a) }
     ensures small { IfSome result (λ a. a < 2 ^ 32) }
@@ -126,7 +126,13 @@ fn is_in_row(rows: &Blocks<Row>, lists: &PathLists, e: Prefix, a: Addr) -> bool
 }
 
 /// Whether one of the lists of these rows has it, but for that of `p`.
-fn is_hidden(rows: &Blocks<Row>, lists: &PathLists, several: &[Prefix], p: Prefix, a: Addr) -> bool
+pub fn is_hidden(
+    rows: &Blocks<Row>,
+    lists: &PathLists,
+    several: &[Prefix],
+    p: Prefix,
+    a: Addr,
+) -> bool
     requires ascending { IsAscending (map prefix_of rows.now) }
     requires held { AreHeld rows.now lists.now }
     ensures { result ≡ false → (e : PrefixValue) → Contains several.now e → p ≢ e → IsNotIn rows.now lists.now e a }
@@ -167,7 +173,7 @@ pub fn is_in_rest(r: &Row, lists: &PathLists, gone: &Option<Last>) -> bool
 }
 
 /// Whether the prefix alone leads to the row's entry.
-fn is_alone(r: &Row, p: Prefix) -> bool
+pub fn is_alone(r: &Row, p: Prefix) -> bool
     ensures { IsTrue result → r.now.dependants ≡ p ∷ [] }
 {
     match r.dependants().as_slice() {

@@ -42,8 +42,7 @@ use Rattle.fib_resolve.specs.Sizes.{size}
 use Rattle.fib_changes.specs.declared.change.Change.TheVariants as changes
 
 -- the routes of one prefix and source alone can differ; no entry has an edge to the prefix, no host and no neighbor lies in it, and
--- each next hop of these routes is one of another entry's list too, or a late one: no other route has it, no other pair is at its host,
--- and its cover doesn't attach it
+-- each next hop of these routes is one of another entry's list too, or a late one, which no other route has
 pub record IsLeafEdit (S T : Tables) (p : Prefix) (source : FibSource) (late : List ℕ) : Type 0 where
   pub before : IsSound S
   pub after : IsSound T
@@ -60,8 +59,11 @@ pub record IsLeafEdit (S T : Tables) (p : Prefix) (source : FibSource) (late : L
       → Contains late a ⊎ ((d : Prefix) × (d ≢ p) × Contains (targets S d) (host a))
   pub late_out : (a : ℕ) → Contains late a → (a < 2 ^ 32) × (contains p a ≡ false)
   pub late_alone : (a : ℕ) → Contains late a → (r : Route) → is_route p source r ≡ false → Contains S.routes r → Contains (recursive_hops r) a → ⊥
-  pub late_derived : (a : ℕ) → Contains late a → (x : Pair) → Contains (pairs S) x → x.prefix ≡ host a → x.source ≡ sources.RecursiveResolution
-  pub late_loose : (a : ℕ) → Contains late a → attached_by S a ≡ None
+
+-- no other pair is at the host of a late next hop, and its cover doesn't attach it
+pub record AreWhole (S : Tables) (late : List ℕ) : Type 0 where
+  pub derived : (a : ℕ) → Contains late a → (x : Pair) → Contains (pairs S) x → x.prefix ≡ host a → x.source ≡ sources.RecursiveResolution
+  pub loose : (a : ℕ) → Contains late a → attached_by S a ≡ None
 
 -- the same row, but that the prefix may have come to its dependants or gone from them
 pub record IsButFor (p : Prefix) (r s : Row) : Type 0 where
