@@ -84,8 +84,13 @@ pub mod ReachedBy
 pub mod ReachFields
 pub mod Turned
 pub mod Turning
+pub mod HopLaws
 pub mod NearLaws
 pub mod NearPairs
 pub mod NearSizes
 pub mod NearRows
 pub mod NearFields
+pub mod Asking
+pub mod HopPairs
+pub mod HopRows
+pub mod HopFields

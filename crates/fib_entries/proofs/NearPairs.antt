@@ -30,9 +30,10 @@ use Rattle.fib_entries.proofs.Counting.{holders_step}
 use Rattle.fib_entries.proofs.Covering.{cover_found}
 use Rattle.fib_entries.proofs.Ending.{IsSameBase, caught_base, attached_alike, hops_alike}
 use Rattle.fib_entries.proofs.EndNews.{near_there, neighbor_of, derived_not, other_neighbors, real_by}
+use Rattle.fib_entries.proofs.HopLaws.{near_base}
 use Rattle.fib_entries.proofs.Leafing.{entry_of_pair, host_is, near_half, pair_at}
 use Rattle.fib_entries.proofs.LedPairs.{hop_pair, near_is, near_in}
-use Rattle.fib_entries.proofs.NearLaws.{IsNearEdit, near_base}
+use Rattle.fib_entries.proofs.NearLaws.{IsNearEdit}
 use Rattle.fib_entries.proofs.Owning.{owned_all, owned_there}
 use Rattle.fib_entries.proofs.PartCounts.{host_counted, host_uncounted}
 use Rattle.fib_entries.proofs.Placing.{gap_absent}
@@ -78,7 +79,7 @@ module _ (U V : Tables) (i a : ℕ) (m : IsNearMore U V i a) where
       sums : (hv hu cu cv o : ℕ) → hv + cu ≡ hu + cv → cu ≡ 0 → cv ≡ o → hv ≡ hu + o
       sums hv hu cu cv o e z c = omega (arith, e, z, c)
 
-near_gone : (T : Tables) (i a : ℕ) → mac_of T i a ≡ None → HasNeighbor T i a → ⊥
+pub near_gone : (T : Tables) (i a : ℕ) → mac_of T i a ≡ None → HasNeighbor T i a → ⊥
 near_gone T i a none h = (let r = near_half T fresh i a none h in Contains-nil r.0 r.1)
 
 first_kind : List Path → PathKind
@@ -88,16 +89,16 @@ first_kind (p ∷ ps) = p.kind
 hop_kind : (a b i j : ℕ) → kinds.Hop a i ≡ kinds.Hop b j → i ≡ j
 hop_kind a b i j e = (cc)
 
-hop_interface : (a b i j : ℕ) → hop_pair a i ≡ hop_pair b j → i ≡ j
+pub hop_interface : (a b i j : ℕ) → hop_pair a i ≡ hop_pair b j → i ≡ j
 unfolding first_kind
 hop_interface a b i j e = hop_kind a b i j (ap (λ (z : Pair). first_kind z.paths) e)
 
-mac_came : (x y : Option ℕ) → x ≡ None → IsSome y → not (same_mac x y) ≡ true
+pub mac_came : (x y : Option ℕ) → x ≡ None → IsSome y → not (same_mac x y) ≡ true
 mac_came None None gone known = absurd (false≢true known)
 mac_came None (Some n) gone known = refl
 mac_came (Some m) y gone known = absurd (none_some m (sym gone))
 
-mac_went : (x y : Option ℕ) → (x ≡ None → ⊥) → y ≡ None → not (same_mac x y) ≡ true
+pub mac_went : (x y : Option ℕ) → (x ≡ None → ⊥) → y ≡ None → not (same_mac x y) ≡ true
 mac_went None y known gone = absurd (known refl)
 mac_went (Some m) None known gone = refl
 mac_went (Some m) (Some n) known gone = absurd (none_some n (sym gone))

@@ -20,3 +20,4 @@ pub mod Looping
 pub mod Reaching
 pub mod Course
 pub mod Near
+pub mod Hop

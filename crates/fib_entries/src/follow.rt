@@ -283,7 +283,10 @@ impl Entries {
         if let Some(followed) = self.follow_news(tables, change, most)? {
             return Ok(Some(followed));
         }
-        self.follow_neighbor(tables, interface, addr, most)
+        if let Some(followed) = self.follow_neighbor(tables, interface, addr, most)? {
+            return Ok(Some(followed));
+        }
+        self.follow_next_hop(tables, interface, addr, most)
     }
 
     /// The same where a route's list changed, which is looked up once.

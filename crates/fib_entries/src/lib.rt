@@ -20,6 +20,7 @@ mod follow;
 mod gateway;
 mod going;
 mod groups;
+mod hop;
 mod hosting;
 mod index;
 mod leaf;

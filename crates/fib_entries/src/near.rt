@@ -38,7 +38,7 @@ use fib_resolve::{FibSource, Need, Path, PathKind, Tables};
 use std::alloc::{AllocError, Global};
 
 /// The path of a neighbor's host.
-fn hop_path(interface: u32, addr: Addr) -> Path
+pub fn hop_path(interface: u32, addr: Addr) -> Path
     ensures { result ≡ plain (kinds.Hop addr interface) }
 {
     Path {
@@ -53,7 +53,7 @@ fn hop_path(interface: u32, addr: Addr) -> Path
 }
 
 /// The neighbor's MAC, or that it is a neighbor no more.
-fn mac_news(tables: &Tables, interface: u32, addr: Addr) -> News
+pub fn mac_news(tables: &Tables, interface: u32, addr: Addr) -> News
     ensures { result ≡ news.Mac interface addr (mac_of tables.now interface addr) }
 {
     News::Mac {
