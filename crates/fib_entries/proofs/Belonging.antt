@@ -5,7 +5,7 @@ use Rattle.std.specs.List.{list_all}
 use Rattle.std.proofs.lemmas.Bool.{false≢true}
 use Rattle.fib_list.proofs.Lists.{either, Contains-nil, Contains-flat_map}
 use Rattle.fib_list.proofs.Booleans.{and_both}
-use Rattle.fib_addr.specs.Prefixes.{Prefix, IsPrefix, same_prefix, contains, host}
+use Rattle.fib_addr.specs.Prefixes.{Prefix, IsPrefix, same_prefix, host}
 use Rattle.fib_addr.proofs.PrefixLaws.{same_prefix-Decides}
 use Rattle.fib_resolve.specs.Aims.{marked, marked_list}
 use Rattle.fib_resolve.specs.Edits.{paths_at}
@@ -25,6 +25,7 @@ use Rattle.fib_changes.proofs.Edits.{in_cases, in_front}
 use Rattle.fib_changes.proofs.SamePairs.{map_from, from_origin, base}
 use Rattle.fib_changes.proofs.Targets.{edge_entry}
 use Rattle.fib_entries.specs.Known.{PathKept, Known, content_of, prefix_of, IsRow, StandsFor, kind_met}
+use Rattle.fib_entries.specs.inner.Clear.{IsApart}
 use Rattle.fib_entries.specs.inner.Coming.{IsBelonging, blank_row, with_pairs}
 use Rattle.fib_entries.specs.inner.Leaf.{IsLeafEdit, IsButFor, goals_of, is_plain, plain_kind, plain_mark, plain_own}
 use Rattle.fib_entries.specs.Rows.{Row}
@@ -32,7 +33,7 @@ use Rattle.fib_entries.proofs.LeafSizes.{each_plain}
 use Rattle.fib_entries.proofs.Leafing.{from_route, entry_of_pair, unlooped, leaf_after}
 use Rattle.fib_entries.proofs.Listing.{listed_route, source_of_route, own_list, own_there, own_after, chosen_after, pair_of}
 use Rattle.fib_entries.proofs.Placing.{gap_absent}
-use Rattle.fib_entries.proofs.Ready.{clear_alone}
+use Rattle.fib_entries.proofs.Ready.{clear_alone, clear_far}
 use Rattle.fib_entries.proofs.Replacing.{met_is, loop_is, mark_is, maps_same, goal_long}
 
 module _ (v : Known) (S T : Tables) (p : Prefix) (source : FibSource) (place : ℕ) (k : StandsFor v S) (m : IsBelonging v.rows T p source place) (after : IsSound T) where
@@ -62,7 +63,7 @@ module _ (v : Known) (S T : Tables) (p : Prefix) (source : FibSource) (place : �
   -- its edit, where late are next hops that no route has yet
   pub belonging_edit : (late : List ℕ) → Differ (changes.Route p source ∷ []) S T
       → ((a : ℕ) → Contains (filter_map recursive_of (paths_at p source T.routes)) a → Contains late a ⊎ ((d : Prefix) × (d ≢ p) × Contains (targets S d) (host a)))
-      → ((a : ℕ) → Contains late a → (a < 2 ^ 32) × (contains p a ≡ false) × (Contains (all_hops S) a → ⊥)) → IsLeafEdit S T p source late
+      → ((a : ℕ) → Contains late a → (a < 2 ^ 32) × IsApart (entries S) p a × (Contains (all_hops S) a → ⊥)) → IsLeafEdit S T p source late
   belonging_edit late differ hops out = record {
     before = k.sound;
     after = after;
@@ -70,8 +71,8 @@ module _ (v : Known) (S T : Tables) (p : Prefix) (source : FibSource) (place : �
     prefix = m.prefix;
     short = m.short;
     real = λ q c. (let r = real_entry q c in subst IsPrefix r.2 (k.rows r.0 r.1).prefix);
-    alone = λ a c inside. clear_alone v S p T.neighbors k m.clear a c inside;
-    far = m.clear.far;
+    alone = clear_alone v S p T.neighbors k m.clear;
+    far = clear_far v S p T.neighbors k m.clear;
     written = m.written;
     only = λ x c at. absurd (no_entry (entry_of_pair S x p c (sym at)));
     leaf = λ d c. no_entry (edge_entry S d p c);

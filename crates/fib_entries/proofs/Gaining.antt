@@ -4,7 +4,7 @@ use Rattle.std.specs.Prelude.{Contains, min, option_map}
 use Rattle.std.proofs.lemmas.Bool.{false≢true, cases_lt}
 use Rattle.std.proofs.lemmas.Bool.Decides.{Decides-eqb}
 use Rattle.fib_list.proofs.Lists.{either, Contains-nil}
-use Rattle.fib_addr.specs.Prefixes.{Prefix, IsPrefix, same_prefix, contains, host}
+use Rattle.fib_addr.specs.Prefixes.{Prefix, IsPrefix, same_prefix, host}
 use Rattle.fib_addr.proofs.PrefixLaws.{same_prefix-Decides}
 use Rattle.fib_cover.specs.Covers.{IsAscending}
 use Rattle.fib_resolve.specs.Edits.{paths_at}
@@ -30,6 +30,7 @@ use Rattle.fib_interned.specs.Interned.{AreInterned}
 use Rattle.fib_interned.proofs.Finding.{contains_at}
 use Rattle.fib_entries.specs.Known.{Known, content_of, prefix_of, rank_of, rank_in, ArePairs, IsRow, StandsFor, holders, kind_met}
 use Rattle.fib_entries.specs.Changes.{AreTouched, AreMoved}
+use Rattle.fib_entries.specs.inner.Clear.{IsApart}
 use Rattle.fib_entries.specs.inner.Coming.{blank_row, with_pairs}
 use Rattle.fib_entries.specs.inner.Fields.{AreCounted}
 use Rattle.fib_entries.specs.inner.Gateway.{IsGaining, HasGained}
@@ -43,6 +44,7 @@ use Rattle.fib_entries.proofs.Arriving.{mid_own, with_it, row_from, ordered_came
 use Rattle.fib_entries.proofs.Belonging.{no_entry, none_was, belonging_edit, came_is_row}
 use Rattle.fib_entries.proofs.Covering.{cover_found}
 use Rattle.fib_entries.proofs.GatePairs.{better_pairs, gained_list}
+use Rattle.fib_entries.proofs.Ready.{rows_apart}
 use Rattle.fib_entries.proofs.Gateways.{IsGained, derived_source, derived_paths, gained_pairs, gained_there, gained_new, gained_chosen, gateway_holders, gateway_kept, gateway_looped, gateway_marked, gateway_met, gateway_targets, gateway_touched, pair_counted, pair_uncounted}
 use Rattle.fib_entries.proofs.Growing.{IsGrown, size_more}
 use Rattle.fib_entries.proofs.HopEnds.{ends_but}
@@ -78,7 +80,7 @@ module _ (v : Known) (S T : Tables) (p : Prefix) (source : FibSource) (place : �
 
   pub gaining_edit : IsLeafEdit S T p source (g.addr ∷ [])
   gaining_edit = belonging_edit v S T p source place k m.belongs after (g.addr ∷ []) differ (λ a c. led_but v S p k (paths_at p source T.routes) g.addr a m.shared c)
-      (λ a c. subst (λ z. (z < 2 ^ 32) × (contains p z ≡ false) × (Contains (all_hops S) z → ⊥)) (only_one g.addr a c) (m.gateway.small, m.gateway.away, no_hop))
+      (λ a c. subst (λ z. (z < 2 ^ 32) × IsApart (entries S) p z × (Contains (all_hops S) z → ⊥)) (only_one g.addr a c) (m.gateway.small, rows_apart v S p g.addr k m.gateway.away, no_hop))
 
   hop_now : Contains (all_hops T) g.addr
   hop_now = (late_hop S T p source (g.addr ∷ []) gaining_edit g.addr (in_front g.addr g.addr [] refl)).1 (list_hop T p source g.addr m.hop)

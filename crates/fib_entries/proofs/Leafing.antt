@@ -1,4 +1,4 @@
--- What a change of a route makes another where nothing leads to its prefix and no host lies in it: its own entry, and the hosts of late
+-- What a change of a route makes another where nothing leads to its prefix and it covers no host: its own entry, and the hosts of late
 -- next hops, which no other route has.
 use Rattle.std.proofs.Common.{arith, ◌≡◌, ◌≢◌, ℕ, zero, suc, ◌<◌, ◌^◌, Bool, true, false, not, ◌||◌, ◌&&◌, ◌==◌, List, [], ◌∷◌, ◌++◌, map, Option, Some, None, ◌⊎◌, inl, inr, refl, sym, ◌∙◌, ap, subst, ◌↔◌}
 use Rattle.std.specs.Prelude.{Contains, flat_map, nat_lt, find, option_map, filter_map, IfSome, is_some}
@@ -50,8 +50,10 @@ use Rattle.fib_changes.proofs.SamePairs.{map_in, map_from, flat_map_from, Origin
 use Rattle.fib_changes.proofs.Edits.{any_in, in_cases}
 use Rattle.fib_changes.proofs.CauseLaws.{any_from}
 use Rattle.fib_interned.proofs.Finding.{find_place, contains_at, none_some, some_is}
+use Rattle.fib_entries.specs.inner.Clear.{IsApart, IsNarrower}
 use Rattle.fib_entries.specs.inner.Leaf.{IsLeafEdit}
 use Rattle.fib_entries.specs.inner.Part.{in_part, IsPartEdit}
+use Rattle.fib_entries.proofs.Apart.{longer_covers, short_pair}
 
 route_is : (p q : Prefix) (s t : FibSource) → changes.Route p s ≡ changes.Route q t → (p ≡ q) × (s ≡ t)
 route_is p q s t e = ((cc), (cc))
@@ -437,50 +439,54 @@ module _ (S T : Tables) (p : Prefix) (source : FibSource) (late : List ℕ) (h :
   pub hops_same : (a : ℕ) → list_any (λ b. b == a) late ≡ false → Contains (all_hops S) a ↔ Contains (all_hops T) a
   hops_same a early = hops_beside S T p source h.differ a (λ r it c m. elim (h.hops r a it c m) [ inl is ↦ absurd (no_late a early is) | inr d ↦ d ])
 
-  -- a host in the prefix, or beyond the addresses
+  -- a host that is neither an entry nor a neighbor, or beyond the addresses
   IsAway : ℕ → Type 0
-  IsAway a = (contains p a ≡ true) ⊎ (a < 2 ^ 32 → ⊥)
+  IsAway a = ((Contains (entries S) (host a) → ⊥) × ((n : Neighbor) → Contains T.neighbors n → n.addr ≡ a → ⊥)) ⊎ (a < 2 ^ 32 → ⊥)
+
+  -- an address is that, or apart
+  away_or_apart : (a : ℕ) → IsAway a ⊎ IsApart (entries S) p a
+  unfolding IsAway
+  away_or_apart a = elim (either (is_member same_prefix (entries S) (host a))) [
+    | inl is ↦ inr (h.alone a (Contains-from_any (λ x y. (same_prefix-Decides x y).0) (host a) (entries S) is))
+    | inr isnt ↦ elim (either (list_any (λ n. n.addr == a) T.neighbors)) [
+      | inl near_it ↦ (let r = any_from (λ (n : Neighbor). n.addr == a) T.neighbors near_it in inr (subst (IsApart (entries S) p) ((Decides-eqb r.0.addr a).0 r.2) (h.far r.0 r.1).1))
+      | inr far ↦ inl (inl (
+          λ c. false≢true (sym isnt ∙ any_in (same_prefix (host a)) (entries S) (host a) c ((same_prefix-Decides (host a) (host a)).1 refl)),
+          λ n c at. false≢true (sym far ∙ any_in (λ (m : Neighbor). m.addr == a) T.neighbors n c ((Decides-eqb n.addr a).1 at)),
+        ))
+    ]
+  ]
 
   pub host_other : (a : ℕ) → p ≢ host a
   host_other a is = (let l = ap (λ z. z.len) is in let s = h.short in omega (arith, l, s))
-
-  away_early : (a : ℕ) → IsAway a → list_any (λ b. b == a) late ≡ false
-  unfolding IsAway
-  away_early a away = elim (either (list_any (λ b. b == a) late)) [
-    | inr isnt ↦ isnt
-    | inl is ↦ (let r = any_from (λ b. b == a) late is in
-        let out = h.late_out a (subst (Contains late) ((Decides-eqb r.0 a).0 r.2) r.1) in
-        elim away [ inl inside ↦ absurd (false≢true (sym out.1 ∙ inside)) | inr beyond ↦ absurd (beyond out.0) ])
-  ]
 
   none_before : (a : ℕ) → IsAway a → (x : Pair) → Contains (pairs S) x → x.prefix ≡ host a → ⊥
   unfolding IsAway
   none_before a away x c is =
       let e = entry_of_pair S x (host a) c is in
       elim away [
-        | inl inside ↦ h.alone a e inside
+        | inl none ↦ none.0 e
         | inr beyond ↦ beyond (h.real (host a) e).fits
       ]
 
-  none_after : (a : ℕ) → IsAway a → (x : Pair) → Contains (pairs T) x → x.prefix ≡ host a → ⊥
+  none_after : (a : ℕ) → list_any (λ b. b == a) late ≡ false → IsAway a → (x : Pair) → Contains (pairs T) x → x.prefix ≡ host a → ⊥
   unfolding IsAway
-  none_after a away x c is = by (origin T x c)
+  none_after a early away x c is = by (origin T x c)
     where
       by : Origin T x → ⊥
       by (base k) = none_before a away x (from_origin S x (base ((base_caught x (not_it p x.prefix (λ e. host_other a (e ∙ is)))).1 k))) is
       by (neighbor n k m) = (let f = near_from T n x m in
           let at : n.addr ≡ a = host_is n.addr a (sym (near_host n.addr n.interface) ∙ ap (λ z. z.prefix) f.1 ∙ is) in
-          let far = h.far n k in
           elim away [
-            | inl inside ↦ false≢true (sym far.1 ∙ ap (contains p) at ∙ inside)
-            | inr beyond ↦ beyond (subst (λ z. z < 2 ^ 32) at far.0)
+            | inl none ↦ none.1 n k at
+            | inr beyond ↦ beyond (subst (λ z. z < 2 ^ 32) at (h.far n k).0)
           ])
       by (derived b k e) = (let at : b ≡ a = host_is b a (sym (derived_host T b) ∙ ap (λ z. z.prefix) e ∙ is) in
-          none_before a away (derived_pair S b) (from_origin S (derived_pair S b) (derived b ((hops_same b (subst (λ z. list_any (λ c. c == z) late ≡ false) (sym at) (away_early a away))).1 k) refl)) (derived_host S b ∙ ap host at))
+          none_before a away (derived_pair S b) (from_origin S (derived_pair S b) (derived b ((hops_same b (subst (λ z. list_any (λ c. c == z) late ≡ false) (sym at) early)).1 k) refl)) (derived_host S b ∙ ap host at))
 
-  none_same : (a : ℕ) → IsAway a → SameEntry S T (host a)
-  none_same a away = record {
-    pairs = λ x is. (λ c. absurd (none_before a away x c (sym is)), λ c. absurd (none_after a away x c (sym is)));
+  none_same : (a : ℕ) → list_any (λ b. b == a) late ≡ false → IsAway a → SameEntry S T (host a)
+  none_same a early away = record {
+    pairs = λ x is. (λ c. absurd (none_before a away x c (sym is)), λ c. absurd (none_after a early away x c (sym is)));
     cover = λ q c is. absurd (Contains-nil q (subst (λ l. Contains l q) (chosen-no_entry S (host a) none_entry) c));
   }
     where
@@ -494,30 +500,53 @@ module _ (S T : Tables) (p : Prefix) (source : FibSource) (late : List ℕ) (h :
   good : ArePrefixes T
   good = good_beside S T p source h.differ h.prefix h.real
 
-  not_cover : (U : Tables) (a : ℕ) → a < 2 ^ 32 → contains p a ≡ false → same_prefix p (cover U a) ≡ false
-  unfolding cover
-  not_cover U a small out = not_it p (cover U a) (λ is. false≢true (sym out ∙ ap (λ z. contains z a) is ∙ (longest_is_longest a (short_prefixes U) small).matches))
+  -- the tables have the base pairs of all other prefixes
+  Keeps : Tables → Type 0
+  Keeps U = (x : Pair) → p ≢ x.prefix → Contains (base_pairs S) x → Contains (base_pairs U) x
 
-  quiet : (e : Prefix) → in_part p late e ≡ false → (e.len ≡ 32 → (e.bits < 2 ^ 32) × (contains p e.bits ≡ false)) → affected S T (same_prefix p) (λ a. list_any (λ b. b == a) late || false) e ≡ false
+  keeps_before : Keeps S
+  unfolding Keeps
+  keeps_before x off c = c
+
+  keeps_after : Keeps T
+  unfolding Keeps
+  keeps_after x off = (base_caught x (not_it p x.prefix off)).0
+
+  -- the prefix doesn't cover an address that is apart
+  not_cover : (U : Tables) → Keeps U → (a : ℕ) → a < 2 ^ 32 → IsApart (entries S) p a → p ≢ cover U a
+  unfolding cover Keeps
+  not_cover U keeps a small (inl out) is = false≢true (sym out ∙ ap (λ z. contains z a) is ∙ (longest_is_longest a (short_prefixes U) small).matches)
+  not_cover U keeps a small (inr (q, n, inside)) is =
+      let x = pair_at S q n.member in
+      let other : p ≢ x.0.prefix = λ e. (let same = ap (λ z. z.len) (e ∙ x.2) in let lt = n.longer in omega (arith, same, lt)) in
+      let there = short_pair S U x.0 x.1 (subst (λ z. z.len < 32) (sym x.2) n.short) (keeps x.0 other) in
+      longer_covers U p q a small (subst (Contains (short_prefixes U)) x.2 there) n.longer inside is
+
+  uncovered : (a : ℕ) → a < 2 ^ 32 → IsApart (entries S) p a → (same_prefix p (cover S a) ≡ false) × (same_prefix p (cover T a) ≡ false)
+  uncovered a small apart = (not_it p (cover S a) (not_cover S keeps_before a small apart), not_it p (cover T a) (not_cover T keeps_after a small apart))
+
+  quiet : (e : Prefix) → in_part p late e ≡ false → (e.len ≡ 32 → (e.bits < 2 ^ 32) × IsApart (entries S) p e.bits) → affected S T (same_prefix p) (λ a. list_any (λ b. b == a) late || false) e ≡ false
   quiet e off out = rw (not_it p e (part_not p late e off)) (by (e.len == 32) (list_any (λ b. b == e.bits) late) ((Decides-eqb e.len 32).0) (or_neither (same_prefix p e) _ off))
     where
       by : (b l : Bool) → (b ≡ true → e.len ≡ 32) → (b && l) ≡ false
           → (b && (same_prefix p (cover S e.bits) || (same_prefix p (cover T e.bits) || ((l || false) || not (nat_lt e.bits (2 ^ 32)))))) ≡ false
       by false l f early = refl
       by true true f early = absurd (false≢true (sym early))
-      by true false f early = (let o = out (f refl) in rw (not_cover S e.bits o.0 o.1, not_cover T e.bits o.0 o.1, lt-ltb e.bits (2 ^ 32) o.0) refl)
+      by true false f early = (let o = out (f refl) in let u = uncovered e.bits o.0 o.1 in rw (u.0, u.1, lt-ltb e.bits (2 ^ 32) o.0) refl)
 
   pub same_entry : (e : Prefix) → in_part p late e ≡ false → SameEntry S T e
   unfolding IsAway
   same_entry e off = elim (either (e.len == 32)) [
     | inr shorter ↦ caught e (quiet e off (λ is. absurd (false≢true (sym shorter ∙ (Decides-eqb e.len 32).1 is))))
-    | inl long ↦ (let at : host e.bits ≡ e = ap (λ n. prefix_with e.bits n) (sym ((Decides-eqb e.len 32).0 long)) in elim (either (nat_lt e.bits (2 ^ 32))) [
-      | inr beyond ↦ subst (SameEntry S T) at (none_same e.bits (inr (λ lt. false≢true (sym beyond ∙ lt-ltb e.bits (2 ^ 32) lt))))
-      | inl small ↦ elim (either (contains p e.bits)) [
-        | inl inside ↦ subst (SameEntry S T) at (none_same e.bits (inl inside))
-        | inr out ↦ caught e (quiet e off (λ _. (ltb-true e.bits (2 ^ 32) small, out)))
-      ]
-    ])
+    | inl long ↦ (let at : host e.bits ≡ e = ap (λ n. prefix_with e.bits n) (sym ((Decides-eqb e.len 32).0 long)) in
+        let early : list_any (λ b. b == e.bits) late ≡ false = sym (ap (λ b. b && list_any (λ b. b == e.bits) late) long) ∙ or_neither (same_prefix p e) _ off in
+        elim (either (nat_lt e.bits (2 ^ 32))) [
+          | inr beyond ↦ subst (SameEntry S T) at (none_same e.bits early (inr (λ lt. false≢true (sym beyond ∙ lt-ltb e.bits (2 ^ 32) lt))))
+          | inl small ↦ elim (away_or_apart e.bits) [
+            | inl away ↦ subst (SameEntry S T) at (none_same e.bits early away)
+            | inr apart ↦ caught e (quiet e off (λ _. (ltb-true e.bits (2 ^ 32) small, apart)))
+          ]
+        ])
   ]
     where
       prefix_with : ℕ → ℕ → Prefix
@@ -533,8 +562,11 @@ module _ (S T : Tables) (p : Prefix) (source : FibSource) (late : List ℕ) (h :
   chosen_same d off = same_chosen S T d h.after (same_entry d off).pairs
 
   -- the cover of a late next hop is another prefix
-  pub late_covered : (U : Tables) (a : ℕ) → Contains late a → p ≢ cover U a
-  late_covered U a c = (let out = h.late_out a c in is_not p (cover U a) (not_cover U a out.0 out.1))
+  late_covered : (U : Tables) → Keeps U → (a : ℕ) → Contains late a → p ≢ cover U a
+  late_covered U keeps a c = (let out = h.late_out a c in not_cover U keeps a out.0 out.1)
+
+  pub late_covered_before : (a : ℕ) → Contains late a → p ≢ cover S a
+  late_covered_before = late_covered S keeps_before
 
   -- nothing leads to the prefix afterwards
   pub leaf_after : (d : Prefix) → Contains (targets T d) p → ⊥
@@ -552,7 +584,7 @@ module _ (S T : Tables) (p : Prefix) (source : FibSource) (late : List ℕ) (h :
       by inside q c (kinds.Recursive b) is t = host_other b (sym (only_one (host b) p t))
       by inside q c kinds.Cover is t = elim (part_cases p late d inside) [
         | inl same ↦ (let long : p.len ≡ 32 = ap (λ z. z.len) same ∙ cover_at_host T h.after d q c is in let s = h.short in omega (arith, long, s))
-        | inr (a, m, at) ↦ late_covered T a m (sym (ap (λ z. cover T z.bits) at ∙ only_one (cover T d.bits) p t))
+        | inr (a, m, at) ↦ late_covered T keeps_after a m (sym (ap (λ z. cover T z.bits) at ∙ only_one (cover T d.bits) p t))
       ]
 
   -- whoever leads to the host of a late next hop is the prefix
@@ -642,10 +674,10 @@ module _ (S T : Tables) (p : Prefix) (source : FibSource) (late : List ℕ) (h :
 
   -- a late next hop keeps its cover, which attaches it as before
   pub late_cover : (a : ℕ) → Contains late a → cover S a ≡ cover T a
-  late_cover a c = (let out = h.late_out a c in covers_agree S T (same_prefix p) base_caught good a out.0 (not_cover S a out.0 out.1) (not_cover T a out.0 out.1))
+  late_cover a c = (let out = h.late_out a c in let u = uncovered a out.0 out.1 in covers_agree S T (same_prefix p) base_caught good a out.0 u.0 u.1)
 
   pub late_attached : (a : ℕ) → Contains late a → attached_by S a ≡ attached_by T a
-  late_attached a c = (let out = h.late_out a c in attached_agrees S T (same_prefix p) base_caught good a h.after out.0 (not_cover S a out.0 out.1) (not_cover T a out.0 out.1))
+  late_attached a c = (let out = h.late_out a c in let u = uncovered a out.0 out.1 in attached_agrees S T (same_prefix p) base_caught good a h.after out.0 u.0 u.1)
 
   -- a late next hop is one of these routes alone
   late_of : (U : Tables) → ((r : Route) → is_route p source r ≡ false → Contains U.routes r → Contains S.routes r) → (a : ℕ) → Contains late a

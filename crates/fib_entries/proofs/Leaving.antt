@@ -40,7 +40,7 @@ use Rattle.fib_entries.proofs.Listing.{source_of_route, own_before, own_after, c
 use Rattle.fib_entries.proofs.Naming.{some_content}
 use Rattle.fib_entries.proofs.Owning.{owned_all, owned_list, owned_some}
 use Rattle.fib_entries.proofs.Placing.{gap_removed, size_gone}
-use Rattle.fib_entries.proofs.Ready.{clear_alone}
+use Rattle.fib_entries.proofs.Ready.{clear_alone, clear_far}
 use Rattle.fib_entries.proofs.Settling.{counted_by}
 use Rattle.fib_entries.proofs.Sharing.{led_by, path_there}
 use Rattle.fib_entries.proofs.Using.{once, counted_given, given_stays}
@@ -73,8 +73,8 @@ module _ (v : Known) (S T : Tables) (p : Prefix) (source : FibSource) (place id 
     prefix = m.prefix;
     short = m.short;
     real = λ q c. (let r = real_entry q c in subst IsPrefix r.2 (k.rows r.0 r.1).prefix);
-    alone = λ a c inside. clear_alone v S p T.neighbors k m.clear a c inside;
-    far = m.clear.far;
+    alone = clear_alone v S p T.neighbors k m.clear;
+    far = clear_far v S p T.neighbors k m.clear;
     written = m.written;
     only = λ x c at. (all_own x c at).0;
     leaf = λ d c. Contains-nil d (subst (λ l. Contains l d) m.none ((own_row.dependants d).1 (subst (Contains (targets S d)) (sym m.own) c)));

@@ -18,6 +18,7 @@ pub mod Grouping
 pub mod Keying
 pub mod Counting
 pub mod Using
+pub mod Apart
 pub mod Leafing
 pub mod Hosts
 pub mod Listing

@@ -5,7 +5,7 @@ use Rattle.std.specs.List.{remove}
 use Rattle.std.proofs.lemmas.Bool.{false≢true, cases_lt}
 use Rattle.std.proofs.lemmas.Bool.Decides.{Decides-eqb}
 use Rattle.fib_list.proofs.Lists.{either, Contains-flat_map, Contains-nil}
-use Rattle.fib_addr.specs.Prefixes.{Prefix, IsPrefix, same_prefix, contains, host}
+use Rattle.fib_addr.specs.Prefixes.{Prefix, IsPrefix, same_prefix, host}
 use Rattle.fib_addr.proofs.PrefixLaws.{same_prefix-Decides}
 use Rattle.fib_cover.specs.Covers.{IsAscending, ArePrefixes}
 use Rattle.fib_resolve.specs.Edits.{paths_at}
@@ -30,6 +30,7 @@ use Rattle.fib_interned.specs.Interned.{AreInterned}
 use Rattle.fib_interned.proofs.Finding.{contains_at, some_is}
 use Rattle.fib_entries.specs.Known.{Known, content_of, prefix_of, rank_of, rank_in, ArePairs, IsRow, StandsFor, holders, kind_met}
 use Rattle.fib_entries.specs.Changes.{AreTouched, AreMoved}
+use Rattle.fib_entries.specs.inner.Clear.{IsApart}
 use Rattle.fib_entries.specs.inner.Coming.{with_pairs}
 use Rattle.fib_entries.specs.inner.Fields.{AreCounted}
 use Rattle.fib_entries.specs.inner.Leaf.{IsLeafEdit, IsFollowed, IsButFor, goals_of, moved_at}
@@ -51,7 +52,7 @@ use Rattle.fib_entries.proofs.Owning.{owned_all, owned_list, owned_some}
 use Rattle.fib_entries.proofs.PartRows.{row_by, no_row, entry_beside, rank_beside, stands_part, touched_inside, moved_inside}
 use Rattle.fib_entries.proofs.Placing.{gap_removed, size_gone}
 use Rattle.fib_entries.proofs.Putting.{paired_from, paired_names, paired_ordered, paired_there}
-use Rattle.fib_entries.proofs.Ready.{clear_alone}
+use Rattle.fib_entries.proofs.Ready.{clear_alone, clear_far, rows_apart}
 use Rattle.fib_entries.proofs.Settling.{counted_by}
 use Rattle.fib_entries.proofs.Sharing.{hop_from, led_but, path_there}
 use Rattle.fib_entries.proofs.SparePairs.{lost_list, other_real, spare_cases}
@@ -88,8 +89,8 @@ module _ (v : Known) (S T : Tables) (p : Prefix) (source : FibSource) (place id 
     prefix = m.prefix;
     short = m.short;
     real = λ q c. (let r = real_entry q c in subst IsPrefix r.2 (k.rows r.0 r.1).prefix);
-    alone = λ a c inside. clear_alone v S p T.neighbors k m.clear a c inside;
-    far = m.clear.far;
+    alone = clear_alone v S p T.neighbors k m.clear;
+    far = clear_far v S p T.neighbors k m.clear;
     written = m.written;
     only = λ x c at. (all_own x c at).0;
     leaf = λ d c. Contains-nil d (subst (λ l. Contains l d) m.none (((k.rows m.row own_there).dependants d).1 (subst (Contains (targets S d)) (sym m.own) c)));
@@ -97,7 +98,7 @@ module _ (v : Known) (S T : Tables) (p : Prefix) (source : FibSource) (place id 
       | inl before ↦ led_but v S p k old g.addr a m.shared (subst (λ l. Contains (filter_map recursive_of l) a) ((all_own (route_pair r) (from_origin S (route_pair r) (base (from_route S r before))) (sym (source_of_route p source r it).0)).1) hop)
       | inr later ↦ absurd (path_there T after p source r later it m.gone)
     ];
-    late_out = λ a c. subst (λ z. (z < 2 ^ 32) × (contains p z ≡ false)) (only_one g.addr a c) (m.spare.small, m.spare.away);
+    late_out = λ a c. subst (λ z. (z < 2 ^ 32) × IsApart (entries S) p z) (only_one g.addr a c) (m.spare.small, rows_apart v S p g.addr k m.spare.away);
     late_alone = λ a c r off there hop. unused_but v S k p source g.addr m.spare.row m.spare.there m.spare.own m.spare.alone (λ x d at other. absurd (other (all_own x d at).0)) m.spare.unhidden r off there (subst (Contains (recursive_hops r)) (sym (only_one g.addr a c)) hop);
   }
 

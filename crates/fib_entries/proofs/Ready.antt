@@ -1,8 +1,8 @@
 -- What is seen of a leaf's row makes its edit one that touches it alone.
-use Rattle.std.proofs.Common.{◌≡◌, ◌≢◌, ℕ, true, List, [], ◌∷◌, inl, inr, sym, ◌∙◌, ap, subst}
+use Rattle.std.proofs.Common.{◌≡◌, ◌≢◌, ℕ, ◌<◌, ◌^◌, true, List, [], ◌∷◌, map, inl, inr, sym, ◌∙◌, ap, subst}
 use Rattle.std.specs.Prelude.{Contains, filter_map}
 use Rattle.fib_list.proofs.Lists.{Contains-nil}
-use Rattle.fib_addr.specs.Prefixes.{Prefix, IsPrefix, contains, host}
+use Rattle.fib_addr.specs.Prefixes.{Prefix, IsPrefix, host}
 use Rattle.fib_resolve.specs.Edits.{paths_at}
 use Rattle.fib_resolve.specs.Pairs.{pairs, entries, recursive_of, route_pair}
 use Rattle.fib_resolve.specs.Loops.{targets}
@@ -19,18 +19,26 @@ use Rattle.fib_changes.specs.declared.change.Change.TheVariants as changes
 use Rattle.fib_changes.proofs.SamePairs.{map_from, from_origin, base}
 use Rattle.fib_interned.proofs.Finding.{contains_at}
 use Rattle.fib_entries.specs.Known.{Known, prefix_of, IsRow, StandsFor}
+use Rattle.fib_entries.specs.inner.Clear.{IsApart}
 use Rattle.fib_entries.specs.inner.Leaf.{IsClear, IsLeafEdit, IsReady}
 use Rattle.fib_entries.specs.Rows.{Row}
+use Rattle.fib_entries.proofs.Apart.{apart_among}
 use Rattle.fib_entries.proofs.Leafing.{from_route}
 use Rattle.fib_entries.proofs.Listing.{listed_route, source_of_route}
 use Rattle.fib_entries.proofs.Owning.{owned_all, owned_list, owned_some}
 use Rattle.fib_entries.proofs.Sharing.{led_by}
 
--- no host lies in a prefix in which no host's row does
-pub clear_alone : (v : Known) (S : Tables) (p : Prefix) (neighbors : List Neighbor) → StandsFor v S → IsClear v.rows neighbors p → (a : ℕ) → Contains (entries S) (host a) → contains p a ≡ true → ⊥
-clear_alone v S p neighbors k clear a c inside =
+-- what is apart among the rows' prefixes is so among the entries
+pub rows_apart : (v : Known) (S : Tables) (p : Prefix) (a : ℕ) → StandsFor v S → IsApart (map prefix_of v.rows) p a → IsApart (entries S) p a
+rows_apart v S p a k apart = apart_among (map prefix_of v.rows) (entries S) p a (λ q. (k.entries q).0) apart
+
+pub clear_alone : (v : Known) (S : Tables) (p : Prefix) (neighbors : List Neighbor) → StandsFor v S → IsClear v.rows neighbors p → (a : ℕ) → Contains (entries S) (host a) → IsApart (entries S) p a
+clear_alone v S p neighbors k clear a c =
     let r = map_from prefix_of v.rows (host a) ((k.entries (host a)).1 c) in
-    clear.hosts r.0 r.1 (subst (λ z. contains p z.bits ≡ true) (sym r.2) inside) (ap (λ z. z.len) r.2)
+    rows_apart v S p a k (subst (λ z. IsApart (map prefix_of v.rows) p z.bits) r.2 (clear.hosts r.0 r.1 (ap (λ z. z.len) r.2)))
+
+pub clear_far : (v : Known) (S : Tables) (p : Prefix) (neighbors : List Neighbor) → StandsFor v S → IsClear v.rows neighbors p → (n : Neighbor) → Contains neighbors n → (n.addr < 2 ^ 32) × IsApart (entries S) p n.addr
+clear_far v S p neighbors k clear n c = let far = clear.far n c in (far.0, rows_apart v S p n.addr k far.1)
 
 module _ (v : Known) (S T : Tables) (p : Prefix) (source : FibSource) (place id : ℕ) (old : List Path) (k : StandsFor v S) (m : IsReady v.rows v.lists T p source place id old) (differ : Differ (changes.Route p source ∷ []) S T) (after : IsSound T) where
   own_there : Contains v.rows m.row
@@ -66,8 +74,8 @@ module _ (v : Known) (S T : Tables) (p : Prefix) (source : FibSource) (place id 
     prefix = m.prefix;
     short = m.short;
     real = λ q c. (let r = real_entry q c in subst IsPrefix r.2 (k.rows r.0 r.1).prefix);
-    alone = λ a c inside. clear_alone v S p T.neighbors k m.clear a c inside;
-    far = m.clear.far;
+    alone = clear_alone v S p T.neighbors k m.clear;
+    far = clear_far v S p T.neighbors k m.clear;
     written = m.written;
     only = λ x c at. (all_own x c at).0;
     leaf = λ d c. Contains-nil d (subst (λ l. Contains l d) m.none ((own_row.dependants d).1 (subst (Contains (targets S d)) (sym m.own) c)));

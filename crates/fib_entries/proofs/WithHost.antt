@@ -4,7 +4,7 @@ use Rattle.std.specs.Prelude.{Contains, min, flat_map, filter_map, option_map, s
 use Rattle.std.specs.List.{insert, AllZip}
 use Rattle.std.proofs.lemmas.Bool.{false≢true, cases_lt}
 use Rattle.fib_list.proofs.Lists.{either, Contains-nil, Contains-flat_map}
-use Rattle.fib_addr.specs.Prefixes.{Prefix, IsPrefix, same_prefix, contains, host}
+use Rattle.fib_addr.specs.Prefixes.{Prefix, IsPrefix, same_prefix, host}
 use Rattle.fib_addr.proofs.PrefixLaws.{same_prefix-Decides}
 use Rattle.fib_cover.specs.Covers.{IsAscending, ArePrefixes}
 use Rattle.fib_resolve.specs.Edits.{paths_at}
@@ -38,6 +38,7 @@ use Rattle.fib_interned.specs.Interned.{AreInterned}
 use Rattle.fib_interned.proofs.Finding.{contains_at, some_is, none_some}
 use Rattle.fib_entries.specs.Known.{Known, content_of, prefix_of, rank_of, rank_in, ArePairs, IsRow, StandsFor, holders, kind_met}
 use Rattle.fib_entries.specs.Changes.{AreTouched, AreMoved}
+use Rattle.fib_entries.specs.inner.Clear.{IsApart}
 use Rattle.fib_entries.specs.inner.Coming.{blank_row}
 use Rattle.fib_entries.specs.inner.Fields.{AreCounted}
 use Rattle.fib_entries.specs.inner.Hosting.{IsHosting, HasHosted, host_own}
@@ -51,7 +52,7 @@ use Rattle.fib_entries.proofs.Covering.{cover_found}
 use Rattle.fib_entries.proofs.HopEnds.{ends_but}
 use Rattle.fib_entries.proofs.Hosts.{loose_pair, late_pair, late_there, late_entry, late_chosen, late_targets, late_marks, late_touched}
 use Rattle.fib_entries.proofs.LeafRows.{entry_own}
-use Rattle.fib_entries.proofs.Leafing.{late_led, late_cover, late_covered, late_hop, part_cases, part_own, part_host, part_not, part_edit, entry_of_pair, chosen_same, is_not, host_other, only_one}
+use Rattle.fib_entries.proofs.Leafing.{late_led, late_cover, late_covered_before, late_hop, part_cases, part_own, part_host, part_not, part_edit, entry_of_pair, chosen_same, is_not, host_other, only_one}
 use Rattle.fib_entries.proofs.LeafSizes.{HasEnd, ends_by, ends_in, plain_targets, adjacencies_same}
 use Rattle.fib_entries.proofs.BothRows.{AreBoth, both_ordered, both_with, both_others, both_p, both_h, both_ranks, both_rank_p, both_rank_h, both_names, h_names, h_ordered}
 use Rattle.fib_entries.proofs.Linking.{attached_one, but_self}
@@ -123,7 +124,7 @@ module _ (v : Known) (S T : Tables) (p : Prefix) (source : FibSource) (place : �
 
   pub hosting_edit : IsLeafEdit S T p source (g.addr ∷ [])
   hosting_edit = belonging_edit v S T p source place k m.belongs after (g.addr ∷ []) differ (λ a c. led_but v S p k (paths_at p source T.routes) g.addr a m.shared c)
-      (λ a c. subst (λ z. (z < 2 ^ 32) × (contains p z ≡ false) × (Contains (all_hops S) z → ⊥)) (only_one g.addr a c) (m.late.small, m.late.away, no_hop))
+      (λ a c. subst (λ z. (z < 2 ^ 32) × IsApart (entries S) p z × (Contains (all_hops S) z → ⊥)) (only_one g.addr a c) (m.late.small, inl m.late.away, no_hop))
 
   pub hosting_whole : AreWhole S (g.addr ∷ [])
   hosting_whole = record {
@@ -156,7 +157,7 @@ module _ (v w : Known) (S T : Tables) (p : Prefix) (source : FibSource) (place t
   not_cover is = (let e = ap (λ z. z.len) (sym cover_at ∙ is) in let lt = cover_short S g.addr in omega (arith, e, lt))
 
   own_cover : p ≢ m.late.cover.prefix
-  own_cover is = late_covered S T p source (g.addr ∷ []) h S g.addr late_in (is ∙ cover_at)
+  own_cover is = late_covered_before S T p source (g.addr ∷ []) h g.addr late_in (is ∙ cover_at)
 
   attached : AreAttached (host g.addr) (m.late.cover.prefix ∷ []) (insert v.rows g.place (blank_row (host g.addr) (host_own m.late.cover.prefix g.rank))) c.mid
   attached =

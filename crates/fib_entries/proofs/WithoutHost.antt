@@ -4,7 +4,7 @@ use Rattle.std.specs.Prelude.{Contains, min, filter_map}
 use Rattle.std.specs.List.{list_any}
 use Rattle.std.proofs.lemmas.Bool.{false≢true, cases_lt}
 use Rattle.fib_list.proofs.Lists.{either, Contains-nil, Contains-flat_map}
-use Rattle.fib_addr.specs.Prefixes.{Prefix, IsPrefix, contains, host}
+use Rattle.fib_addr.specs.Prefixes.{Prefix, IsPrefix, host}
 use Rattle.fib_cover.specs.Covers.{IsAscending, ArePrefixes}
 use Rattle.fib_resolve.specs.Edits.{paths_at}
 use Rattle.fib_resolve.specs.Loops.{targets, kind_targets, is_kept}
@@ -29,6 +29,7 @@ use Rattle.fib_interned.specs.Interned.{AreInterned}
 use Rattle.fib_interned.proofs.Finding.{contains_at}
 use Rattle.fib_entries.specs.Known.{Known, content_of, prefix_of, rank_of, rank_in, StandsFor, holders}
 use Rattle.fib_entries.specs.Changes.{AreTouched, AreMoved}
+use Rattle.fib_entries.specs.inner.Clear.{IsApart}
 use Rattle.fib_entries.specs.inner.Fields.{AreCounted}
 use Rattle.fib_entries.specs.inner.Leaf.{IsLeafEdit, AreWhole, IsFollowed, goals_of}
 use Rattle.fib_entries.specs.inner.Part.{in_part, IsButForPart, IsPartEdit, IsPartMade}
@@ -49,7 +50,7 @@ use Rattle.fib_entries.proofs.PartCounts.{part_counts, host_counted, host_uncoun
 use Rattle.fib_entries.proofs.PartRows.{no_row, entry_beside, stands_part, touched_inside, moved_inside}
 use Rattle.fib_entries.proofs.Placing.{size_left}
 use Rattle.fib_entries.proofs.Departing.{unused_but}
-use Rattle.fib_entries.proofs.Ready.{clear_alone}
+use Rattle.fib_entries.proofs.Ready.{clear_alone, clear_far}
 use Rattle.fib_entries.proofs.Settling.{counted_by}
 use Rattle.fib_entries.proofs.Sharing.{led_but, hop_from, path_there}
 use Rattle.fib_entries.proofs.Using.{once, unit_same, counted_given, given_stays}
@@ -109,8 +110,8 @@ module _ (v : Known) (S T : Tables) (p : Prefix) (source : FibSource) (place id 
     prefix = m.prefix;
     short = m.short;
     real = λ q c. (let r = real_entry q c in subst IsPrefix r.2 (k.rows r.0 r.1).prefix);
-    alone = λ a c inside. clear_alone v S p T.neighbors k m.clear a c inside;
-    far = m.clear.far;
+    alone = clear_alone v S p T.neighbors k m.clear;
+    far = clear_far v S p T.neighbors k m.clear;
     written = m.written;
     only = λ x c at. (all_own x c at).0;
     leaf = λ d c. Contains-nil d (subst (λ l. Contains l d) m.none (((k.rows m.row own_there).dependants d).1 (subst (Contains (targets S d)) (sym m.own) c)));
@@ -118,7 +119,7 @@ module _ (v : Known) (S T : Tables) (p : Prefix) (source : FibSource) (place id 
       | inl before ↦ led_but v S p k old g.addr a m.shared (subst (λ l. Contains (filter_map recursive_of l) a) ((all_own (route_pair r) (from_origin S (route_pair r) (base (from_route S r before))) (sym (source_of_route p source r it).0)).1) hop)
       | inr later ↦ absurd (path_there T after p source r later it m.gone)
     ];
-    late_out = λ a c. subst (λ z. (z < 2 ^ 32) × (contains p z ≡ false)) (only_one g.addr a c) (m.last.small, m.last.away);
+    late_out = λ a c. subst (λ z. (z < 2 ^ 32) × IsApart (entries S) p z) (only_one g.addr a c) (m.last.small, inl m.last.away);
     late_alone = λ a c r off there hop. unused_but v S k p source g.addr m.last.row m.last.there m.last.own m.last.alone (λ x d at other. absurd (other (all_own x d at).0)) m.last.unhidden r off there (subst (Contains (recursive_hops r)) (sym (only_one g.addr a c)) hop);
   }
 

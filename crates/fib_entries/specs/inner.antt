@@ -21,3 +21,4 @@ pub mod Reaching
 pub mod Course
 pub mod Near
 pub mod Hop
+pub mod Clear

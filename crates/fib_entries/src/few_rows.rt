@@ -32,7 +32,7 @@ use crate::going::{leave, leaving, size_at};
 use crate::hosting::{
     Late, MOST_OF_ONE, MOST_OF_TWO, come_hosted, greater, insert_both, late_for, remove_both,
 };
-use crate::leaf::{are_far, is_none, leaf_place, only_list, ready, top_rank};
+use crate::leaf::{is_none, leaf_place, only_list, ready, top_rank};
 use crate::look::row;
 use crate::losing::{lose, spare_for};
 use crate::parting::{Last, last_for, leave_parting};
@@ -422,19 +422,6 @@ impl Entries {
         }
     }
 
-    /// Whether no host's row and no neighbor lies in the prefix.
-    fn is_clear(&self, tables: &Tables, prefix: Prefix) -> Result<bool, AllocError>
-        ensures { IfOk result (λ b. IsTrue b → IsClear self.now.rows tables.now.neighbors prefix) }
-    {
-        // Read so that the proof knows its range.
-        let _len = prefix.len();
-        if !are_far(prefix, tables.neighbors.as_slice()) {
-            return Ok(false);
-        }
-        let may_have = self.index.may_have_host(self.alloc, prefix)?;
-        Ok(!may_have)
-    }
-
     /// Follows the change of the route of that prefix and source, where rows and neighbors tell that it touches that prefix alone, whether
     /// its row stays, goes or comes; None where they don't. The list is the route's in the tables. After want of memory all is as before.
     pub(crate) fn follow_alone(
@@ -682,7 +669,8 @@ impl Entries {
             return None;
         }
         let old = self.lists.content(id);
-        let Some(gateway) = spare_for(&self.rows, &self.lists, &self.index, prefix, old) else {
+        let index = &self.index;
+        let Some(gateway) = spare_for(&self.rows, &self.lists, &self.order, index, prefix, old) else {
             return None;
         };
         if id == gateway.list {

@@ -21,6 +21,7 @@ ghost use Rattle.fib_entries.specs.inner.Plies.{IsGap};
 use crate::apply::{moved, own};
 use crate::change::Target;
 use crate::changes::{Followed, Touched};
+use crate::clear::is_apart;
 use crate::coming::{place_row, set_pairs};
 use crate::hosting::{are_shared_but, both};
 use crate::leaf::are_plain;
@@ -174,7 +175,7 @@ pub fn gateway_for(
     ensures suits { IfSome result (λ g. (list_all is_plain paths.now ≡ true) × (list_all (shared_path_but rows.now p g.addr) paths.now ≡ true)) }
 {
     let addr = gateway_hop(rows, paths)?;
-    if p.contains(addr) {
+    if !is_apart(order, p, addr) {
         return None;
     }
     if !(are_plain(paths) && are_shared_but(rows, p, addr, paths)) {

@@ -1,5 +1,5 @@
 // Prefixes of rows of three kinds, by which few rows are looked at in place of all.
-ghost use Rattle.std.specs.Prelude.{◌≡◌, ◌≢◌, ◌⊎◌, ◌++◌, ◌∷◌, [], true, false, IsTrue, IfOk, OnOk, OnErr, Some, Contains, if◌then◌else◌};
+ghost use Rattle.std.specs.Prelude.{◌≡◌, ◌≢◌, ◌⊎◌, ◌++◌, ◌∷◌, [], true, false, IsTrue, IfOk, OnOk, OnErr, Some, Contains, filter, if◌then◌else◌};
 ghost use Rattle.std.specs.List.{list_any};
 ghost use Rattle.fib_addr.specs.Prefixes.{Prefix as PrefixValue};
 ghost use Rattle.fib_cover.specs.Covers.{IsAscending, is_inside};
@@ -84,12 +84,11 @@ impl Index {
         self.several.as_slice()
     }
 
-    /// Whether a host may lie in the prefix.
-    pub fn may_have_host(&self, alloc: Global, prefix: Prefix) -> Result<bool, AllocError>
-        ensures { IfOk result (λ b. b ≡ false → (e : PrefixValue) → Contains self.now.hosts e → is_inside prefix e ≡ true → ⊥) }
+    /// Those of the hosts inside the prefix, in order.
+    pub fn hosts_inside(&self, alloc: Global, prefix: Prefix) -> Result<Vec<Prefix>, AllocError>
+        ensures { IfOk result (λ v. v.items ≡ filter (is_inside prefix) self.now.hosts) }
     {
-        let inside = self.hosts.inside(alloc, prefix)?;
-        Ok(!inside.as_slice().is_empty())
+        self.hosts.inside(alloc, prefix)
     }
 
     /// The prefix's row may get that list, and that host's row may come. After want of memory it may stand for either.
@@ -160,7 +159,8 @@ fn leave(paths: &[Path]) -> bool
     paths.iter().any(|path| leaves(path))
 }
 
-fn is_of(kind: Kind, row: &Row) -> bool
+/// Whether the row is of that kind.
+pub fn is_of(kind: Kind, row: &Row) -> bool
     ensures { result ≡ is_of kind row.now }
 {
     match kind {

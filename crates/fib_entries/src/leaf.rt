@@ -3,12 +3,11 @@ ghost use Rattle.std.specs.Prelude.{◌≡◌, ◌↔◌, ◌⊎◌, ◌+◌, �
 ghost use Rattle.fib_resolve.specs.declared.types.Path.{Path as PathValue};
 ghost use Rattle.fib_entries.specs.inner.Building.{AreHeld};
 ghost use Rattle.std.specs.List.{list_all, list_any};
-ghost use Rattle.fib_addr.specs.Prefixes.{Prefix as PrefixValue, IsPrefix, contains, host};
+ghost use Rattle.fib_addr.specs.Prefixes.{Prefix as PrefixValue, IsPrefix, host};
 ghost use Rattle.fib_cover.specs.Covers.{IsAscending};
 ghost use Rattle.fib_resolve.specs.Edits.{paths_at};
 ghost use Rattle.fib_resolve.specs.Keys.{source_rank};
 ghost use Rattle.fib_entries.specs.Rows.{Row as RowValue};
-ghost use Rattle.fib_resolve.specs.declared.types.Neighbor.{Neighbor as NeighborValue};
 ghost use Rattle.fib_entries.specs.Known.{prefix_of, row_of, rank_of};
 ghost use Rattle.fib_entries.specs.inner.Leaf.{is_plain, plain_aim, plain_counts, plain_mark, goal_of, goals_of, has_end, has_other, shared_kind, shared_path, IsClear, IsLeafAt, IsReady};
 
@@ -19,7 +18,7 @@ use fib_addr::{Addr, Prefix};
 use fib_blocks::Blocks;
 use fib_list::List;
 use fib_paths::{PathListId, PathLists};
-use fib_resolve::{Aim, End, FibSource, Marked, Neighbor, Path, PathKind, Tables, keys};
+use fib_resolve::{Aim, End, FibSource, Marked, Path, PathKind, Tables, keys};
 use std::alloc::{AllocError, Global};
 
 /// Whether the path needs nothing and doesn't lead to its cover.
@@ -39,28 +38,6 @@ pub fn are_plain(paths: &[Path]) -> bool
     ensures { result ≡ list_all is_plain paths.now }
 {
     paths.iter().all(|path| is_plain(path))
-}
-
-/// Whether the neighbor's address lies outside the prefix.
-fn is_far(p: Prefix, n: &Neighbor) -> bool
-    ensures value { IsTrue result → contains p n.now.addr ≡ false }
-    ensures small { n.now.addr < 2 ^ 32 }
-{
-    // Read so that the proof knows its range.
-    let _number = n.addr.0;
-    !p.contains(n.addr)
-}
-
-/// Whether no neighbor lies in the prefix.
-pub fn are_far(p: Prefix, neighbors: &[Neighbor]) -> bool
-    ensures { IsTrue result → (n : NeighborValue) → Contains neighbors.now n → (n.addr < 2 ^ 32) × (contains p n.addr ≡ false) }
-{
-    for n in neighbors {
-        if !is_far(p, n) {
-            return false;
-        }
-    }
-    true
 }
 
 /// Whether another entry than that has an edge to the row's.

@@ -8,6 +8,7 @@ mod apply;
 mod build;
 mod change;
 mod changes;
+mod clear;
 mod coming;
 mod compare;
 mod course;

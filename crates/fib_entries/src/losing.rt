@@ -19,6 +19,7 @@ ghost use Rattle.fib_entries.specs.inner.Losing.{HasLost, IsSpare, IsUnjoined, I
 
 use crate::apply::moved;
 use crate::changes::{Followed, Touched};
+use crate::clear::is_apart;
 use crate::coming::set_pairs;
 use crate::gateway::{Gateway, all_better};
 use crate::going::withdraw;
@@ -30,6 +31,7 @@ use crate::parting::{is_alone, is_hidden, last_hop, rank};
 use crate::rows::Row;
 use fib_addr::Prefix;
 use fib_blocks::Blocks;
+use fib_cover::PrefixSet;
 use fib_list::List;
 use fib_paths::{PathListId, PathLists};
 use fib_resolve::{FibSource, Path, keys};
@@ -57,11 +59,13 @@ fn worst_list(held: &[(FibSource, PathListId)]) -> Option<PathListId>
 pub fn spare_for(
     rows: &Blocks<Row>,
     lists: &PathLists,
+    order: &PrefixSet,
     index: &Index,
     p: Prefix,
     paths: &[Path],
 ) -> Option<Gateway>
     requires ascending { IsAscending (map prefix_of rows.now) }
+    requires same { order.now ≡ map prefix_of rows.now }
     requires held { AreHeld rows.now lists.now }
     requires several { AreAmong has_several rows.now index.now.several }
     ensures spare { IfSome result (λ g. IsSpare rows.now lists.now p g) }
@@ -69,7 +73,7 @@ pub fn spare_for(
     ensures suits { IfSome result (λ g. (list_all is_plain paths.now ≡ true) × (list_all (shared_path_but rows.now p g.addr) paths.now ≡ true)) }
 {
     let addr = last_hop(rows, p, paths)?;
-    if p.contains(addr) {
+    if !is_apart(order, p, addr) {
         return None;
     }
     if !(are_plain(paths) && are_shared_but(rows, p, addr, paths)) {

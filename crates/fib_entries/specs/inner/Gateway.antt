@@ -2,7 +2,7 @@
 -- gets or loses the pair that the next hop makes. No contract of a public call rests on this.
 use Rattle.std.specs.Prelude.{◌≡◌, ◌+◌, ◌-◌, ◌<◌, ◌^◌, ◌++◌, ℕ, Bool, true, false, List, [], ◌∷◌, filter_map, Contains, Some, nat_lt, slice_get, slice_set}
 use Rattle.std.specs.List.{list_all}
-use Rattle.fib_addr.specs.Prefixes.{Prefix, contains, host}
+use Rattle.fib_addr.specs.Prefixes.{Prefix, host}
 use Rattle.fib_cover.specs.Covers.{IsLongestMatch}
 use Rattle.fib_interned.specs.Interned.{AreInterned, Takes, users_of}
 use Rattle.fib_resolve.specs.Edits.{paths_at}
@@ -13,6 +13,7 @@ use Rattle.fib_resolve.specs.declared.types.FibSource.TheVariants as sources
 use Rattle.fib_resolve.specs.declared.types.Path.{Path}
 use Rattle.fib_resolve.specs.declared.types.Tables.{Tables}
 use Rattle.fib_entries.specs.Known.{PathKept, content_of}
+use Rattle.fib_entries.specs.inner.Clear.{IsApart}
 use Rattle.fib_entries.specs.inner.Coming.{IsBelonging, IsPlaced, with_pairs}
 use Rattle.fib_entries.specs.inner.Fields.{Index}
 use Rattle.fib_entries.specs.inner.Hosting.{shared_path_but}
@@ -43,7 +44,7 @@ pub record IsGateway (rows : List Row) (lists : List PathKept) (order : List Pre
   pub own : row.prefix ≡ host g.addr
   pub better : list_all is_better row.pairs ≡ true
   pub small : g.addr < 2 ^ 32
-  pub away : contains p g.addr ≡ false
+  pub away : IsApart order p g.addr
   pub list : List Path
   pub derived : IsDerived rows lists order g.addr list
   pub listed : content_of lists g.list ≡ Some list

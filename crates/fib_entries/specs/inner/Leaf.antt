@@ -1,9 +1,9 @@
--- The change of one route of a prefix that nothing leads to and no host lies in. No contract of a public call rests on this.
+-- The change of one route of a prefix that nothing leads to and that covers no host. No contract of a public call rests on this.
 use Rattle.std.specs.Prelude.{◌≡◌, ◌≢◌, ◌↔◌, ◌⊎◌, ◌≤◌, if◌then◌else◌, map, ◌<◌, ◌^◌, ℕ, true, false, List, [], ◌∷◌, Contains}
 use Rattle.fib_resolve.specs.Keys.{source_rank}
 use Rattle.fib_resolve.specs.Pairs.{pairs, attached_by}
 use Rattle.fib_resolve.specs.declared.pairs.Pair.{Pair}
-use Rattle.fib_addr.specs.Prefixes.{Prefix, IsPrefix, contains, host, same_prefix}
+use Rattle.fib_addr.specs.Prefixes.{Prefix, IsPrefix, host, same_prefix}
 use Rattle.fib_resolve.specs.Pairs.{entries, recursive_hops}
 use Rattle.fib_resolve.specs.Loops.{targets}
 use Rattle.fib_resolve.specs.Forwarding.{is_up}
@@ -31,6 +31,7 @@ use Rattle.fib_changes.specs.Differ.{Differ}
 use Rattle.fib_entries.specs.Known.{Known, StandsFor, PathKept, prefix_of, row_of, content_of}
 use Rattle.fib_interned.specs.Interned.{AreInterned, Takes, Gives}
 use Rattle.fib_resolve.specs.Edits.{paths_at}
+use Rattle.fib_entries.specs.inner.Clear.{IsApart}
 use Rattle.fib_entries.specs.inner.Dependants.{IsWithout}
 use Rattle.fib_entries.specs.inner.Ends.{aim_at}
 use Rattle.fib_entries.specs.Rows.{Row}
@@ -41,8 +42,8 @@ use Rattle.fib_entries.specs.Changes.{AreTouched, AreMoved}
 use Rattle.fib_resolve.specs.Sizes.{size}
 use Rattle.fib_changes.specs.declared.change.Change.TheVariants as changes
 
--- the routes of one prefix and source alone can differ; no entry has an edge to the prefix, no host and no neighbor lies in it, and
--- each next hop of these routes is one of another entry's list too, or a late one, which no other route has
+-- the routes of one prefix and source alone can differ; no entry has an edge to the prefix, each host and each neighbor in it lies in a longer
+-- entry too, and each next hop of these routes is one of another entry's list too, or a late one, which no other route has
 pub record IsLeafEdit (S T : Tables) (p : Prefix) (source : FibSource) (late : List ℕ) : Type 0 where
   pub before : IsSound S
   pub after : IsSound T
@@ -50,14 +51,14 @@ pub record IsLeafEdit (S T : Tables) (p : Prefix) (source : FibSource) (late : L
   pub prefix : IsPrefix p
   pub short : p.len < 32
   pub real : (q : Prefix) → Contains (entries S) q → IsPrefix q
-  pub alone : (a : ℕ) → Contains (entries S) (host a) → contains p a ≡ true → ⊥
-  pub far : (n : Neighbor) → Contains T.neighbors n → (n.addr < 2 ^ 32) × (contains p n.addr ≡ false)
+  pub alone : (a : ℕ) → Contains (entries S) (host a) → IsApart (entries S) p a
+  pub far : (n : Neighbor) → Contains T.neighbors n → (n.addr < 2 ^ 32) × IsApart (entries S) p n.addr
   pub written : (source_rank source ≡ 2) ⊎ (source_rank source ≡ 3)
   pub only : (x : Pair) → Contains (pairs S) x → p ≡ x.prefix → x.source ≡ source
   pub leaf : (d : Prefix) → Contains (targets S d) p → ⊥
   pub hops : (r : Route) (a : ℕ) → is_route p source r ≡ true → Contains S.routes r ⊎ Contains T.routes r → Contains (recursive_hops r) a
       → Contains late a ⊎ ((d : Prefix) × (d ≢ p) × Contains (targets S d) (host a))
-  pub late_out : (a : ℕ) → Contains late a → (a < 2 ^ 32) × (contains p a ≡ false)
+  pub late_out : (a : ℕ) → Contains late a → (a < 2 ^ 32) × IsApart (entries S) p a
   pub late_alone : (a : ℕ) → Contains late a → (r : Route) → is_route p source r ≡ false → Contains S.routes r → Contains (recursive_hops r) a → ⊥
 
 -- no other pair is at the host of a late next hop, and its cover doesn't attach it
@@ -182,10 +183,10 @@ shared_kind rows p kinds.Cover = true
 abbrev pub shared_path : List Row → Prefix → Path → Bool
 shared_path rows p q = shared_kind rows p q.kind
 
--- no host's row and no neighbor lies in the prefix
+-- each host's row and each neighbor in the prefix lies in a longer row's too
 pub record IsClear (rows : List Row) (neighbors : List Neighbor) (p : Prefix) : Type 0 where
-  pub hosts : (r : Row) → Contains rows r → contains p r.prefix.bits ≡ true → r.prefix.len ≢ 32
-  pub far : (n : Neighbor) → Contains neighbors n → (n.addr < 2 ^ 32) × (contains p n.addr ≡ false)
+  pub hosts : (r : Row) → Contains rows r → r.prefix.len ≡ 32 → IsApart (map prefix_of rows) p r.prefix.bits
+  pub far : (n : Neighbor) → Contains neighbors n → (n.addr < 2 ^ 32) × IsApart (map prefix_of rows) p n.addr
 
 -- nothing leads to the prefix's row, which lies at that place
 pub record IsLeafAt (rows : List Row) (place : ℕ) (p : Prefix) (source : FibSource) : Type 0 where

@@ -1,8 +1,8 @@
 -- A leaf that goes with its one route, where a next hop of it that no other route has is a gateway: its host has other pairs too, and loses the
 -- one that the next hop makes. No contract of a public call rests on this.
-use Rattle.std.specs.Prelude.{◌≡◌, ◌≢◌, ◌⊎◌, ◌<◌, ◌^◌, ◌++◌, ℕ, true, false, List, [], ◌∷◌, filter_map, Contains, Some, slice_get, slice_set}
+use Rattle.std.specs.Prelude.{◌≡◌, ◌≢◌, ◌⊎◌, ◌<◌, ◌^◌, ◌++◌, ℕ, true, false, List, [], ◌∷◌, filter_map, map, Contains, Some, slice_get, slice_set}
 use Rattle.std.specs.List.{list_all}
-use Rattle.fib_addr.specs.Prefixes.{Prefix, IsPrefix, contains, host}
+use Rattle.fib_addr.specs.Prefixes.{Prefix, IsPrefix, host}
 use Rattle.fib_interned.specs.Interned.{AreInterned, Gives}
 use Rattle.fib_resolve.specs.Edits.{paths_at}
 use Rattle.fib_resolve.specs.Keys.{source_rank}
@@ -11,7 +11,8 @@ use Rattle.fib_resolve.specs.declared.types.FibSource.{FibSource}
 use Rattle.fib_resolve.specs.declared.types.FibSource.TheVariants as sources
 use Rattle.fib_resolve.specs.declared.types.Path.{Path}
 use Rattle.fib_resolve.specs.declared.types.Tables.{Tables}
-use Rattle.fib_entries.specs.Known.{PathKept, content_of, rank_of}
+use Rattle.fib_entries.specs.Known.{PathKept, content_of, prefix_of, rank_of}
+use Rattle.fib_entries.specs.inner.Clear.{IsApart}
 use Rattle.fib_entries.specs.inner.Coming.{with_pairs}
 use Rattle.fib_entries.specs.inner.Fields.{has_several}
 use Rattle.fib_entries.specs.inner.Gateway.{is_better}
@@ -41,7 +42,7 @@ pub record IsSpare (rows : List Row) (lists : List PathKept) (p : Prefix) (g : G
   pub listed : content_of lists g.list ≡ Some list
   pub alone : row.dependants ≡ p ∷ []
   pub small : g.addr < 2 ^ 32
-  pub away : contains p g.addr ≡ false
+  pub away : IsApart (map prefix_of rows) p g.addr
   pub unhidden : (r : Row) → Contains rows r → has_several r ≡ true → p ≢ r.prefix → IsNotIn rows lists r.prefix g.addr
 
 -- the row at that place is a leaf's, with the one list of that source, the route is gone, and one of its next hops is such a gateway

@@ -5,6 +5,7 @@ use Rattle.fib_addr.specs.Prefixes.{Prefix}
 use Rattle.fib_changes.proofs.Edits.{in_front}
 use Rattle.fib_resolve.specs.declared.types.FibSource.{FibSource}
 use Rattle.fib_resolve.specs.declared.types.FibSource.TheVariants as sources
+use Rattle.fib_entries.specs.inner.Clear.{IsApart}
 use Rattle.fib_entries.specs.inner.Losing.{IsWorst}
 use Rattle.fib_entries.proofs.Placing.{some_list}
 use Rattle.fib_entries.proofs.Standing.{row_there}
@@ -28,6 +29,6 @@ returns-clause-spare c =
       listed = list.1;
       alone = c.is_alone.ensures c.if-not-is_alone.false;
       small = c.in_ok-addr.ensures.small;
-      away = sym c.contains.ensures ∙ c.if-contains.false;
+      away = subst (λ (l : List Prefix). IsApart l c.args.p c.in_ok-addr.addr) c.requires.same (c.is_apart.ensures c.if-not-is_apart.false);
       unhidden = λ r there several other. c.is_hidden.ensures c.if-is_hidden.false r.prefix (subst (λ (l : List Prefix). Contains l r.prefix) (sym c.several.ensures) (c.requires.several r there several)) other;
     }

@@ -1,0 +1,11 @@
+use Rattle.std.proofs.Common.{◌<◌, ◌^◌, take}
+use Rattle.std.specs.Prelude.{Contains}
+use Rattle.fib_resolve.specs.declared.types.Neighbor.{Neighbor}
+use Rattle.fib_entries.specs.inner.Clear.{IsApart, IsNarrower}
+use Rattle.fib_entries.proofs.clear.neighbors_apart.Given as goal
+
+abbrev pub invariant-loop-n : goal.invariant-loop-n
+invariant-loop-n l = record {
+  last : l.p.len < l.found.len → IsNarrower l.order l.p l.found;
+  seen : (m : Neighbor) → Contains (take l.n-index l.neighbors) m → (m.addr < 2 ^ 32) × IsApart l.order l.p m.addr;
+}
