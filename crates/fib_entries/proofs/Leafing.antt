@@ -451,9 +451,9 @@ module _ (S T : Tables) (p : Prefix) (source : FibSource) (late : List ℕ) (h :
     | inr isnt ↦ elim (either (list_any (λ n. n.addr == a) T.neighbors)) [
       | inl near_it ↦ (let r = any_from (λ (n : Neighbor). n.addr == a) T.neighbors near_it in inr (subst (IsApart (entries S) p) ((Decides-eqb r.0.addr a).0 r.2) (h.far r.0 r.1).1))
       | inr far ↦ inl (inl (
-          λ c. false≢true (sym isnt ∙ any_in (same_prefix (host a)) (entries S) (host a) c ((same_prefix-Decides (host a) (host a)).1 refl)),
-          λ n c at. false≢true (sym far ∙ any_in (λ (m : Neighbor). m.addr == a) T.neighbors n c ((Decides-eqb n.addr a).1 at)),
-        ))
+        λ c. false≢true (sym isnt ∙ any_in (same_prefix (host a)) (entries S) (host a) c ((same_prefix-Decides (host a) (host a)).1 refl)),
+        λ n c at. false≢true (sym far ∙ any_in (λ (m : Neighbor). m.addr == a) T.neighbors n c ((Decides-eqb n.addr a).1 at)),
+      ))
     ]
   ]
 

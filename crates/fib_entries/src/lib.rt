@@ -5,6 +5,7 @@
 #![tactic(auto)]
 
 mod apply;
+mod best_list;
 mod build;
 mod change;
 mod changes;
@@ -31,6 +32,8 @@ mod look;
 mod looping;
 mod losing;
 mod near;
+mod news;
+mod own_row;
 mod parting;
 mod parts;
 mod plies;
@@ -43,6 +46,8 @@ mod rows;
 mod sizes;
 mod waking;
 mod whole;
+mod with_gateway;
+mod with_host;
 
 pub use changes::{FollowError, Followed, Moved, Touched};
 pub use entries::Entries;

@@ -1,0 +1,129 @@
+// The list of a prefix's best route, replaced whatever leads to the prefix.
+ghost use Rattle.std.specs.Prelude.{◌∷◌, ◌-◌, ◌^◌, IfNone, OnErr, OnOk, ◌≡◌, ◌<◌, ◌≤◌, IfOk, IfSome, [], map, List as Items};
+ghost use Rattle.fib_resolve.specs.Edits.{paths_at};
+ghost use Rattle.fib_resolve.specs.Tables.{IsSound};
+ghost use Rattle.fib_resolve.specs.declared.types.Tables.{Tables as TablesValue};
+ghost use Rattle.fib_entries.specs.Known.{StandsFor, prefix_of};
+ghost use Rattle.fib_resolve.specs.declared.types.Path.{Path as PathValue};
+ghost use Rattle.fib_paths.specs.PathLists.{IsUsedLess};
+ghost use Rattle.fib_entries.specs.inner.Course.{IsCourse};
+ghost use Rattle.fib_entries.specs.inner.Led.{IsReaching};
+ghost use Rattle.fib_entries.specs.inner.Reaching.{HasReached};
+ghost use Rattle.fib_entries.specs.inner.Leaf.{IsFollowed};
+ghost use Rattle.fib_changes.specs.Differ.{Differ};
+ghost use Rattle.fib_changes.specs.declared.change.Change.TheVariants as changes;
+
+use crate::apply::is_other;
+use crate::change::Target;
+use crate::changes::Followed;
+use crate::course::{course, host_gone, host_of, made_by, put_late, take_gone, take_late};
+use crate::entries::Entries;
+use crate::hosting::MOST_OF_ONE;
+use crate::plies::raised;
+use crate::reaching::{Course, Spot, reaching, turn_reached};
+use fib_addr::Prefix;
+use fib_resolve::{FibSource, Path, Tables};
+use std::alloc::AllocError;
+
+impl Entries {
+    /// Follows the change of the prefix's best list, whatever leads to it: in its own row, in those of which a path is looped then that
+    /// wasn't, and in the ranks that must rise; the host of a next hop may come with it, and that of another go. None where rows and
+    /// neighbors don't tell what is touched, or that isn't found soon. The list is the route's in the tables. After want of memory all is as
+    /// before.
+    pub(crate) fn follow_reached(
+        &mut self,
+        tables: &Tables,
+        prefix: Prefix,
+        source: FibSource,
+        new: &[Path],
+        most: u32,
+    ) -> Result<Option<Followed>, AllocError>
+        requires sound { IsSound tables.now }
+        requires list { new.now ≡ paths_at prefix source tables.now.routes }
+        requires most { most < 2 ^ 32 - 1 }
+        ensures followed { IfOk result (λ o. IfSome o (λ f. (S : TablesValue) → StandsFor self.old S →
+            Differ (changes.Route prefix source ∷ []) S tables.now → IsFollowed self.old self.new S tables.now most f)) }
+        ensures none { IfOk result (λ o. IfNone o (self.new ≡ self.old)) }
+        ensures err { OnErr result (self.new ≡ self.old) }
+    {
+        let to = Target {
+            tables,
+            prefix,
+            source,
+            new,
+            rank: 0,
+        };
+        let found = reaching(
+            self.alloc,
+            &self.rows,
+            &self.lists,
+            &self.order,
+            &self.index,
+            &to,
+        )?;
+        let Some(spot) = found else {
+            return Ok(None);
+        };
+        if !is_other(&self.lists, spot.id, new) {
+            return Ok(None);
+        }
+        let made = made_by(&self.rows, &spot.turned.late);
+        let Some(objects) = raised(self.objects, made, most) else {
+            return Ok(None);
+        };
+        if objects < MOST_OF_ONE {
+            return Ok(None);
+        }
+        let rank = self.rows[spot.place].rank();
+        let to = Target { rank, ..to };
+        let old = self.lists.content(spot.id);
+        let Some(course) = course(self.alloc, &self.rows, &to, old, spot.turned)? else {
+            return Ok(None);
+        };
+        let (followed, left) = self.turn(&spot, &to, course)?;
+        self.objects = objects - left;
+        Ok(Some(followed))
+    }
+
+    /// The list at that spot is replaced by the new one, with all that comes of it. Tells it, and how many objects went with the host that
+    /// goes. After want of memory all is as before.
+    fn turn(
+        &mut self,
+        spot: &Spot,
+        to: &Target<'_>,
+        course: Course,
+    ) -> Result<(Followed, u32), AllocError>
+        requires reaching { (old : Items PathValue) × IsReaching self.old.rows self.old.lists (map prefix_of self.old.rows) to.now.tables.now to.now.prefix to.now.source spot.now.place spot.now.id old spot.now.turned.late spot.now.turned.gone }
+        requires list { to.now.new.now ≡ paths_at to.now.prefix to.now.source to.now.tables.now.routes }
+        requires course { (old : Items PathValue) × IsCourse self.old.rows to.now.tables.now to.now.prefix to.now.source old to.now.new.now to.now.rank spot.now.turned.late spot.now.turned.gone course }
+        requires room { IsUsedLess self.old.lists to.now.new.now (2 ^ 32 - 1) }
+        ensures done { IfOk result (λ x. (old : Items PathValue) (k : IsCourse self.old.rows to.now.tables.now to.now.prefix to.now.source old to.now.new.now to.now.rank spot.now.turned.late spot.now.turned.gone course) →
+            HasReached self.old.rows self.new.rows self.old.lists self.new.lists to.now.prefix spot.now.id to.now.new.now course.own course.turned.late course.turned.gone k.few k.edges course.again course.raised x.1 x.0) }
+        ensures few { IfOk result (λ x. x.1 ≤ 9) }
+        ensures objects { OnOk result (self.new.objects ≡ self.old.objects) }
+        ensures err { OnErr result (self.new ≡ self.old) }
+    {
+        let prefix = to.prefix;
+        let new = to.new;
+        self.index.note(prefix, new, host_of(&spot.turned.late))?;
+        put_late(&mut self.order, &spot.turned.late)?;
+        match turn_reached(
+            self.alloc,
+            &mut self.rows,
+            &mut self.lists,
+            spot.id,
+            to,
+            course,
+        ) {
+            Ok(turned) => {
+                take_gone(&mut self.order, &spot.turned.gone);
+                self.index.forget(prefix, new, host_gone(&spot.turned.gone));
+                Ok(turned)
+            }
+            Err(e) => {
+                take_late(&mut self.order, &spot.turned.late);
+                Err(e)
+            }
+        }
+    }
+}
