@@ -38,7 +38,7 @@ pub fn forwards(ledger: &Ledger, marks: &[Marked]) -> bool
 fn usable(alloc: Global, ledger: &Ledger, marks: &[Marked]) -> Result<Vec<Marked>, AllocError>
     ensures { IfOk result (λ v. v.items ≡ filter (is_usable_mark (was_in ledger.now.rows)) marks.now) }
 {
-    let mut out = Vec::new(alloc);
+    let mut out = Vec::with_capacity(alloc, marks.len())?;
     for mark in marks {
         if is_usable(ledger, *mark) {
             out.push(*mark)?;
@@ -92,7 +92,7 @@ fn spread(alloc: Global, marks: &[Marked]) -> Result<Vec<Marked>, AllocError>
     ensures { IfOk result (λ v. v.items ≡ spread_marks marks.now) }
 {
     let weights = weights_of(alloc, marks)?;
-    let mut out = Vec::new(alloc);
+    let mut out = Vec::with_capacity(alloc, 16)?;
     let places = fib_buckets::share(weights.as_slice());
     for place in &places {
         add_place(&mut out, marks, *place)?;

@@ -1,5 +1,5 @@
 // The words of an entry's buckets.
-ghost use Rattle.std.specs.Prelude.{◌≡◌, ◌<◌, ℕ, Option, length, slice_get};
+ghost use Rattle.std.specs.Prelude.{◌≡◌, ◌<◌, ℕ, IfSome, Option, length, slice_get};
 ghost use Rattle.fib_addr.specs.Prefixes.{Prefix as PrefixValue};
 ghost use Rattle.fib_resolve.specs.Touched.{same_mac};
 ghost use Rattle.fib_changes.specs.Wanted.{aim_of};
@@ -11,7 +11,7 @@ ghost use Rattle.fib_stack.specs.Runs.{word_in};
 ghost use Rattle.fib_stack.specs.Turns.{found_in};
 
 use crate::wanted::aim_at;
-use fib_addr::Mac;
+use fib_addr::{Mac, Prefix};
 use fib_core::Word;
 use fib_ledger::Use;
 use fib_ply::PrefixTable;
@@ -80,13 +80,38 @@ fn end_word(uses: &[Use], end: &End) -> Word
     }
 }
 
+/// An entry with its balance, if it has one.
+#[derive(Clone, Copy)]
+struct Latest {
+    entry: Prefix,
+    object: Option<u32>,
+}
+
+/// The entry's balance. That of the entry found last isn't looked up again: neighboring buckets mostly lead to one.
+fn object_of(table: &PrefixTable, last: &mut Option<Latest>, entry: Prefix) -> Option<u32>
+    requires last { IfSome last.old (λ f. f.object ≡ object_in table.now f.entry) }
+    ensures object { result ≡ object_in table.now entry }
+    ensures last { IfSome last.new (λ f. f.object ≡ object_in table.now f.entry) }
+{
+    if let Some(latest) = *last {
+        if latest.entry == entry {
+            return latest.object;
+        }
+    }
+    let object = table.object(entry);
+    *last = Some(Latest { entry, object });
+    object
+}
+
 /// The word for an aim, by the prefix table and by the records that are used.
-fn word_for(table: &PrefixTable, uses: &[Use], aim: Aim) -> Word
-    ensures { result ≡ aim_word (record { balance = object_in table.now; record_of = found_in uses.now }) aim }
+fn word_for(table: &PrefixTable, uses: &[Use], last: &mut Option<Latest>, aim: Aim) -> Word
+    requires last { IfSome last.old (λ f. f.object ≡ object_in table.now f.entry) }
+    ensures word { result ≡ aim_word (record { balance = object_in table.now; record_of = found_in uses.now }) aim }
+    ensures last { IfSome last.new (λ f. f.object ≡ object_in table.now f.entry) }
 {
     match aim {
         Aim::Ends(end) => end_word(uses, &end),
-        Aim::On(target) => match table.object(target) {
+        Aim::On(target) => match object_of(table, last, target) {
             Some(object) => Word::ToBalance(object),
             None => Word::Drop,
         },
@@ -99,8 +124,9 @@ pub fn words_of(table: &PrefixTable, uses: &[Use], wanted: &[Marked]) -> [Word; 
     ensures words { (k : ℕ) → k < 16 → word_in result k ≡ aim_word (record { balance = object_in table.now; record_of = found_in uses.now }) (aim_of (slice_get wanted.now k)) }
 {
     let mut words = [Word::Drop; 16];
+    let mut last = None;
     for slot in 0..16usize {
-        words[slot] = word_for(table, uses, aim_at(wanted, slot));
+        words[slot] = word_for(table, uses, &mut last, aim_at(wanted, slot));
     }
     words
 }

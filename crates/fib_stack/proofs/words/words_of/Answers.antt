@@ -13,6 +13,7 @@ loop-slot-preserved c =
     record {
       sixteen = length-set _ _ _ ∙ i.sixteen;
       words = λ k lt. word_set (λ j. aim_word (record { balance = object_in c.args.table.now; record_of = found_in c.args.uses.now }) (aim_of (slice_get c.args.wanted.now j))) c.loop-slot.words c.loop-slot.slot c.word_for.result (omega (arith, i.sixteen, c.loop-slot-test.true))
-          (c.word_for.ensures ∙ ap (aim_word (record { balance = object_in c.args.table.now; record_of = found_in c.args.uses.now })) c.aim_at.ensures)
+          (c.word_for.ensures.word ∙ ap (aim_word (record { balance = object_in c.args.table.now; record_of = found_in c.args.uses.now })) c.aim_at.ensures)
           i.words k lt;
+      last = c.word_for.ensures.last;
     }
