@@ -1,5 +1,5 @@
 -- A longer entry that contains an address keeps a shorter one from being its cover.
-use Rattle.std.proofs.Common.{arith, ◌≡◌, ◌≢◌, ℕ, ◌<◌, ◌^◌, true, List, map, inl, inr, refl, sym, ◌∙◌, ap, subst, ◌↔◌}
+use Rattle.std.proofs.Common.{arith, ◌≡◌, ◌≢◌, ℕ, ◌<◌, ◌^◌, true, List, map, inl, inr, sym, ◌∙◌, ap}
 use Rattle.std.specs.Prelude.{Contains}
 use Rattle.std.proofs.lemmas.Bool.{lt-ltb}
 use Rattle.fib_addr.specs.Prefixes.{Prefix, contains, host}
@@ -9,7 +9,7 @@ use Rattle.fib_resolve.specs.declared.pairs.Pair.{Pair}
 use Rattle.fib_resolve.specs.declared.types.Tables.{Tables}
 use Rattle.fib_resolve.proofs.Covering.{filter_in}
 use Rattle.fib_changes.proofs.SamePairs.{map_in, Origin, origin, base, neighbor, derived, near_from, near_host, derived_host}
-use Rattle.fib_entries.specs.inner.Clear.{IsApart, IsNarrower}
+use Rattle.fib_entries.specs.inner.Clear.{IsApart}
 
 -- an entry shorter than a host covers, in each of the tables that have its base pairs
 pub short_pair : (S U : Tables) (x : Pair) → Contains (pairs S) x → x.prefix.len < 32 → (Contains (base_pairs S) x → Contains (base_pairs U) x) → Contains (short_prefixes U) x.prefix

@@ -50,7 +50,7 @@ use Rattle.fib_changes.proofs.SamePairs.{map_in, map_from, flat_map_from, Origin
 use Rattle.fib_changes.proofs.Edits.{any_in, in_cases}
 use Rattle.fib_changes.proofs.CauseLaws.{any_from}
 use Rattle.fib_interned.proofs.Finding.{find_place, contains_at, none_some, some_is}
-use Rattle.fib_entries.specs.inner.Clear.{IsApart, IsNarrower}
+use Rattle.fib_entries.specs.inner.Clear.{IsApart}
 use Rattle.fib_entries.specs.inner.Leaf.{IsLeafEdit}
 use Rattle.fib_entries.specs.inner.Part.{in_part, IsPartEdit}
 use Rattle.fib_entries.proofs.Apart.{longer_covers, short_pair}

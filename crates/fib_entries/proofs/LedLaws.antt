@@ -44,7 +44,7 @@ use Rattle.fib_changes.proofs.Covers.{short_from, whole_there, attached_agrees}
 use Rattle.fib_changes.proofs.Cycles.{path_edge, through_cycle, last_edge}
 use Rattle.fib_changes.proofs.Edits.{any_in}
 use Rattle.fib_changes.proofs.SamePairs.{flat_map_from, map_in, Origin, origin, from_origin, base, neighbor, derived, near_from, near_host, derived_host, same_pairs_from, same_targets, same_chosen, same_met}
-use Rattle.fib_entries.specs.inner.Led.{IsLedEdit}
+use Rattle.fib_entries.specs.inner.Led.{IsBestEdit, IsLedEdit}
 use Rattle.fib_entries.specs.inner.Part.{in_part}
 use Rattle.fib_entries.proofs.Leafing.{from_route, each_has, entry_of_pair, not_it, is_not, host_is, hop_route, its_prefix, routes_beside, stays_hop, part_cases, part_host, part_not, base_beside, came_beside, near_beside, means_beside, good_beside}
 use Rattle.fib_entries.proofs.Listing.{listed_route, source_of_route}
@@ -76,17 +76,17 @@ walk_in next reach closed zero x y is w = subst (λ z. reach z ≡ true) w is
 walk_in next reach closed (suc n) x y is w = walk_in next reach closed n w.0 y (closed x w.0 is w.1) w.2
 
 -- a route whose source is the best of its prefix gives the chosen list
-record IsOwnBest (U : Tables) (p : Prefix) (source : FibSource) : Type 0 where
-  sound : IsSound U
-  written : (source_rank source ≡ 2) ⊎ (source_rank source ≡ 3)
-  some : paths_at p source U.routes ≢ []
-  best : (x : Pair) → Contains (pairs U) x → p ≡ x.prefix → source_rank source ≤ source_rank x.source
+pub record IsOwnBest (U : Tables) (p : Prefix) (source : FibSource) : Type 0 where
+  pub sound : IsSound U
+  pub written : (source_rank source ≡ 2) ⊎ (source_rank source ≡ 3)
+  pub some : paths_at p source U.routes ≢ []
+  pub best : (x : Pair) → Contains (pairs U) x → p ≡ x.prefix → source_rank source ≤ source_rank x.source
 
 module _ (U : Tables) (p : Prefix) (source : FibSource) (h : IsOwnBest U p source) where
   own_route : (r : Route) × Contains U.routes r × (is_route p source r ≡ true) × (paths_at p source U.routes ≡ r.paths)
   own_route = elim (listed_route p source U.routes) [ inl r ↦ r | inr (none, is) ↦ absurd (h.some is) ]
 
-  own_base : (x : Pair) × Contains (base_pairs U) x × (x.prefix ≡ p) × (x.source ≡ source) × (paths_at p source U.routes ≡ x.paths)
+  pub own_base : (x : Pair) × Contains (base_pairs U) x × (x.prefix ≡ p) × (x.source ≡ source) × (paths_at p source U.routes ≡ x.paths)
   own_base = let r = own_route in let both = source_of_route p source r.0 r.2 in (route_pair r.0, from_route U r.0 r.1, both.0, both.1, r.3)
 
   own_best : (o : Option Pair) → BestOf p (pairs U) o → (paths_of o ≡ paths_at p source U.routes) × (is_derived_pair o ≡ false)
@@ -104,13 +104,42 @@ module _ (U : Tables) (p : Prefix) (source : FibSource) (h : IsOwnBest U p sourc
       not_five n (inl is) = rw is refl
       not_five n (inr is) = rw is refl
 
-  own_chosen : chosen U p ≡ paths_at p source U.routes
+  pub own_chosen : chosen U p ≡ paths_at p source U.routes
   unfolding chosen
   own_chosen = (own_best (best_pair p (pairs U)) (best_of p (pairs U))).0
 
-  own_written : is_derived U p ≡ false
+  pub own_written : is_derived U p ≡ false
   unfolding is_derived
   own_written = (own_best (best_pair p (pairs U)) (best_of p (pairs U))).1
+
+module _ (S T : Tables) (p : Prefix) (source : FibSource) (b : IsBestEdit S T p source) where
+  -- no pair of the prefix has a better source
+  pub led_best_after : (x : Pair) → Contains (pairs T) x → p ≡ x.prefix → source_rank source ≤ source_rank x.source
+  led_best_after x c at = by (origin T x c)
+    where
+      lower : (n : ℕ) → 4 ≤ n → source_rank source ≤ n
+      lower n k = elim b.written [ inl two ↦ omega (arith, two, k) | inr three ↦ omega (arith, three, k) ]
+
+      by : Origin T x → source_rank source ≤ source_rank x.source
+      by (base k) = elim (came_beside S T p source b.differ x k) [
+        | inl there ↦ b.best x (from_origin S x (base there)) at
+        | inr (r, m, it, is) ↦ (let same = ap source_rank (sym (source_of_route p source r it).1 ∙ ap (λ z. z.source) is) in omega (arith, same))
+      ]
+      by (neighbor n k m) = lower (source_rank x.source) (let r = each_has (λ y. 4 ≡ source_rank y.source) (neighbor_pairs T n) x (near_ranks T n) m in omega (arith, r))
+      by (derived a k is) = lower (source_rank x.source) (let r : 5 ≡ source_rank x.source = derived_rank T a ∙ ap (λ z. source_rank z.source) is in omega (arith, r))
+
+  pub own_before : IsOwnBest S p source
+  own_before = record { sound = b.before; written = b.written; some = b.was; best = b.best }
+
+  pub own_after : IsOwnBest T p source
+  own_after = record { sound = b.after; written = b.written; some = b.is; best = led_best_after }
+
+  -- the route's list is the chosen one
+  pub led_list_before : chosen S p ≡ paths_at p source S.routes
+  led_list_before = own_chosen S p source own_before
+
+  pub led_list_after : chosen T p ≡ paths_at p source T.routes
+  led_list_after = own_chosen T p source own_after
 
 module _ (S T : Tables) (p : Prefix) (source : FibSource) (late : List ℕ) (h : IsLedEdit S T p source late) where
   based : BaseCaught S T (same_prefix p)
@@ -120,47 +149,19 @@ module _ (S T : Tables) (p : Prefix) (source : FibSource) (late : List ℕ) (h :
   pub led_base : (x : Pair) → p ≢ x.prefix → Contains (base_pairs S) x ↔ Contains (base_pairs T) x
   led_base x off = based x (not_it p x.prefix off)
 
-  -- no pair of the prefix has a better source
-  pub led_best_after : (x : Pair) → Contains (pairs T) x → p ≡ x.prefix → source_rank source ≤ source_rank x.source
-  led_best_after x c at = by (origin T x c)
-    where
-      lower : (n : ℕ) → 4 ≤ n → source_rank source ≤ n
-      lower n k = elim h.written [ inl two ↦ omega (arith, two, k) | inr three ↦ omega (arith, three, k) ]
-
-      by : Origin T x → source_rank source ≤ source_rank x.source
-      by (base k) = elim (came_beside S T p source h.differ x k) [
-        | inl there ↦ h.best x (from_origin S x (base there)) at
-        | inr (r, m, it, is) ↦ (let same = ap source_rank (sym (source_of_route p source r it).1 ∙ ap (λ z. z.source) is) in omega (arith, same))
-      ]
-      by (neighbor n k m) = lower (source_rank x.source) (let r = each_has (λ y. 4 ≡ source_rank y.source) (neighbor_pairs T n) x (near_ranks T n) m in omega (arith, r))
-      by (derived a k is) = lower (source_rank x.source) (let r : 5 ≡ source_rank x.source = derived_rank T a ∙ ap (λ z. source_rank z.source) is in omega (arith, r))
-
-  own_before : IsOwnBest S p source
-  own_before = record { sound = h.before; written = h.written; some = h.was; best = h.best }
-
-  own_after : IsOwnBest T p source
-  own_after = record { sound = h.after; written = h.written; some = h.is; best = led_best_after }
-
-  -- the route's list is the chosen one
-  pub led_list_before : chosen S p ≡ paths_at p source S.routes
-  led_list_before = own_chosen S p source own_before
-
-  pub led_list_after : chosen T p ≡ paths_at p source T.routes
-  led_list_after = own_chosen T p source own_after
-
-  short_half : (U V : Tables) → ((x : Pair) → p ≢ x.prefix → Contains (base_pairs U) x → Contains (base_pairs V) x) → IsOwnBest V p source
+  short_half : (U V : Tables) → ((x : Pair) → p ≢ x.prefix → Contains (base_pairs U) x → Contains (base_pairs V) x) → (p.len < 32 → (x : Pair) × Contains (base_pairs V) x × (x.prefix ≡ p))
       → (q : Prefix) → Contains (short_prefixes U) q → Contains (short_prefixes V) q
   unfolding short_prefixes
   short_half U V carried there q c =
       let r = short_from U q c in
       let x : (y : Pair) × Contains (base_pairs V) y × (y.prefix ≡ q) = elim (either (same_prefix p q)) [
-        | inl is ↦ (let y = own_base V p source there in (y.0, y.1, y.2 ∙ (same_prefix-Decides p q).0 is))
+        | inl is ↦ (let e = (same_prefix-Decides p q).0 is in let y = there (subst (λ z. z.len < 32) (sym e) (ltb-true q.len 32 r.3)) in (y.0, y.1, y.2 ∙ e))
         | inr off ↦ (r.0, carried r.0 (λ e. false≢true (sym off ∙ (same_prefix-Decides p q).1 (e ∙ r.2))) r.1, r.2)
       ] in
       filter_in is_short (map prefix_of (base_pairs V)) q (subst (Contains (map prefix_of (base_pairs V))) x.2 (map_in prefix_of (base_pairs V) x.0 x.1)) r.3
 
   short_same : (q : Prefix) → Contains (short_prefixes S) q ↔ Contains (short_prefixes T) q
-  short_same q = (short_half S T (λ x off. (led_base x off).0) own_after q, short_half T S (λ x off. (led_base x off).1) own_before q)
+  short_same q = (short_half S T (λ x off. (led_base x off).0) h.there_after q, short_half T S (λ x off. (led_base x off).1) h.there_before q)
 
   good : ArePrefixes T
   good = good_beside S T p source h.differ h.prefix h.real
@@ -192,13 +193,9 @@ module _ (S T : Tables) (p : Prefix) (source : FibSource) (late : List ℕ) (h :
     | inr off ↦ led_attached_off a small (λ e. false≢true (sym off ∙ (same_prefix-Decides p (cover S a)).1 e))
     | inl it ↦ (let is : p ≡ cover S a = (same_prefix-Decides p (cover S a)).0 it in elim h.loose [
       | inl long ↦ absurd (let short = cover_short S a in let l = ap (λ z. z.len) is in omega (arith, long, short, l))
-      | inr none ↦ (
-          loosely S h.before is led_list_before none.0 ∙ sym (loosely T h.after (is ∙ led_covers a small) led_list_after none.1))
+      | inr alike ↦ attached_by_chosen S a h.before ∙ (ap (λ z. attached_of (chosen S z)) (sym is) ∙ (alike ∙ (ap (λ z. attached_of (chosen T z)) (is ∙ led_covers a small) ∙ sym (attached_by_chosen T a h.after))))
     ])
   ]
-    where
-      loosely : (U : Tables) → IsSound U → p ≡ cover U a → chosen U p ≡ paths_at p source U.routes → attached_of (paths_at p source U.routes) ≡ None → attached_by U a ≡ None
-      loosely U sound is list none = attached_by_chosen U a sound ∙ ap (λ z. attached_of (chosen U z)) (sym is) ∙ ap attached_of list ∙ none
 
   -- next hops that aren't late stay, and so do neighbors
   stays : (a : ℕ) → (Contains late a → ⊥) → (r : Route) → is_route p source r ≡ true → Contains S.routes r ⊎ Contains T.routes r → Contains (recursive_hops r) a → Contains (all_hops S) a × Contains (all_hops T) a
@@ -259,7 +256,7 @@ module _ (S T : Tables) (p : Prefix) (source : FibSource) (late : List ℕ) (h :
       prefix_with : ℕ → ℕ → Prefix
       prefix_with bits len = record { bits = bits; len = len }
 
-  led_pairs : (e : Prefix) → in_part p late e ≡ false → SamePairs S T e
+  pub led_pairs : (e : Prefix) → in_part p late e ≡ false → SamePairs S T e
   led_pairs e off = elim (either (nat_lt e.bits (2 ^ 32))) [
     | inl small ↦ within_pairs e off (λ _. ltb-true e.bits (2 ^ 32) small)
     | inr large ↦ elim (either (e.len == 32)) [
@@ -302,9 +299,8 @@ module _ (S T : Tables) (p : Prefix) (source : FibSource) (late : List ℕ) (h :
     where
       by : (need : Need) → p ≡ host a → is_met S need a ≡ is_met T need a
       by needs.Any is = refl
-      by needs.Host is = ap (λ z. not (is_derived S z)) (sym is) ∙ ap not (own_written S p source own_before ∙ sym (own_written T p source own_after)) ∙ ap (λ z. not (is_derived T z)) is
-      by needs.Attached is =
-          ap (λ z. is_attached_list (chosen S z)) (sym is) ∙ ap is_attached_list led_list_before ∙ h.needs ∙ sym (ap is_attached_list led_list_after) ∙ ap (λ z. is_attached_list (chosen T z)) is
+      by needs.Host is = ap (λ z. not (is_derived S z)) (sym is) ∙ (ap not (h.derived (ap (λ z. z.len) is)) ∙ ap (λ z. not (is_derived T z)) is)
+      by needs.Attached is = ap (λ z. is_attached_list (chosen S z)) (sym is) ∙ (h.needs (ap (λ z. z.len) is) ∙ ap (λ z. is_attached_list (chosen T z)) is)
 
   -- the prefix is no late next hop's host
   pub led_late_other : (a : ℕ) → Contains late a → p ≢ host a

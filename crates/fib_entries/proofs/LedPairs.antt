@@ -41,7 +41,7 @@ use Rattle.fib_changes.specs.declared.change.Change.TheVariants as changes
 use Rattle.fib_changes.proofs.Edits.{in_front}
 use Rattle.fib_changes.proofs.SamePairs.{Origin, origin, from_origin, base, neighbor, derived, near_from, near_host, derived_host, same_chosen}
 use Rattle.fib_entries.specs.Known.{holders}
-use Rattle.fib_entries.specs.inner.Led.{IsLedEdit, IsTurn}
+use Rattle.fib_entries.specs.inner.Led.{IsBestEdit, IsLedEdit, IsTurn}
 use Rattle.fib_entries.specs.inner.Part.{in_part}
 use Rattle.fib_entries.specs.inner.Reaching.{gone_addrs, late_addrs, turned_addrs}
 use Rattle.fib_entries.specs.declared.hosting.Late.{Late}
@@ -57,7 +57,7 @@ use Rattle.fib_entries.proofs.Using.{once}
 
 -- the pair of a route's list that is there
 module _ (U : Tables) (p : Prefix) (source : FibSource) (some : paths_at p source U.routes ≢ []) where
-  own_there : Contains (pairs U) (pair_of p source (paths_at p source U.routes))
+  pub own_there : Contains (pairs U) (pair_of p source (paths_at p source U.routes))
   unfolding pair_of
   own_there = elim (listed_route p source U.routes) [
     | inl (r, c, it, is) ↦ (let both = source_of_route p source r it in
@@ -73,11 +73,11 @@ module _ (U : Tables) (p : Prefix) (source : FibSource) (some : paths_at p sourc
   own_list : IsSound U → (x : Pair) → Contains (pairs U) x → p ≡ x.prefix → x.source ≡ source → x.paths ≡ paths_at p source U.routes
   own_list sound x c at is = let o = own_parts in one_list U sound x o.0 c o.1 (sym at ∙ o.2) (is ∙ o.3) ∙ sym o.4
 
-  own_is : IsSound U → (x : Pair) → Contains (pairs U) x → p ≡ x.prefix → x.source ≡ source → pair_of p source (paths_at p source U.routes) ≡ x
+  pub own_is : IsSound U → (x : Pair) → Contains (pairs U) x → p ≡ x.prefix → x.source ≡ source → pair_of p source (paths_at p source U.routes) ≡ x
   unfolding pair_of
   own_is sound x c at is = sym (ap (λ q. pair_of q x.source x.paths) (sym at) ∙ (ap (λ t. pair_of p t x.paths) is ∙ ap (pair_of p source) (own_list sound x c at is)))
 
-  own_entry : Contains (entries U) p
+  pub own_entry : Contains (entries U) p
   own_entry = let o = own_parts in entry_of_pair U o.0 p o.1 (sym o.2)
 
 -- a pair that alone passes a test is counted alone
@@ -97,17 +97,17 @@ counted_alone U test paths x passes c only =
     one_more false = refl
 
 -- the prefix's pair of that source
-abbrev is_own : Prefix → FibSource → Pair → Bool
+abbrev pub is_own : Prefix → FibSource → Pair → Bool
 is_own p source x = same_prefix p x.prefix && same_source source x.source
 
-own_passes : (p : Prefix) (source : FibSource) (x : Pair) → p ≡ x.prefix → x.source ≡ source → is_own p source x ≡ true
+pub own_passes : (p : Prefix) (source : FibSource) (x : Pair) → p ≡ x.prefix → x.source ≡ source → is_own p source x ≡ true
 own_passes p source x at is = rw ((same_prefix-Decides p x.prefix).1 at, (Decides-eqb (source_rank source) (source_rank x.source)).1 (ap source_rank (sym is))) refl
 
-passes_own : (p : Prefix) (source : FibSource) (x : Pair) → is_own p source x ≡ true → (p ≡ x.prefix) × (x.source ≡ source)
+pub passes_own : (p : Prefix) (source : FibSource) (x : Pair) → is_own p source x ≡ true → (p ≡ x.prefix) × (x.source ≡ source)
 passes_own p source x is = let both = and_both (same_prefix p x.prefix) _ is in
     ((same_prefix-Decides p x.prefix).0 both.0, source_by_rank x.source source (sym ((Decides-eqb (source_rank source) (source_rank x.source)).0 both.1)))
 
-own_counted : (U : Tables) (p : Prefix) (source : FibSource) → IsSound U → paths_at p source U.routes ≢ [] → (paths : List Path)
+pub own_counted : (U : Tables) (p : Prefix) (source : FibSource) → IsSound U → paths_at p source U.routes ≢ [] → (paths : List Path)
     → count_by (λ x. pointwise same_path x.paths paths) (filter (is_own p source) (pairs U)) ≡ once (paths_at p source U.routes) paths
 unfolding pair_of
 own_counted U p source sound some paths =
@@ -177,27 +177,28 @@ no_ends U a k z c = elim (either (is_member same_prefix (entries U) (host a))) [
   | inr isnt ↦ Contains-nil z (ends_by U (host a) [] (chosen-no_entry U (host a) isnt) z c)
 ]
 
-module _ (S T : Tables) (p : Prefix) (source : FibSource) (late : List ℕ) (h : IsLedEdit S T p source late) where
+module _ (S T : Tables) (p : Prefix) (source : FibSource) (b : IsBestEdit S T p source) where
   pub led_source_before : Contains (pairs S) (pair_of p source (paths_at p source S.routes))
-  led_source_before = own_there S p source h.was
+  led_source_before = own_there S p source b.was
 
   pub led_source_after : Contains (pairs T) (pair_of p source (paths_at p source T.routes))
-  led_source_after = own_there T p source h.is
+  led_source_after = own_there T p source b.is
 
   pub led_one_before : (x : Pair) → Contains (pairs S) x → p ≡ x.prefix → x.source ≡ source → x.paths ≡ paths_at p source S.routes
-  led_one_before = own_list S p source h.was h.before
+  led_one_before = own_list S p source b.was b.before
 
   pub led_one_after : (x : Pair) → Contains (pairs T) x → p ≡ x.prefix → x.source ≡ source → x.paths ≡ paths_at p source T.routes
-  led_one_after = own_list T p source h.is h.after
+  led_one_after = own_list T p source b.is b.after
 
   -- where the list is another, the prefix is touched
   pub led_touched : paths_at p source S.routes ≢ paths_at p source T.routes → is_touched S T p ≡ true
   led_touched off = elim (either (is_touched S T p)) [
     | inl is ↦ is
-    | inr isnt ↦ (let o = own_parts S p source h.was in
+    | inr isnt ↦ (let o = own_parts S p source b.was in
         absurd (off (o.4 ∙ led_one_after o.0 ((untouched_pairs S T p o.0 isnt o.2).0 o.1) o.2 (sym o.3))))
   ]
 
+module _ (S T : Tables) (p : Prefix) (source : FibSource) (late : List ℕ) (h : IsLedEdit S T p source late) where
   addresses_same : (a : Address) → Contains S.addresses a ↔ Contains T.addresses a
   addresses_same a = h.differ.addresses a (λ k. address_not p source a (only_one (changes.Route p source) (changes.Address a) k))
 
@@ -283,15 +284,15 @@ module _ (S T : Tables) (p : Prefix) (source : FibSource) (late : List ℕ) (h :
       ]
 
   -- as many Hop ends, where those of the list before and after are those of other entries too
-  pub led_ends : ((z : Adjacency) → Contains (ends_in p (paths_at p source S.routes)) z → HasEnd S (in_part p late) z) → ((z : Adjacency) → Contains (ends_in p (paths_at p source T.routes)) z → HasEnd S (in_part p late) z)
+  pub led_ends : IsBestEdit S T p source → ((z : Adjacency) → Contains (ends_in p (paths_at p source S.routes)) z → HasEnd S (in_part p late) z) → ((z : Adjacency) → Contains (ends_in p (paths_at p source T.routes)) z → HasEnd S (in_part p late) z)
       → length (adjacencies S) ≡ length (adjacencies T)
-  led_ends before after = adjacencies_same S T (in_part p late) outer_entries (λ e off. same_chosen S T e h.after (led_entry S T p source late h e off).pairs)
+  led_ends b before after = adjacencies_same S T (in_part p late) outer_entries (λ e off. same_chosen S T e h.after (led_entry S T p source late h e off).pairs)
       (λ e within z c. elim (part_cases p late e within) [
-        | inl own ↦ before z (ends_by S p (paths_at p source S.routes) (led_list_before S T p source late h) z (subst (λ q. Contains (adjacencies_of S q) z) (sym own) c))
+        | inl own ↦ before z (ends_by S p (paths_at p source S.routes) (led_list_before S T p source b) z (subst (λ q. Contains (adjacencies_of S q) z) (sym own) c))
         | inr (a, m, at) ↦ absurd (no_ends S a (led_late_was a m) z (subst (λ q. Contains (adjacencies_of S q) z) (sym at) c))
       ])
       (λ e within z c. elim (part_cases p late e within) [
-        | inl own ↦ after z (ends_by T p (paths_at p source T.routes) (led_list_after S T p source late h) z (subst (λ q. Contains (adjacencies_of T q) z) (sym own) c))
+        | inl own ↦ after z (ends_by T p (paths_at p source T.routes) (led_list_after S T p source b) z (subst (λ q. Contains (adjacencies_of T q) z) (sym own) c))
         | inr (a, m, at) ↦ absurd (no_ends T a (led_late a m) z (subst (λ q. Contains (adjacencies_of T q) z) (sym at) c))
       ])
 
@@ -343,16 +344,16 @@ module _ (S T : Tables) (p : Prefix) (source : FibSource) (late : Option Late) (
   led_go_none a c i = turn.goes a c ((loose_entry T a (led_late S T p source (turned_addrs late gone) h a (go_in a c))).0 i)
 
   -- the one host comes, the other goes
-  pub led_entries : (e : Prefix) → Contains (entries T) e ↔ (Contains (entries S) e × ((a : ℕ) → Contains (gone_addrs gone) a → host a ≡ e → ⊥)) ⊎ ((a : ℕ) × Contains (late_addrs late) a × (host a ≡ e))
-  led_entries e = elim (either (in_part p (turned_addrs late gone) e)) [
+  pub led_entries : IsBestEdit S T p source → (e : Prefix) → Contains (entries T) e ↔ (Contains (entries S) e × ((a : ℕ) → Contains (gone_addrs gone) a → host a ≡ e → ⊥)) ⊎ ((a : ℕ) × Contains (late_addrs late) a × (host a ≡ e))
+  led_entries b e = elim (either (in_part p (turned_addrs late gone) e)) [
     | inr off ↦ (let same = outer_entries S T p source (turned_addrs late gone) h e off in (
       λ c. inl (same.1 c, λ a m at. false≢true (sym off ∙ (ap (in_part p (turned_addrs late gone)) (sym at) ∙ part_host p (turned_addrs late gone) a (go_in a m)))),
       λ c. elim c [ inl was ↦ same.0 was.0 | inr (a, m, at) ↦ subst (Contains (entries T)) at (led_come_entry a m) ],
     ))
     | inl is ↦ elim (part_cases p (turned_addrs late gone) e is) [
       | inl own ↦ (
-        λ c. inl (subst (Contains (entries S)) own (own_entry S p source h.was), λ a m at. led_late_other S T p source (turned_addrs late gone) h a (go_in a m) (own ∙ sym at)),
-        λ c. subst (Contains (entries T)) own (own_entry T p source h.is),
+        λ c. inl (subst (Contains (entries S)) own (own_entry S p source b.was), λ a m at. led_late_other S T p source (turned_addrs late gone) h a (go_in a m) (own ∙ sym at)),
+        λ c. subst (Contains (entries T)) own (own_entry T p source b.is),
       )
       | inr (a, m, at) ↦ elim (Contains-append_cases (late_addrs late) (gone_addrs gone) a m) [
         | inl come ↦ (λ c. inr (a, come, at), λ c. subst (Contains (entries T)) at (led_come_entry a come))
@@ -429,13 +430,13 @@ module _ (S T : Tables) (p : Prefix) (source : FibSource) (late : Option Late) (
   gone_after (Some g) paths none = host_uncounted T g.addr paths (λ y d is. none g.addr (in_front g.addr g.addr [] refl) (entry_of_pair T y (host g.addr) d is))
 
   -- the users of lists: the new list and that of the host that comes have one more, the old list and that of the host that goes one less
-  pub led_holders : (paths : List Path) → holders T paths + once (paths_at p source S.routes) paths + gone_users gone paths ≡ holders S paths + once (paths_at p source T.routes) paths + late_users late paths
-  led_holders paths =
+  pub led_holders : IsBestEdit S T p source → (paths : List Path) → holders T paths + once (paths_at p source S.routes) paths + gone_users gone paths ≡ holders S paths + once (paths_at p source T.routes) paths + late_users late paths
+  led_holders b paths =
       let e = holders_step S T (is_turned p source late gone) paths beside_turned in
       let s = parts paths (pairs S) in
       let t = parts paths (pairs T) in
-      let sp = own_counted S p source h.before h.was paths in
-      let tp = own_counted T p source h.after h.is paths in
+      let sp = own_counted S p source h.before b.was paths in
+      let tp = own_counted T p source h.after b.is paths in
       let sl = late_before late paths turn.absent in
       let tl = late_after late paths (λ a c. (led_late S T p source (turned_addrs late gone) h a (come_in a c), turn.comes a c)) in
       let sg = gone_before gone paths (λ a c. (led_late_was S T p source (turned_addrs late gone) h a (go_in a c), turn.there a c)) in

@@ -52,7 +52,7 @@ use Rattle.fib_entries.specs.Known.{Known, prefix_of, row_of, ArePairs, IsHeld, 
 use Rattle.fib_entries.specs.inner.Course.{IsComingAs}
 use Rattle.fib_entries.specs.inner.Hosting.{IsLate}
 use Rattle.fib_entries.specs.inner.Leaf.{goals_of}
-use Rattle.fib_entries.specs.inner.Led.{IsLedEdit, IsReaching, IsTurn, but_hops, has_hop, shared_gone, shared_late}
+use Rattle.fib_entries.specs.inner.Led.{IsBestEdit, IsLedEdit, IsReaching, IsTurn, but_hops, has_hop, shared_gone, shared_late}
 use Rattle.fib_entries.specs.inner.Looping.{AreLoops, AreReached, aim_loops, aim_recursive, aims_of, entry_of, has_ends, late_next, led_in, loops_of, mark_with, marks_with, next_with}
 use Rattle.fib_entries.specs.inner.Part.{in_part}
 use Rattle.fib_entries.specs.inner.Parting.{IsLast, hop_at, path_at}
@@ -65,7 +65,7 @@ use Rattle.fib_entries.proofs.Departing.{unused_but}
 use Rattle.fib_entries.proofs.Hosts.{loose_targets}
 use Rattle.fib_entries.proofs.Leafing.{entry_of_pair, hop_in, host_is, is_it, is_not, only_one, part_cases, part_not, routes_beside, written_route, from_route}
 use Rattle.fib_entries.proofs.LeafSizes.{plain_targets}
-use Rattle.fib_entries.proofs.LedLaws.{led_chosen, led_entry, led_late_before, led_late_cover, led_list_after, led_list_before, led_loops_beside, led_met, led_still, led_targets, led_touch}
+use Rattle.fib_entries.proofs.LedLaws.{own_after, own_base, own_before, own_written, led_chosen, led_entry, led_late_before, led_late_cover, led_list_after, led_list_before, led_loops_beside, led_met, led_still, led_targets, led_touch}
 use Rattle.fib_entries.proofs.LedPairs.{come_in, go_in, led_go_none, led_late, led_late_was}
 use Rattle.fib_entries.proofs.PartRows.{listed_row}
 use Rattle.fib_entries.proofs.Placing.{gap_absent}
@@ -247,6 +247,12 @@ module _ (v : Known) (S T : Tables) (p : Prefix) (source : FibSource) (place id 
   all_is : (a : ℕ) → Contains (turned_addrs late gone) a → IsTurned a
   all_is a c = elim (Contains-append_cases (late_addrs late) (gone_addrs gone) a c) [ inl come ↦ come_is late m.hops a come | inr go ↦ go_is gone refl m.hops_before a go ]
 
+  pub reach_best : IsBestEdit S T p source
+  reach_best = record { before = k.sound; after = after; differ = differ; written = m.written; was = reach_some; is = m.some; best = own_best }
+
+  list_before : chosen S p ≡ old
+  list_before = led_list_before S T p source reach_best ∙ reach_was
+
   pub reach_edit : IsLedEdit S T p source (turned_addrs late gone)
   reach_edit = record {
     before = k.sound;
@@ -255,12 +261,14 @@ module _ (v : Known) (S T : Tables) (p : Prefix) (source : FibSource) (place id 
     prefix = m.prefix;
     real = λ q c. (let r = map_from prefix_of v.rows q ((k.entries q).1 c) in subst IsPrefix r.2 (k.rows r.0 r.1).prefix);
     far = λ n c. ltb-true n.addr (2 ^ 32) (each_true (λ z. nat_lt z.addr (2 ^ 32)) T.neighbors n m.far c);
-    written = m.written;
-    was = reach_some;
-    is = m.some;
-    best = own_best;
-    loose = subst (λ z. (p.len ≡ 32) ⊎ ((attached_of z ≡ None) × (attached_of (paths_at p source T.routes) ≡ None))) (sym reach_was) m.loose;
-    needs = ap is_attached_list reach_was ∙ m.needs;
+    there_before = λ _. (let x = own_base S p source (own_before S T p source reach_best) in (x.0, x.1, x.2));
+    there_after = λ _. (let x = own_base T p source (own_after S T p source reach_best) in (x.0, x.1, x.2));
+    derived = λ _. own_written S p source (own_before S T p source reach_best) ∙ sym (own_written T p source (own_after S T p source reach_best));
+    loose = elim m.loose [
+      | inl long ↦ inl long
+      | inr none ↦ inr (ap attached_of list_before ∙ (none.0 ∙ sym (ap attached_of (led_list_after S T p source reach_best) ∙ none.1)))
+    ];
+    needs = λ long. ap is_attached_list list_before ∙ (m.needs long ∙ sym (ap is_attached_list (led_list_after S T p source reach_best)));
     hops = λ r a it c hop. elim c [
       | inl before ↦ (let mine = subst (λ z. Contains (filter_map recursive_of z) a) (sym (list_of_route S k.sound p source r before it) ∙ reach_was) hop in
           elim (hop_cases (paths_at p source T.routes) old a mine) [
@@ -319,10 +327,10 @@ module _ (v : Known) (S T : Tables) (p : Prefix) (source : FibSource) (place id 
   reach_turn = turn_with late gone refl m.hops m.hops_before
 
   pub reach_goals : targets T p ≡ goals_of (paths_at p source T.routes)
-  reach_goals = plain_targets T p (paths_at p source T.routes) (led_list_after S T p source (turned_addrs late gone) reach_edit) m.plain
+  reach_goals = plain_targets T p (paths_at p source T.routes) (led_list_after S T p source reach_best) m.plain
 
   pub reach_goals_before : targets S p ≡ goals_of old
-  reach_goals_before = plain_targets S p old (led_list_before S T p source (turned_addrs late gone) reach_edit ∙ reach_was) m.plain_before
+  reach_goals_before = plain_targets S p old list_before m.plain_before
 
   -- a host that comes leads to its cover
   host_late : (a : ℕ) → Contains (late_addrs late) a → targets T (host a) ≡ cover S a ∷ []
@@ -354,6 +362,7 @@ reach_cover_gone v S p g k l = cover_found v S k g.addr g.cover l.small l.longes
 -- leads to its cover, or one goes, to which nothing leads then
 pub record IsReach (v : Known) (S T : Tables) (p : Prefix) (source : FibSource) (old new : List Path) (late : List ℕ) (coming : Option (Prefix × Prefix)) : Type 0 where
   pub stands : StandsFor v S
+  pub best : IsBestEdit S T p source
   pub edit : IsLedEdit S T p source late
   pub goals_before : targets S p ≡ goals_of old
   pub goals : targets T p ≡ goals_of new
@@ -364,6 +373,7 @@ pub reach_is : (v : Known) (S T : Tables) (p : Prefix) (source : FibSource) (pla
     → Differ (changes.Route p source ∷ []) S T → IsSound T → IsComingAs v.rows late coming → IsReach v S T p source old (paths_at p source T.routes) (turned_addrs late gone) coming
 reach_is v S T p source place id old late gone coming k m differ after comes_as = record {
   stands = k;
+  best = reach_best v S T p source place id old late gone k m differ after;
   edit = reach_edit v S T p source place id old late gone k m differ after;
   goals_before = reach_goals_before v S T p source place id old late gone k m differ after;
   goals = reach_goals v S T p source place id old late gone k m differ after;

@@ -95,3 +95,7 @@ pub mod Asking
 pub mod HopPairs
 pub mod HopRows
 pub mod HopFields
+pub mod Doubling
+pub mod Relent
+pub mod Overlaying
+pub mod Overtaking

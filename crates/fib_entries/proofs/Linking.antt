@@ -196,7 +196,7 @@ module _ (p : Prefix) where
   detached_names gs kept rows new a = zip_map _ (λ r s x. x.0.prefix) rows new a
 
 -- what was pushed is popped
-set_back : (rows : List Row) (k : ℕ) (r s : Row) → slice_get rows k ≡ Some r → slice_set (slice_set rows k s) k r ≡ rows
+pub set_back : (rows : List Row) (k : ℕ) (r s : Row) → slice_get rows k ≡ Some r → slice_set (slice_set rows k s) k r ≡ rows
 set_back [] k r s at = absurd (none_some r at)
 set_back (q ∷ qs) zero r s at = ap (λ z. z ∷ qs) (some_is r q (sym at))
 set_back (q ∷ qs) (suc k) r s at = ap (λ l. q ∷ l) (set_back qs k r s at)
@@ -221,7 +221,7 @@ popped_back p rows k r at = ap (slice_set (slice_set rows k (pushed p r)) k) (ap
 pub no_row_at : (rows : List Row) (t : Prefix) → None ≡ row_of rows t → (r : Row) → Contains rows r → t ≢ r.prefix
 no_row_at rows t none r c is = find_missed (λ z. same_prefix t z.prefix) rows r c ((same_prefix-Decides t r.prefix).1 is) (sym none)
 
-at_inside : (rows : List Row) (k : ℕ) (r : Row) → slice_get rows k ≡ Some r → k < length rows
+pub at_inside : (rows : List Row) (k : ℕ) (r : Row) → slice_get rows k ≡ Some r → k < length rows
 at_inside rows k r at = slice_get_within rows k r at
 
 pub set_names : (rows : List Row) (k : ℕ) (r s : Row) → slice_get rows k ≡ Some r → s.prefix ≡ r.prefix → map prefix_of (slice_set rows k s) ≡ map prefix_of rows

@@ -31,7 +31,7 @@ use Rattle.fib_entries.proofs.Comparing.{all_pass}
 use Rattle.fib_entries.proofs.HopEnds.{ends_others, ends_others_but}
 use Rattle.fib_entries.proofs.LeafSizes.{HasEnd, ends_in}
 use Rattle.fib_entries.proofs.LedPairs.{led_end_beside, led_ends}
-use Rattle.fib_entries.proofs.LedReach.{reach_edit, reach_was}
+use Rattle.fib_entries.proofs.LedReach.{reach_best, reach_edit, reach_was}
 use Rattle.fib_entries.proofs.Orders.{inserted_members, order_grown, order_shrunk, order_size, size_of_order}
 use Rattle.fib_entries.proofs.Placing.{inserted_ascending, size_came, size_left}
 use Rattle.fib_entries.proofs.Sharing.{each_true}
@@ -83,7 +83,7 @@ module _ (v : Known) (S T : Tables) (p : Prefix) (source : FibSource) (place id 
   ends_after (Some g) shared z c = ends_others_but v S k p g.addr (but_hops old (paths_at p source T.routes)) shared.0 (beside_but p old (paths_at p source T.routes) m.beside) z (ends_but_hops p old (paths_at p source T.routes) z c)
 
   ends : length (adjacencies S) ≡ length (adjacencies T)
-  ends = led_ends S T p source (turned_addrs late gone) h
+  ends = led_ends S T p source (turned_addrs late gone) h (reach_best v S T p source place id old late gone k m differ after)
       (λ z c. led_end_beside S T p source (turned_addrs late gone) h z (ends_before gone m.hops_before z (subst (λ l. Contains (ends_in p l) z) (reach_was v S T p source place id old late gone k m differ after) c)))
       (λ z c. led_end_beside S T p source (turned_addrs late gone) h z (ends_after late m.hops z c))
 

@@ -227,7 +227,7 @@ module _ (v w : Known) (S T : Tables) (p : Prefix) (source : FibSource) (place i
     real = λ q c. elim (in_cases (source, new_id) q m.rest c) [
       | inl is ↦ (
         pair_of p source (paths_at p source T.routes),
-        led_source_after S T p source (turned_addrs late gone) h,
+        led_source_after S T p source x.best,
         refl,
         (sym (ap (λ z. z.0) is), ap (λ z. content_of later z.1) (sym is) ∙ set.content),
       )
@@ -241,7 +241,7 @@ module _ (v w : Known) (S T : Tables) (p : Prefix) (source : FibSource) (place i
       by z c own (inl is) = (let same : z.source ≡ source = source_by_rank z.source source ((Decides-eqb (source_rank z.source) (source_rank source)).0 is) in (
         (source, new_id),
         in_front (source, new_id) (source, new_id) m.rest refl,
-        (sym same, set.content ∙ ap Some (sym (led_one_after S T p source (turned_addrs late gone) h z c own same))),
+        (sym same, set.content ∙ ap Some (sym (led_one_after S T p source x.best z c own same))),
       ))
       by z c own (inr off) = (let other : z.source ≢ source = λ e. false≢true (sym off ∙ (Decides-eqb (source_rank z.source) (source_rank source)).1 (ap source_rank e)) in
           let b = pairs_before.found z ((led_others S T p source (turned_addrs late gone) h z own other).1 c) own in
@@ -280,7 +280,7 @@ module _ (v w : Known) (S T : Tables) (p : Prefix) (source : FibSource) (place i
   }
     where
       at_own : {X : Type 0} (f : Prefix → List Path → X) → f p (paths_at p source T.routes) ≡ f s.prefix (chosen T s.prefix)
-      at_own f = ap (f p) (sym (led_list_after S T p source (turned_addrs late gone) h)) ∙ ap (λ e. f e (chosen T e)) at
+      at_own f = ap (f p) (sym (led_list_after S T p source x.best)) ∙ ap (λ e. f e (chosen T e)) at
 
   host_row_is : (g : Late) (s : Row) → late ≡ Some g → Contains mid s → host g.addr ≡ s.prefix → IsRow later T s
   unfolding marked_list
@@ -429,11 +429,11 @@ module _ (v w : Known) (S T : Tables) (p : Prefix) (source : FibSource) (place i
   -- the rows are those of the entries
   pub reached_names : (e : Prefix) → Contains (map prefix_of mid) e ↔ Contains (entries T) e
   reached_names e = (
-    λ c. (led_entries S T p source late gone h turn e).1 (elim ((set.names e).0 c) [
+    λ c. (led_entries S T p source late gone h turn x.best e).1 (elim ((set.names e).0 c) [
       | inl was ↦ inl ((k.entries e).0 was.0, λ a i at. was.1 (subst (Contains (gone_hosts gone)) at (gone_addr_host gone a i)))
       | inr host_there ↦ (let g = host_addr late e host_there in inr (g.0.addr, g.3, g.2))
     ]),
-    λ c. (set.names e).1 (elim ((led_entries S T p source late gone h turn e).0 c) [
+    λ c. (set.names e).1 (elim ((led_entries S T p source late gone h turn x.best e).0 c) [
       | inl was ↦ inl ((k.entries e).1 was.0, λ i. (let g = gone_host_addr gone e i in was.1 g.0.addr g.3 g.2))
       | inr (a, d, at) ↦ inr (subst (Contains (late_hosts late)) at (addr_host late a d))
     ]),
@@ -624,7 +624,7 @@ module _ (v w : Known) (S T : Tables) (p : Prefix) (source : FibSource) (place i
       own_falls : (t : Prefix) → Kept T p t → rank_of w.rows t < rank_of w.rows p
       own_falls t kept_edge =
           let q = kept_edge.0 in
-          let c : Contains (paths_at p source T.routes) q = subst (λ l. Contains l q) (led_list_after S T p source (turned_addrs late gone) h) kept_edge.1 in
+          let c : Contains (paths_at p source T.routes) q = subst (λ l. Contains l q) (led_list_after S T p source x.best) kept_edge.1 in
           let plain = each_plain (paths_at p source T.routes) q m.plain c in
           let goal : Contains (goal_of q.kind) t = subst (λ l. Contains l t) (goal_kind T p q.kind (and_both (plain_kind q.kind) (need_rank q.need == 0) plain).0) kept_edge.3 in
           let free : kind_loops edges p q.kind ≡ false = kind_looped T p edges q.kind (loops_here q c) ∙ not_kept (looped_kind T p q.kind) kept_edge.2 in
@@ -798,7 +798,7 @@ module _ (v w : Known) (S T : Tables) (p : Prefix) (source : FibSource) (place i
         touched = λ e. (
           λ c. elim (Contains-append_cases (p ∷ turned_hosts late gone) (filter (is_relooped_at v.rows p edges) few) e c) [
             | inl first ↦ elim (in_cases p e (turned_hosts late gone) first) [
-              | inl own ↦ subst (λ z. is_touched S T z ≡ true) own (led_touched S T p source (turned_addrs late gone) h (λ is. other (sym was ∙ is)))
+              | inl own ↦ subst (λ z. is_touched S T z ≡ true) own (led_touched S T p source x.best (λ is. other (sym was ∙ is)))
               | inr hosted ↦ turned_touched e hosted
             ]
             | inr again ↦ (let f = filter_from (is_relooped_at v.rows p edges) few e again in

@@ -32,7 +32,7 @@ use Rattle.fib_entries.specs.inner.Coming.{blank_row, with_pairs}
 use Rattle.fib_entries.specs.inner.Fields.{AreCounted}
 use Rattle.fib_entries.specs.inner.Hosting.{IsHosted, IsListed, host_own}
 use Rattle.fib_entries.specs.inner.Leaf.{AreAttached, IsButFor, IsReplaced, goals_of, own_row, pushed}
-use Rattle.fib_entries.specs.inner.Led.{IsLedEdit, IsReaching, IsTurn}
+use Rattle.fib_entries.specs.inner.Led.{IsBestEdit, IsLedEdit, IsReaching, IsTurn}
 use Rattle.fib_entries.specs.inner.Part.{IsButForPart, in_part}
 use Rattle.fib_entries.specs.inner.Reaching.{IsPut, IsSettled, gone_addrs, late_addrs, late_names, turned_addrs}
 use Rattle.fib_entries.specs.Rows.{Row}
@@ -44,7 +44,7 @@ use Rattle.fib_entries.proofs.Housing.{hosted_names}
 use Rattle.fib_entries.proofs.Leafing.{is_not, only_one, part_cases, part_host, part_not}
 use Rattle.fib_entries.proofs.LedLaws.{led_late_covered, led_late_led, led_late_other}
 use Rattle.fib_entries.proofs.LedPairs.{gone_users, led_holders, led_source_after, led_source_before, led_to_own}
-use Rattle.fib_entries.proofs.LedReach.{late_cover_is, late_no_host, reach_edit, reach_goals, reach_goals_before, reach_host_late, reach_turn, reach_was}
+use Rattle.fib_entries.proofs.LedReach.{late_cover_is, late_no_host, reach_best, reach_edit, reach_goals, reach_goals_before, reach_host_late, reach_turn, reach_was}
 use Rattle.fib_entries.proofs.Linking.{attached_one, but_self, zip_at}
 use Rattle.fib_entries.proofs.Listing.{pair_of}
 use Rattle.fib_entries.proofs.PartRows.{row_by}
@@ -166,15 +166,18 @@ module _ (v : Known) (S T : Tables) (f : List Path → ℕ) (p : Prefix) (source
   between_content = list_content (known_with v put.start v.lists) (known_with v put.low put.between) S T p ((source, put.replaced.new_id) ∷ rest) new own relisting
 
 -- the new list has a user
-pub used_after : (S T : Tables) (p : Prefix) (source : FibSource) (late : List ℕ) → IsLedEdit S T p source late → 0 < holders T (paths_at p source T.routes)
+pub used_after : (S T : Tables) (p : Prefix) (source : FibSource) → IsBestEdit S T p source → 0 < holders T (paths_at p source T.routes)
 unfolding pair_of
-used_after S T p source late h = counts_some (λ z. pointwise same_path z.paths (paths_at p source T.routes)) (pairs T) (pair_of p source (paths_at p source T.routes)) (led_source_after S T p source late h) (list_self (paths_at p source T.routes))
+used_after S T p source b = counts_some (λ z. pointwise same_path z.paths (paths_at p source T.routes)) (pairs T) (pair_of p source (paths_at p source T.routes)) (led_source_after S T p source b) (list_self (paths_at p source T.routes))
 
 -- where no host comes
 module _ (v : Known) (mid : List Row) (later : List PathKept) (S T : Tables) (p : Prefix) (source : FibSource) (place id : ℕ) (old : List Path) (own : Own) (gone : Option Last) (k : StandsFor v S) (m : IsReaching v.rows v.lists (map prefix_of v.rows) T p source place id old None gone)
     (differ : Differ (changes.Route p source ∷ []) S T) (after : IsSound T) (apart : AreInterned v.lists) (put : IsPut v.rows mid v.lists later p id old (paths_at p source T.routes) own None) (of_source : own.source ≡ source) where
   edit : IsLedEdit S T p source (turned_addrs None gone)
   edit = reach_edit v S T p source place id old None gone k m differ after
+
+  best : IsBestEdit S T p source
+  best = reach_best v S T p source place id old None gone k m differ after
 
   turn : IsTurn S T (late_addrs None) (gone_addrs gone)
   turn = reach_turn v S T p source place id old None gone k m differ after
@@ -190,7 +193,7 @@ module _ (v : Known) (mid : List Row) (later : List PathKept) (S T : Tables) (p 
 
   counts_step : (paths : List Path) → holders S paths + once (paths_at p source T.routes) paths ≡ holders T paths + gone_users gone paths + once old paths
   counts_step paths = by (holders S paths) (holders T paths) (once (paths_at p source T.routes) paths) (once (paths_at p source S.routes) paths) (once old paths) (gone_users gone paths)
-      (led_holders S T p source None gone edit turn paths) (ap (λ l. once l paths) (reach_was v S T p source place id old None gone k m differ after))
+      (led_holders S T p source None gone edit turn best paths) (ap (λ l. once l paths) (reach_was v S T p source place id old None gone k m differ after))
     where
       by : (h t n w o u : ℕ) → t + w + u ≡ h + n + 0 → w ≡ o → h + n ≡ t + u + o
       by h t n w o u a b = omega (arith, a, b)
@@ -199,7 +202,7 @@ module _ (v : Known) (mid : List Row) (later : List PathKept) (S T : Tables) (p 
   more_used paths pos = omega (arith, pos)
 
   counts_used : 0 < holders T (paths_at p source T.routes) + gone_users gone (paths_at p source T.routes)
-  counts_used = more_used (paths_at p source T.routes) (used_after S T p source (turned_addrs None gone) edit)
+  counts_used = more_used (paths_at p source T.routes) (used_after S T p source best)
 
   basis : Basis v S T (λ paths. holders T paths + gone_users gone paths) p source id old (paths_at p source T.routes) m.rest own put.start put.row
   basis = record {
@@ -287,11 +290,11 @@ unfoldable counts_less : Tables → List Path → List Path → List Path → �
 counts_less S new old paths = (holders S paths + once new paths) - once old paths
 
 -- the old list has a user
-used_before : (S T : Tables) (p : Prefix) (source : FibSource) (late : List ℕ) → IsLedEdit S T p source late → (paths : List Path) → once (paths_at p source S.routes) paths ≤ holders S paths
+used_before : (S T : Tables) (p : Prefix) (source : FibSource) → IsBestEdit S T p source → (paths : List Path) → once (paths_at p source S.routes) paths ≤ holders S paths
 unfolding pair_of
-used_before S T p source late h paths = elim (either (pointwise same_path (paths_at p source S.routes) paths)) [
+used_before S T p source b paths = elim (either (pointwise same_path (paths_at p source S.routes) paths)) [
   | inl is ↦ (let one = unit_same (paths_at p source S.routes) paths (list_is (paths_at p source S.routes) paths is) in
-      let pos = counts_some (λ z. pointwise same_path z.paths paths) (pairs S) (pair_of p source (paths_at p source S.routes)) (led_source_before S T p source late h) is in
+      let pos = counts_some (λ z. pointwise same_path z.paths paths) (pairs S) (pair_of p source (paths_at p source S.routes)) (led_source_before S T p source b) is in
       under (once (paths_at p source S.routes) paths) (holders S paths) one pos)
   | inr isnt ↦ (let none = unit_other (paths_at p source S.routes) paths (λ e. false≢true (sym isnt ∙ subst (λ z. pointwise same_path (paths_at p source S.routes) z ≡ true) e (list_self (paths_at p source S.routes)))) in omega (arith, none))
 ]
@@ -304,6 +307,9 @@ module _ (v : Known) (mid : List Row) (later : List PathKept) (S T : Tables) (p 
     (differ : Differ (changes.Route p source ∷ []) S T) (after : IsSound T) (apart : AreInterned v.lists) (put : IsPut v.rows mid v.lists later p id old (paths_at p source T.routes) own (Some g)) (of_source : own.source ≡ source) where
   edit_late : IsLedEdit S T p source (turned_addrs (Some g) gone)
   edit_late = reach_edit v S T p source place id old (Some g) gone k m differ after
+
+  best_late : IsBestEdit S T p source
+  best_late = reach_best v S T p source place id old (Some g) gone k m differ after
 
   turn_late : IsTurn S T (late_addrs (Some g)) (gone_addrs gone)
   turn_late = reach_turn v S T p source place id old (Some g) gone k m differ after
@@ -385,7 +391,7 @@ module _ (v : Known) (mid : List Row) (later : List PathKept) (S T : Tables) (p 
   was = reach_was v S T p source place id old (Some g) gone k m differ after
 
   old_used : (paths : List Path) → once old paths ≤ holders S paths
-  old_used paths = subst (λ l. once l paths ≤ holders S paths) was (used_before S T p source (turned_addrs (Some g) gone) edit_late paths)
+  old_used paths = subst (λ l. once l paths ≤ holders S paths) was (used_before S T p source best_late paths)
 
   counts_step_late : (paths : List Path) → holders S paths + once (paths_at p source T.routes) paths ≡ counts_less S (paths_at p source T.routes) old paths + once old paths
   unfolding counts_less
@@ -403,7 +409,7 @@ module _ (v : Known) (mid : List Row) (later : List PathKept) (S T : Tables) (p 
 
   counts_all : (paths : List Path) → counts_less S (paths_at p source T.routes) old paths + once (plain kinds.Cover ∷ []) paths ≡ holders T paths + gone_users gone paths
   counts_all paths = by (counts_less S (paths_at p source T.routes) old paths) (holders S paths) (holders T paths) (once (paths_at p source T.routes) paths) (once (paths_at p source S.routes) paths) (once old paths) (once (plain kinds.Cover ∷ []) paths) (gone_users gone paths)
-      (led_holders S T p source (Some g) gone edit_late turn_late paths) (ap (λ l. once l paths) was) (counts_step_late paths)
+      (led_holders S T p source (Some g) gone edit_late turn_late best_late paths) (ap (λ l. once l paths) was) (counts_step_late paths)
     where
       by : (f h t n w o c u : ℕ) → t + w + u ≡ h + n + c → w ≡ o → h + n ≡ f + o → f + c ≡ t + u
       by f h t n w o c u a b e = omega (arith, a, b, e)

@@ -39,7 +39,7 @@ use Rattle.fib_entries.proofs.Hosts.{loose_pair, loose_there}
 use Rattle.fib_entries.proofs.Leafing.{is_not, only_one, part_cases, part_host, part_own}
 use Rattle.fib_entries.proofs.LedLaws.{led_late_other}
 use Rattle.fib_entries.proofs.LedPairs.{come_in, gone_users, go_in, led_go_entry, led_late}
-use Rattle.fib_entries.proofs.LedReach.{reach_cover_gone, reach_edit, reach_host_gone, reach_none_gone, reach_turn}
+use Rattle.fib_entries.proofs.LedReach.{reach_best, reach_cover_gone, reach_edit, reach_host_gone, reach_none_gone, reach_turn}
 use Rattle.fib_entries.proofs.Settled.{settled, settled_stays, used_after}
 use Rattle.fib_entries.proofs.Taking.{list_self}
 use Rattle.fib_entries.proofs.Using.{counted_given, given_stays, recounted, unit_same}
@@ -206,7 +206,7 @@ module _ (v : Known) (S T : Tables) (p : Prefix) (source : FibSource) (place id 
     host_led = host_led;
     counted = counted_given between later (plain kinds.Cover ∷ []) h.list listed withdrawn.given withdrawn.apart (λ paths. holders T paths + gone_users (Some h) paths) (holders T) s.counted (λ paths. refl);
     stays = λ i list pos is. given i list pos (s.stays i list pos is);
-    content = given new_id (paths_at p source T.routes) (used_after S T p source (turned_addrs late (Some h)) edit) s.content;
+    content = given new_id (paths_at p source T.routes) (used_after S T p source (reach_best v S T p source place id old late (Some h) k m differ after)) s.content;
     host_content = λ g is. given g.list (plain kinds.Cover ∷ []) (cover_used g is) (s.host_content g is);
   }
 

@@ -22,3 +22,4 @@ pub mod Course
 pub mod Near
 pub mod Hop
 pub mod Clear
+pub mod Above

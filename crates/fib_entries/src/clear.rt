@@ -18,8 +18,8 @@ use fib_cover::PrefixSet;
 use fib_resolve::{Neighbor, Tables};
 use std::alloc::AllocError;
 
-/// The longer member in which the address lies, or what was found before where it lies outside the prefix; None where it is in neither. What
-/// was found before spares the look-up for addresses that lie in it too.
+/// The longer member in which the address lies, or what was found before where it lies outside the prefix; None where it lies in the prefix
+/// and in no longer member. What was found before spares the look-up where the address lies in it too.
 fn apart(order: &PrefixSet, p: Prefix, addr: Addr, found: Prefix) -> Option<Prefix>
     requires { p.len < found.len → IsNarrower order.now p found }
     ensures next { IfSome result (λ q. p.len < q.len → IsNarrower order.now p q) }
@@ -94,8 +94,8 @@ fn may_be_leaf(rows: &Blocks<Row>, p: Prefix) -> bool
 }
 
 impl Entries {
-    /// Whether each host's row and each neighbor in the prefix lies in a longer row's too, where nothing leads to the prefix. What more
-    /// it takes for a leaf is asked first, since it is found at once.
+    /// Whether the prefix may be a leaf, in which each host's row and each neighbor lies in a longer row's prefix too. Its own row is asked
+    /// first, since it is found at once.
     pub(crate) fn is_clear(&self, tables: &Tables, prefix: Prefix) -> Result<bool, AllocError>
         ensures { IfOk result (λ b. IsTrue b → IsClear self.now.rows tables.now.neighbors prefix) }
     {

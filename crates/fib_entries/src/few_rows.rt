@@ -68,7 +68,10 @@ impl Entries {
                 return Ok(Some(followed));
             }
         }
-        self.follow_reached(tables, prefix, source, new, most)
+        match self.follow_reached(tables, prefix, source, new, most)? {
+            Some(followed) => Ok(Some(followed)),
+            None => self.follow_above(tables, prefix, source, new, most),
+        }
     }
 
     /// The same where nothing leads to the prefix.

@@ -42,11 +42,11 @@ fn is_attached(paths: &[Path]) -> bool
     }
 }
 
-/// Whether both are, or neither.
-fn are_attached_alike(old: &[Path], new: &[Path]) -> bool
-    ensures { IsTrue result → is_attached_list old.now ≡ is_attached_list new.now }
+/// Whether both are, or neither, or no path can ask it since the prefix is no host.
+fn are_attached_alike(p: Prefix, old: &[Path], new: &[Path]) -> bool
+    ensures { IsTrue result → p.len ≡ 32 → is_attached_list old.now ≡ is_attached_list new.now }
 {
-    is_attached(old) == is_attached(new)
+    p.len() != 32 || is_attached(old) == is_attached(new)
 }
 
 /// Whether the prefix is a host, or neither list attaches the hosts in it.
@@ -58,9 +58,9 @@ fn are_loose(p: Prefix, old: &[Path], new: &[Path]) -> bool
 
 /// Whether both are so: hosts in the prefix and paths that need something of it mean the same with either list.
 pub fn is_quiet(p: Prefix, old: &[Path], new: &[Path]) -> bool
-    ensures { IsTrue result → ((p.len ≡ 32) ⊎ ((attached_of old.now ≡ None) × (attached_of new.now ≡ None))) × (is_attached_list old.now ≡ is_attached_list new.now) }
+    ensures { IsTrue result → ((p.len ≡ 32) ⊎ ((attached_of old.now ≡ None) × (attached_of new.now ≡ None))) × (p.len ≡ 32 → is_attached_list old.now ≡ is_attached_list new.now) }
 {
-    are_loose(p, old, new) && are_attached_alike(old, new)
+    are_loose(p, old, new) && are_attached_alike(p, old, new)
 }
 
 /// Whether the neighbor's address is of the Rust type.

@@ -4,6 +4,7 @@
 //! `specs/inner` only carries proofs.
 #![tactic(auto)]
 
+mod above;
 mod apply;
 mod best_list;
 mod build;

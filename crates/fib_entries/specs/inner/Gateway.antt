@@ -1,6 +1,6 @@
 -- A leaf that comes or goes with its one route, where a next hop of it that no other route has is a gateway: its host has other pairs too, and
 -- gets or loses the pair that the next hop makes. No contract of a public call rests on this.
-use Rattle.std.specs.Prelude.{◌≡◌, ◌+◌, ◌-◌, ◌<◌, ◌^◌, ◌++◌, ℕ, Bool, true, false, List, [], ◌∷◌, filter_map, Contains, Some, nat_lt, slice_get, slice_set}
+use Rattle.std.specs.Prelude.{◌≡◌, ◌+◌, ◌-◌, ◌<◌, ◌^◌, ◌++◌, ℕ, Bool, true, List, [], ◌∷◌, filter_map, Contains, Some, nat_lt, slice_get, slice_set}
 use Rattle.std.specs.List.{list_all}
 use Rattle.fib_addr.specs.Prefixes.{Prefix, host}
 use Rattle.fib_cover.specs.Covers.{IsLongestMatch}

@@ -6,7 +6,7 @@ use Rattle.fib_resolve.specs.Edits.{paths_at}
 use Rattle.fib_resolve.specs.Forwarding.{is_attached_list}
 use Rattle.fib_resolve.specs.Keys.{same_source, source_rank}
 use Rattle.fib_resolve.specs.Loops.{targets}
-use Rattle.fib_resolve.specs.Pairs.{pairs, entries, attached_by, attached_of, recursive_of, recursive_hops}
+use Rattle.fib_resolve.specs.Pairs.{base_pairs, pairs, entries, chosen, is_derived, attached_by, attached_of, recursive_of, recursive_hops}
 use Rattle.fib_resolve.specs.Tables.{IsSound, is_route}
 use Rattle.fib_resolve.specs.declared.pairs.Pair.{Pair}
 use Rattle.fib_resolve.specs.declared.types.FibSource.{FibSource}
@@ -28,10 +28,10 @@ use Rattle.fib_entries.specs.declared.hosting.Late.{Late}
 use Rattle.fib_entries.specs.declared.parting.Last.{Last}
 use Rattle.fib_entries.specs.Rows.{Row}
 
--- the list of the prefix's best source alone is another. It attaches no host, before and after, or the prefix is a host; no need of a path
--- to it is met in one alone; and each of its next hops, before and after, is one of another entry's list too, or is one both before and after,
--- or a late one, whose host may come or go: it is no other route's, no other pair is at its host, it lies outside the prefix, and its cover
--- doesn't attach it
+-- the routes of one prefix and source alone can differ, and the prefix stays one that can be a cover. It attaches no host, before and after, or
+-- the prefix is a host; no need of a path to it is met in one alone; and each of the next hops of these routes, before and after, is one of another
+-- entry's list too, or is one both before and after, or a late one, whose host may come or go: it is no other route's, no other pair is at its
+-- host, it lies outside the prefix, and its cover doesn't attach it
 pub record IsLedEdit (S T : Tables) (p : Prefix) (source : FibSource) (late : List ℕ) : Type 0 where
   pub before : IsSound S
   pub after : IsSound T
@@ -39,18 +39,27 @@ pub record IsLedEdit (S T : Tables) (p : Prefix) (source : FibSource) (late : Li
   pub prefix : IsPrefix p
   pub real : (q : Prefix) → Contains (entries S) q → IsPrefix q
   pub far : (n : Neighbor) → Contains T.neighbors n → n.addr < 2 ^ 32
-  pub written : (source_rank source ≡ 2) ⊎ (source_rank source ≡ 3)
-  pub was : paths_at p source S.routes ≢ []
-  pub is : paths_at p source T.routes ≢ []
-  pub best : (x : Pair) → Contains (pairs S) x → p ≡ x.prefix → source_rank source ≤ source_rank x.source
-  pub loose : (p.len ≡ 32) ⊎ ((attached_of (paths_at p source S.routes) ≡ None) × (attached_of (paths_at p source T.routes) ≡ None))
-  pub needs : is_attached_list (paths_at p source S.routes) ≡ is_attached_list (paths_at p source T.routes)
+  pub there_before : p.len < 32 → (x : Pair) × Contains (base_pairs S) x × (x.prefix ≡ p)
+  pub there_after : p.len < 32 → (x : Pair) × Contains (base_pairs T) x × (x.prefix ≡ p)
+  pub derived : p.len ≡ 32 → is_derived S p ≡ is_derived T p
+  pub loose : (p.len ≡ 32) ⊎ (attached_of (chosen S p) ≡ attached_of (chosen T p))
+  pub needs : p.len ≡ 32 → is_attached_list (chosen S p) ≡ is_attached_list (chosen T p)
   pub hops : (r : Route) (a : ℕ) → is_route p source r ≡ true → Contains S.routes r ⊎ Contains T.routes r → Contains (recursive_hops r) a
       → Contains late a ⊎ (((d : Prefix) × (d ≢ p) × Contains (targets S d) (host a)) ⊎ (Contains (all_hops S) a × Contains (all_hops T) a))
   pub late_out : (a : ℕ) → Contains late a → (a < 2 ^ 32) × (contains p a ≡ false)
   pub late_alone : (a : ℕ) → Contains late a → (r : Route) → is_route p source r ≡ false → Contains S.routes r → Contains (recursive_hops r) a → ⊥
   pub late_derived : (a : ℕ) → Contains late a → (x : Pair) → Contains (pairs S) x → x.prefix ≡ host a → x.source ≡ sources.RecursiveResolution
   pub late_loose : (a : ℕ) → Contains late a → attached_by S a ≡ None
+
+-- the list of the prefix's best source alone is another
+pub record IsBestEdit (S T : Tables) (p : Prefix) (source : FibSource) : Type 0 where
+  pub before : IsSound S
+  pub after : IsSound T
+  pub differ : Differ (changes.Route p source ∷ []) S T
+  pub written : (source_rank source ≡ 2) ⊎ (source_rank source ≡ 3)
+  pub was : paths_at p source S.routes ≢ []
+  pub is : paths_at p source T.routes ≢ []
+  pub best : (x : Pair) → Contains (pairs S) x → p ≡ x.prefix → source_rank source ≤ source_rank x.source
 
 -- the hosts of these next hops come, and the hosts of those go
 pub record IsTurn (S T : Tables) (come go : List ℕ) : Type 0 where
@@ -109,7 +118,7 @@ pub record IsReaching (rows : List Row) (lists : List PathKept) (order : List Pr
   pub written : (source_rank source ≡ 2) ⊎ (source_rank source ≡ 3)
   pub far : list_all (λ n. nat_lt n.addr (2 ^ 32)) T.neighbors ≡ true
   pub loose : (p.len ≡ 32) ⊎ ((attached_of old ≡ None) × (attached_of (paths_at p source T.routes) ≡ None))
-  pub needs : is_attached_list old ≡ is_attached_list (paths_at p source T.routes)
+  pub needs : p.len ≡ 32 → is_attached_list old ≡ is_attached_list (paths_at p source T.routes)
   pub some : paths_at p source T.routes ≢ []
   pub plain_before : list_all is_plain old ≡ true
   pub beside_before : list_all (path_beside p) old ≡ true

@@ -1,6 +1,6 @@
 -- A leaf that goes with its one route, where a next hop of it that no other route has is a gateway: its host has other pairs too, and loses the
 -- one that the next hop makes. No contract of a public call rests on this.
-use Rattle.std.specs.Prelude.{◌≡◌, ◌≢◌, ◌⊎◌, ◌<◌, ◌^◌, ◌++◌, ℕ, true, false, List, [], ◌∷◌, filter_map, map, Contains, Some, slice_get, slice_set}
+use Rattle.std.specs.Prelude.{◌≡◌, ◌≢◌, ◌⊎◌, ◌<◌, ◌^◌, ◌++◌, ℕ, true, List, [], ◌∷◌, filter_map, map, Contains, Some, slice_get, slice_set}
 use Rattle.std.specs.List.{list_all}
 use Rattle.fib_addr.specs.Prefixes.{Prefix, IsPrefix, host}
 use Rattle.fib_interned.specs.Interned.{AreInterned, Gives}

@@ -1,0 +1,21 @@
+use Rattle.std.proofs.Common.{◌≡◌, List, Option, sym, ◌∙◌, subst}
+use Rattle.std.specs.Prelude.{IfSome}
+use Rattle.fib_interned.proofs.Finding.{none_some}
+use Rattle.fib_resolve.specs.declared.types.Path.{Path}
+use Rattle.fib_entries.specs.inner.Course.{IsCourse}
+use Rattle.fib_entries.specs.inner.Led.{IsReaching}
+use Rattle.fib_entries.specs.declared.reaching.Course.{Course}
+use Rattle.fib_entries.specs.declared.reaching.Spot.{Spot}
+use Rattle.fib_entries.proofs.Overtaking.{planned_by}
+use Rattle.fib_entries.proofs.above.plan.Goals as goal
+
+pub course-requires-clause-cover : goal.course-requires-clause-cover
+course-requires-clause-cover c = λ g is. absurd (none_some g (sym (c.is_turned.ensures c.if-is_turned.false).0 ∙ is))
+
+pub returns : goal.returns
+returns c =
+    let m = subst (λ (o : Option Spot). IfSome o (λ x. (old : List Path) × IsReaching c.args.rows.now c.args.lists.now c.args.order.now c.args.to.now.tables.now c.args.to.now.prefix c.args.to.now.source x.place x.id old x.turned.late x.turned.gone)) c.in-Some.is c.in_ok-found.ensures in
+    let none = c.is_turned.ensures c.if-is_turned.false in
+    planned_by c.args.rows.now c.args.lists.now c.args.order.now c.args.to.now.tables.now c.args.to.now.prefix c.args.to.now.source c.args.to.now.new.now c.args.to.now.rank c.in-Some-2.course c.in-Some.spot.place c.in-Some.spot.id m.0 c.content-old.result.now
+    c.in-Some.spot.turned.late c.in-Some.spot.turned.gone none.0 none.1 m.1 c.content-old.ensures
+    (subst (λ (o : Option Course). IfSome o (λ k. IsCourse c.args.rows.now c.args.to.now.tables.now c.args.to.now.prefix c.args.to.now.source c.content-old.result.now c.args.to.now.new.now c.args.to.now.rank c.in-Some.spot.turned.late c.in-Some.spot.turned.gone k)) c.in-Some-2.is c.in_ok-course.ensures)
