@@ -34,4 +34,5 @@ longer_covers U p q a small there longer inside is =
 -- the same address is apart among other members that have these
 pub apart_among : (old new : List Prefix) (p : Prefix) (a : ℕ) → ((q : Prefix) → Contains old q → Contains new q) → IsApart old p a → IsApart new p a
 apart_among old new p a more (inl out) = inl out
-apart_among old new p a more (inr (q, n, inside)) = inr (q, record { member = more q n.member; longer = n.longer; short = n.short }, inside)
+apart_among old new p a more (inr (inl long)) = inr (inl long)
+apart_among old new p a more (inr (inr (q, n, inside))) = inr (inr (q, record { member = more q n.member; longer = n.longer; short = n.short }, inside))

@@ -71,9 +71,9 @@ module _ (old new : List Row) (lists later : List PathKept) (place : ℕ) (p : P
   ]
 
   -- an index that has the others' kinds and that of the list has that of all
-  pub indexed_came : (y : Index) (T : Tables) → own.marked ≡ map (plain_mark T) after → p.len < 32 → (leave after ≡ true → Contains y.exits p) → IsIndexed old y → IsIndexed new y
-  indexed_came y T marked short has h = indexed_each new y (λ s c. elim (row_from s c) [
-    | inl is ↦ in_own y T p after (own.source, r.new_id) s has short (ap (λ z. z.prefix) (sym is) ∙ mid_own.2.0.prefix) (ap (λ z. z.pairs) (sym is)) (ap (λ z. z.marked) (sym is) ∙ (mid_own.2.0.marked ∙ marked))
+  pub indexed_came : (y : Index) (T : Tables) → own.marked ≡ map (plain_mark T) after → (p.len ≡ 32 → Contains y.hosts p) → (leave after ≡ true → Contains y.exits p) → IsIndexed old y → IsIndexed new y
+  indexed_came y T marked hosted has h = indexed_each new y (λ s c. elim (row_from s c) [
+    | inl is ↦ in_own y T p after (own.source, r.new_id) s has hosted (ap (λ z. z.prefix) (sym is) ∙ mid_own.2.0.prefix) (ap (λ z. z.pairs) (sym is)) (ap (λ z. z.marked) (sym is) ∙ (mid_own.2.0.marked ∙ marked))
     | inr (off, q, was, but) ↦ in_alike y q s (in_index old y h q was) but.0.prefix but.0.pairs (exit_alike q s but.0.marked)
   ])
 

@@ -15,6 +15,7 @@ use Rattle.fib_resolve.specs.Pairs.{entries, chosen, recursive_of, recursive_hop
 use Rattle.fib_resolve.specs.Tables.{IsSound, is_route}
 use Rattle.fib_resolve.specs.declared.types.FibSource.{FibSource}
 use Rattle.fib_resolve.specs.declared.types.Path.{Path}
+use Rattle.fib_resolve.specs.declared.types.PathKind.TheVariants as kinds
 use Rattle.fib_resolve.specs.declared.types.Route.{Route}
 use Rattle.fib_resolve.specs.declared.types.Tables.{Tables}
 use Rattle.fib_resolve.proofs.OneList.{one_list}
@@ -29,12 +30,12 @@ use Rattle.fib_entries.specs.inner.Clear.{IsApart}
 use Rattle.fib_entries.specs.inner.Coming.{IsBelonging, blank_row, with_pairs}
 use Rattle.fib_entries.specs.inner.Leaf.{IsLeafEdit, IsButFor, goals_of, is_plain, plain_kind, plain_mark, plain_own}
 use Rattle.fib_entries.specs.Rows.{Row}
-use Rattle.fib_entries.proofs.LeafSizes.{each_plain}
-use Rattle.fib_entries.proofs.Leafing.{from_route, entry_of_pair, unlooped, leaf_after}
-use Rattle.fib_entries.proofs.Listing.{listed_route, source_of_route, own_list, own_there, own_after, chosen_after, pair_of}
+use Rattle.fib_entries.proofs.LeafSizes.{each_plain, plain_targets}
+use Rattle.fib_entries.proofs.Leafing.{from_route, entry_of_pair, leaf_after}
+use Rattle.fib_entries.proofs.Listing.{listed_route, source_of_route, own_list, own_there, own_after, chosen_after, unlooped_path, pair_of}
 use Rattle.fib_entries.proofs.Placing.{gap_absent}
 use Rattle.fib_entries.proofs.Ready.{clear_alone, clear_far}
-use Rattle.fib_entries.proofs.Replacing.{met_is, loop_is, mark_is, maps_same, goal_long}
+use Rattle.fib_entries.proofs.Replacing.{met_is, loop_is, mark_is, maps_same}
 
 module _ (v : Known) (S T : Tables) (p : Prefix) (source : FibSource) (place : ℕ) (k : StandsFor v S) (m : IsBelonging v.rows T p source place) (after : IsSound T) where
   -- the prefix is no entry
@@ -63,13 +64,12 @@ module _ (v : Known) (S T : Tables) (p : Prefix) (source : FibSource) (place : �
   -- its edit, where late are next hops that no route has yet
   pub belonging_edit : (late : List ℕ) → Differ (changes.Route p source ∷ []) S T
       → ((a : ℕ) → Contains (filter_map recursive_of (paths_at p source T.routes)) a → Contains late a ⊎ ((d : Prefix) × (d ≢ p) × Contains (targets S d) (host a)))
-      → ((a : ℕ) → Contains late a → (a < 2 ^ 32) × IsApart (entries S) p a × (Contains (all_hops S) a → ⊥)) → IsLeafEdit S T p source late
-  belonging_edit late differ hops out = record {
+      → ((a : ℕ) → Contains late a → (a < 2 ^ 32) × IsApart (entries S) p a × (Contains (all_hops S) a → ⊥)) → ((a : ℕ) → Contains late a → p ≢ host a) → IsLeafEdit S T p source late
+  belonging_edit late differ hops out other = record {
     before = k.sound;
     after = after;
     differ = differ;
     prefix = m.prefix;
-    short = m.short;
     real = λ q c. (let r = real_entry q c in subst IsPrefix r.2 (k.rows r.0 r.1).prefix);
     alone = clear_alone v S p T.neighbors k m.clear;
     far = clear_far v S p T.neighbors k m.clear;
@@ -82,18 +82,19 @@ module _ (v : Known) (S T : Tables) (p : Prefix) (source : FibSource) (place : �
     ];
     late_out = λ a c. (let o = out a c in (o.0, o.1));
     late_alone = λ a c r off there hop. (out a c).2 (Contains-flat_map recursive_hops S.routes r a there hop);
+    late_other = other;
   }
 
 -- the row of the prefix, whose marks are those of plain paths
 module _ (S T : Tables) (p : Prefix) (source : FibSource) (late : List ℕ) (h : IsLeafEdit S T p source late) (lists : List PathKept) (id rank : ℕ) (mid : Row) (but : IsButFor p (blank_row p (plain_own T source (paths_at p source T.routes) rank)) mid)
     (leads : Contains mid.dependants p ↔ Contains {X = Prefix} [] p ⊎ Contains (goals_of (paths_at p source T.routes)) p) (content : content_of lists id ≡ Some (paths_at p source T.routes))
-    (plain : list_all is_plain (paths_at p source T.routes) ≡ true) (some : paths_at p source T.routes ≢ []) where
+    (plain : list_all is_plain (paths_at p source T.routes) ≡ true) (glean : (q : Path) → Contains (paths_at p source T.routes) q → (i : ℕ) → q.kind ≡ kinds.Attached i → p.len < 32) (some : paths_at p source T.routes ≢ []) where
   none_own : (d : Prefix) → Contains mid.dependants d → ⊥
   none_own d c = elim (either (same_prefix p d)) [
     | inr isnt ↦ (let off : p ≢ d = λ is. false≢true (sym isnt ∙ (same_prefix-Decides p d).1 is) in Contains-nil d ((but.others d off).0 c))
     | inl is ↦ elim (leads.0 (subst (Contains mid.dependants) (sym ((same_prefix-Decides p d).0 is)) c)) [
       | inl old ↦ Contains-nil p old
-      | inr goal ↦ (let long = goal_long (paths_at p source T.routes) p goal in let s = h.short in omega (arith, long, s))
+      | inr goal ↦ leaf_after S T p source late h p (subst (λ l. Contains l p) (sym (plain_targets T p (paths_at p source T.routes) (chosen_after S T p source late h) plain)) goal)
     ]
   ]
 
@@ -118,10 +119,10 @@ module _ (S T : Tables) (p : Prefix) (source : FibSource) (late : List ℕ) (h :
         (sym (ap (λ z. z.0) (only_pair q c)) ∙ source_is, ap (λ z. content_of lists z.1) (sym (only_pair q c)) ∙ (content ∙ ap Some paths_is)),
       );
     };
-    looped = but.looped ∙ (maps_same (λ q. false) (λ q. looped_kind T p q.kind) (paths_at p source T.routes) (λ q c. loop_is T p q.kind (λ a is. unlooped S T p source late h a)) ∙ own_map (λ e l. map (λ q. looped_kind T e q.kind) l));
+    looped = but.looped ∙ (maps_same (λ q. false) (λ q. looped_kind T p q.kind) (paths_at p source T.routes) (λ q c. loop_is T p q.kind (λ a is. unlooped_path S T p source late h q a c is)) ∙ own_map (λ e l. map (λ q. looped_kind T e q.kind) l));
     met = but.met ∙ (maps_same (λ q. true) (λ q. kind_met T q.need q.kind) (paths_at p source T.routes) (λ q c. met_is T q.need q.kind (and_both (plain_kind q.kind) (need_rank q.need == 0) (each_plain (paths_at p source T.routes) q plain c)).1)
         ∙ own_map (λ e l. map (λ q. kind_met T q.need q.kind) l));
-    marked = but.marked ∙ (maps_same (plain_mark T) (marked T p) (paths_at p source T.routes) (λ q c. mark_is T p q (λ i is. h.short) (each_plain (paths_at p source T.routes) q plain c) (λ a is. unlooped S T p source late h a)) ∙ own_map (λ e l. map (marked T e) l));
+    marked = but.marked ∙ (maps_same (plain_mark T) (marked T p) (paths_at p source T.routes) (λ q c. mark_is T p q (glean q c) (each_plain (paths_at p source T.routes) q plain c) (λ a is. unlooped_path S T p source late h q a c is)) ∙ own_map (λ e l. map (marked T e) l));
     dependants = λ d. (λ c. absurd (none_own d c), λ c. absurd (leaf_after S T p source late h d (subst (Contains (targets T d)) but.prefix c)));
     dependants_once = but.once tt;
   }

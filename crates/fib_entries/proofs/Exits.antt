@@ -71,15 +71,16 @@ own_leaves T paths s marked = ap (list_any is_exit) marked ∙ plain_leave T pat
 one_pair : (q : FibSource × ℕ) (s : Row) → s.pairs ≡ q ∷ [] → has_several s ≡ false
 one_pair q s pairs = ap are_several pairs
 
-pub in_own : (x : Index) (T : Tables) (p : Prefix) (paths : List Path) (q : FibSource × ℕ) (s : Row) → (leave paths ≡ true → Contains x.exits p) → p.len < 32 → s.prefix ≡ p → s.pairs ≡ q ∷ [] → s.marked ≡ map (plain_mark T) paths → IsIn x s
-in_own x T p paths q s has short own pairs marked = record {
+-- a prefix shorter than a host is none of the hosts
+pub none_hosted : (x : Index) (p : Prefix) → p.len < 32 → p.len ≡ 32 → Contains x.hosts p
+none_hosted x p short long = absurd (omega (arith, short, long))
+
+pub in_own : (x : Index) (T : Tables) (p : Prefix) (paths : List Path) (q : FibSource × ℕ) (s : Row) → (leave paths ≡ true → Contains x.exits p) → (p.len ≡ 32 → Contains x.hosts p) → s.prefix ≡ p → s.pairs ≡ q ∷ [] → s.marked ≡ map (plain_mark T) paths → IsIn x s
+in_own x T p paths q s has hosted own pairs marked = record {
   exits = λ e. subst (Contains x.exits) (sym own) (has (sym (own_leaves T paths s marked) ∙ e));
-  hosts = λ e. absurd (too_long (ap (λ (z : Prefix). z.len) own) ((Decides-eqb s.prefix.len 32).0 e));
+  hosts = λ e. subst (Contains x.hosts) (sym own) (hosted (ap (λ (z : Prefix). z.len) (sym own) ∙ (Decides-eqb s.prefix.len 32).0 e));
   several = λ e. absurd (false≢true (sym (one_pair q s pairs) ∙ e));
 }
-  where
-    too_long : s.prefix.len ≡ p.len → s.prefix.len ≡ 32 → ⊥
-    too_long same is = omega (arith, same, is, short)
 
 -- that of a host which leads to its cover, with or without its list
 pub in_host : (x : Index) (s : Row) → Contains x.hosts s.prefix → has_exit s ≡ false → has_several s ≡ false → IsIn x s

@@ -24,7 +24,7 @@ use Rattle.fib_entries.specs.Changes.{AreTouched, AreMoved}
 use Rattle.fib_entries.specs.inner.Leaf.{IsReady, IsReplaced, AreReplaced, IsChanged, IsFollowed, goals_of, own_row, plain_own, moved_at}
 use Rattle.fib_entries.specs.Rows.{Row}
 use Rattle.fib_entries.specs.declared.changes.Followed.{Followed}
-use Rattle.fib_entries.proofs.Exits.{exit_alike, in_alike, in_index, in_more, in_own, indexed_each, indexed_less, own_leaves}
+use Rattle.fib_entries.proofs.Exits.{exit_alike, in_alike, in_index, in_more, in_own, indexed_each, indexed_less, none_hosted, own_leaves}
 use Rattle.fib_entries.proofs.LeafRows.{IsLeafMade, stands_leaf, touched_leaf, moved_leaf, still_leaf}
 use Rattle.fib_entries.proofs.PartRows.{row_by}
 use Rattle.fib_entries.proofs.HopEnds.{ends_shared}
@@ -109,7 +109,7 @@ fields_after rows new lists later order x y z T p source place id old paths rank
       same = h.same ∙ sym names;
       indexed = indexed_less new y z p paths None forgotten (λ s k e. elim (from s k) [ inl own ↦ inr (sym (own_leaves T paths s own.2) ∙ e) | inr other ↦ inl (λ is. other.0 (sym is)) ]) (λ s k e. none_some s.prefix e)
           (indexed_each new y (λ s k. elim (from s k) [
-            | inl own ↦ in_own y T p paths (source, c.replaced.new_id) s noted.own m.short own.0 own.1 own.2
+            | inl own ↦ in_own y T p paths (source, c.replaced.new_id) s noted.own (none_hosted y p m.short) own.0 own.1 own.2
             | inr (off, q, was, name, pairs, marked) ↦ in_alike y q s (in_more x y p paths None q noted (in_index rows x h.indexed q was)) name pairs (exit_alike q s marked)
           ]));
     }

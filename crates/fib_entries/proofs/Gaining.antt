@@ -47,15 +47,14 @@ use Rattle.fib_entries.proofs.GatePairs.{better_pairs, gained_list}
 use Rattle.fib_entries.proofs.Ready.{rows_apart}
 use Rattle.fib_entries.proofs.Gateways.{IsGained, derived_source, derived_paths, gained_pairs, gained_there, gained_new, gained_chosen, gateway_holders, gateway_kept, gateway_looped, gateway_marked, gateway_met, gateway_targets, gateway_touched, pair_counted, pair_uncounted}
 use Rattle.fib_entries.proofs.Growing.{IsGrown, size_more}
-use Rattle.fib_entries.proofs.HopEnds.{ends_but}
+use Rattle.fib_entries.proofs.HopEnds.{ends_others_but, glean_short}
 use Rattle.fib_entries.proofs.LeafRows.{entry_own}
-use Rattle.fib_entries.proofs.Leafing.{base_beside, chosen_same, entry_of_pair, host_other, is_not, late_attached, late_hop, late_led, late_led_before, near_beside, not_it, only_one, pair_at, part_cases, part_edit, part_host, part_not}
+use Rattle.fib_entries.proofs.Leafing.{base_beside, chosen_same, entry_of_pair, is_not, late_attached, late_hop, late_led, late_led_before, leaf_after, near_beside, not_it, only_one, pair_at, part_cases, part_edit, part_host, part_not}
 use Rattle.fib_entries.proofs.LeafSizes.{ends_by, plain_targets}
 use Rattle.fib_entries.proofs.Listing.{chosen_before, chosen_after, counted_none, counted_own, own_after, own_before, own_touched}
 use Rattle.fib_entries.proofs.PartRows.{no_row, entry_beside, stands_part, touched_inside, moved_inside}
 use Rattle.fib_entries.proofs.Placing.{gap_absent, size_came}
 use Rattle.fib_entries.proofs.Putting.{paired_from, paired_names, paired_ordered, paired_ranks, put_rank, put_ranks, put_ordered}
-use Rattle.fib_entries.proofs.Replacing.{goal_long}
 use Rattle.fib_entries.proofs.Settling.{counted_by}
 use Rattle.fib_entries.proofs.Sharing.{led_but}
 use Rattle.fib_entries.proofs.Standing.{first_chosen}
@@ -78,9 +77,13 @@ module _ (v : Known) (S T : Tables) (p : Prefix) (source : FibSource) (place : �
   pub host_there : Contains (entries S) (host g.addr)
   host_there = (k.entries (host g.addr)).0 (subst (Contains (map prefix_of v.rows)) m.gateway.own (map_in prefix_of v.rows m.gateway.row m.gateway.there))
 
+  -- the gateway has a row
+  pub gateway_other : p ≢ host g.addr
+  gateway_other is = no_entry v S T p source place k m.belongs after (subst (Contains (entries S)) (sym is) host_there)
+
   pub gaining_edit : IsLeafEdit S T p source (g.addr ∷ [])
   gaining_edit = belonging_edit v S T p source place k m.belongs after (g.addr ∷ []) differ (λ a c. led_but v S p k (paths_at p source T.routes) g.addr a m.shared c)
-      (λ a c. subst (λ z. (z < 2 ^ 32) × IsApart (entries S) p z × (Contains (all_hops S) z → ⊥)) (only_one g.addr a c) (m.gateway.small, rows_apart v S p g.addr k m.gateway.away, no_hop))
+      (λ a c. subst (λ z. (z < 2 ^ 32) × IsApart (entries S) p z × (Contains (all_hops S) z → ⊥)) (only_one g.addr a c) (m.gateway.small, rows_apart v S p g.addr k m.gateway.away, no_hop)) (λ a c is. gateway_other (is ∙ ap host (sym (only_one g.addr a c))))
 
   hop_now : Contains (all_hops T) g.addr
   hop_now = (late_hop S T p source (g.addr ∷ []) gaining_edit g.addr (in_front g.addr g.addr [] refl)).1 (list_hop T p source g.addr m.hop)
@@ -90,7 +93,7 @@ module _ (v : Known) (S T : Tables) (p : Prefix) (source : FibSource) (place : �
 
   pub gained : IsGained S T g.addr
   gained = record {
-    same = gained_pairs S T g.addr (λ x own. base_beside S T p source differ x (not_it p x.prefix (λ is. host_other S T p source (g.addr ∷ []) gaining_edit g.addr (is ∙ sym own)))) (near_beside S T p source differ) attached no_hop hop_now;
+    same = gained_pairs S T g.addr (λ x own. base_beside S T p source differ x (not_it p x.prefix (λ is. gateway_other (is ∙ sym own)))) (near_beside S T p source differ) attached no_hop hop_now;
     better = all_better;
     some = (let x = pair_at S (host g.addr) host_there in (x.0, x.1, sym x.2));
   }
@@ -116,7 +119,7 @@ module _ (v w : Known) (S T : Tables) (p : Prefix) (source : FibSource) (place t
   late_in = in_front g.addr g.addr [] refl
 
   not_host : p ≢ host g.addr
-  not_host = host_other S T p source (g.addr ∷ []) h g.addr
+  not_host = h.late_other g.addr late_in
 
   has : IsGained S T g.addr
   has = gained v S T p source place g k m differ after
@@ -245,7 +248,7 @@ module _ (v w : Known) (S T : Tables) (p : Prefix) (source : FibSource) (place t
   own_row s there at = elim (from s there) [
     | inl host_is ↦ absurd (not_host (at ∙ (sym (ap (λ z. z.prefix) host_is) ∙ c.joined.own)))
     | inr (away, low) ↦ elim (low_from s low) [
-      | inl own_is ↦ subst (IsRow w.lists T) own_is (came_is_row S T p source (g.addr ∷ []) h w.lists c.placed.new_id (top + 1) mid.0 mid.2.0 mid.2.1 own_content m.plain m.belongs.some)
+      | inl own_is ↦ subst (IsRow w.lists T) own_is (came_is_row S T p source (g.addr ∷ []) h w.lists c.placed.new_id (top + 1) mid.0 mid.2.0 mid.2.1 own_content m.plain (glean_short p m.belongs.prefix (paths_at p source T.routes) m.beside) m.belongs.some)
       | inr other ↦ absurd (other.0 at)
     ]
   ]
@@ -304,7 +307,7 @@ module _ (v w : Known) (S T : Tables) (p : Prefix) (source : FibSource) (place t
   falls e t is i = elim (inside e is) [
     | inl at ↦ subst (λ z. rank_of w.rows t < rank_of w.rows z) at
         (let goal : Contains (goals_of (paths_at p source T.routes)) t = subst (λ l. Contains l t) goals (subst (λ z. Contains (targets T z) t) (sym at) i) in
-        let a = rank_same t (λ own. (let long = goal_long (paths_at p source T.routes) t goal in let e = ap (λ z. z.len) own in let s = m.belongs.short in omega (arith, long, e, s))) in
+        let a = rank_same t (λ own. leaf_after S T p source (g.addr ∷ []) h e (subst (Contains (targets T e)) (sym own) i)) in
         let b = above t goal in let d = rank_own in omega (arith, a, b, d))
     | inr at ↦ subst (λ z. rank_of w.rows t < rank_of w.rows z) at
         (let goal : Contains (targets S (host g.addr)) t = (gateway_targets S T p source g.addr h same t).1 (subst (λ z. Contains (targets T z) t) (sym at) i) in
@@ -335,8 +338,7 @@ module _ (v w : Known) (S T : Tables) (p : Prefix) (source : FibSource) (place t
     lacks = no_entry v S T p source place k m.belongs after;
     has = own_there;
     lists = lists_same;
-    shared = λ z i. (let s = ends_but v S k p m.belongs.short g.addr (paths_at p source T.routes) m.shared z (ends_by T p (paths_at p source T.routes) (chosen_after S T p source (g.addr ∷ []) h) z i) in
-        (host z.next_hop, not_it p (host z.next_hop) (host_other S T p source (g.addr ∷ []) h z.next_hop), s.0, s.1));
+    shared = λ z i. ends_others_but v S k p g.addr (paths_at p source T.routes) m.shared m.beside z (ends_by T p (paths_at p source T.routes) (chosen_after S T p source (g.addr ∷ []) h) z i);
   }
 
   size_law : size T ≡ size S + own_size p (entry_before v.rows place) (entry_at v.rows place)

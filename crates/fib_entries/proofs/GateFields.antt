@@ -1,5 +1,5 @@
 -- The fields of entries fit together after a prefix came or went by way of a gateway.
-use Rattle.std.proofs.Common.{◌≡◌, ◌≢◌, ℕ, ◌+◌, ◌<◌, List, [], ◌∷◌, ◌++◌, map, None, ◌⊎◌, inl, inr, refl, sym, ◌∙◌, ap, subst, ◌↔◌}
+use Rattle.std.proofs.Common.{◌≡◌, ◌≢◌, ℕ, ◌+◌, List, [], ◌∷◌, ◌++◌, map, Option, Some, ◌⊎◌, inl, inr, refl, sym, ◌∙◌, ap, subst, ◌↔◌}
 use Rattle.std.specs.Prelude.{Contains, option_map}
 use Rattle.std.proofs.lemmas.List.Elements.{Contains-append_cases}
 use Rattle.fib_addr.specs.Prefixes.{Prefix, host}
@@ -10,7 +10,7 @@ use Rattle.fib_resolve.specs.declared.types.Path.{Path}
 use Rattle.fib_resolve.specs.declared.types.Tables.{Tables}
 use Rattle.fib_changes.proofs.Edits.{in_front, in_rest}
 use Rattle.fib_changes.proofs.SamePairs.{map_in}
-use Rattle.fib_interned.proofs.Finding.{contains_at, none_some}
+use Rattle.fib_interned.proofs.Finding.{contains_at}
 use Rattle.fib_entries.specs.Known.{PathKept, content_of, prefix_of}
 use Rattle.fib_entries.specs.inner.Ends.{has_exit}
 use Rattle.fib_entries.specs.inner.Fields.{AreFields, AreNamed, Index, IsForgotten, IsIndexed, IsNoted, count_in}
@@ -88,25 +88,27 @@ several_more rows x y p n h = record {
 
 -- all of it
 pub fields_gained : (rows new : List Row) (lists later : List PathKept) (order set : List Prefix) (x y z : Index) (T : Tables) (p : Prefix) (source : FibSource) (place : ℕ) (paths : List Path) (rank : ℕ) (g : Gateway) (list : List Path) (f : Followed) → AreFields rows lists order x
-    → IsGap (map prefix_of rows) place p → p.len < 32 → HasGained T rows new lists later place g list p source paths rank f → IsNoted x y p paths None → IsSeveral y z (host g.addr) → IsAscending set
+    → IsGap (map prefix_of rows) place p → HasGained T rows new lists later place g list p source paths rank f → (own : Option Prefix) → (p.len ≡ 32 → own ≡ Some p) → IsNoted x y p paths own → IsSeveral y z (host g.addr) → IsAscending set
     → ((e : Prefix) → Contains set e ↔ Contains order e ⊎ (e ≡ p)) → AreFields new later set z
-fields_gained rows new lists later order set x y z T p source place paths rank g list f h gap short c noted several asc members =
-    let indexed = indexed_came rows c.low lists c.between place p paths (plain_own T source paths rank) c.placed h.ordered gap z T refl short (λ e. subst (λ l. Contains l p) (sym several.exits) (noted.own e))
-    (several_more rows y z (host g.addr) several (indexed_more rows x y p paths None noted h.indexed)) in
+fields_gained rows new lists later order set x y z T p source place paths rank g list f h gap c own its_own noted several asc members =
+    let indexed = indexed_came rows c.low lists c.between place p paths (plain_own T source paths rank) c.placed h.ordered gap z T refl (λ long. subst (λ l. Contains l p) (sym several.hosts) (noted.late p (its_own long)))
+    (λ e. subst (λ l. Contains l p) (sym several.exits) (noted.own e)) (several_more rows y z (host g.addr) several (indexed_more rows x y p paths own noted h.indexed)) in
     let low = fields_came rows c.low lists c.between place p paths (plain_own T source paths rank) c.placed h.ordered gap h.named set z asc (λ e. subst (λ l. Contains set e ↔ Contains l e ⊎ (e ≡ p)) h.same (members e)) indexed in
     fields_joined c.low new c.between later g list c.joined low.ordered set z several.own low
 
 -- where more was noted alone
-pub fields_several : (rows new : List Row) (lists later : List PathKept) (order set : List Prefix) (x y z : Index) (p : Prefix) (paths : List Path) (e : Prefix) → AreFields rows lists order x → IsNoted x y p paths None → IsSeveral y z e → new ≡ rows → later ≡ lists → set ≡ order → AreFields new later set z
-fields_several rows new lists later order set x y z p paths e h noted several rows_are lists_are set_is =
-    fields_with rows new lists later order set x z h rows_are lists_are set_is (several_more rows y z e several (indexed_more rows x y p paths None noted h.indexed))
+pub fields_several : (rows new : List Row) (lists later : List PathKept) (order set : List Prefix) (x y z : Index) (p : Prefix) (paths : List Path) (e : Prefix) (own : Option Prefix) → AreFields rows lists order x → IsNoted x y p paths own → IsSeveral y z e → new ≡ rows → later ≡ lists → set ≡ order → AreFields new later set z
+fields_several rows new lists later order set x y z p paths e own h noted several rows_are lists_are set_is =
+    fields_with rows new lists later order set x z h rows_are lists_are set_is (several_more rows y z e several (indexed_more rows x y p paths own noted h.indexed))
 
 -- also where the row didn't come, and the prefix went again
-pub fields_ungained : (rows new : List Row) (lists later : List PathKept) (order mid set : List Prefix) (x y z u : Index) (p : Prefix) (place : ℕ) (paths : List Path) (e : Prefix) → AreFields rows lists order x → IsGap (map prefix_of rows) place p
-    → IsNoted x y p paths None → IsSeveral y z e → IsForgotten z u p [] None → new ≡ rows → later ≡ lists → IsAscending set → ((e : Prefix) → Contains mid e ↔ Contains order e ⊎ (e ≡ p)) → ((e : Prefix) → Contains set e ↔ Contains mid e × (e ≢ p)) → AreFields new later set u
-fields_ungained rows new lists later order mid set x y z u p place paths e h gap noted several forgotten rows_are lists_are asc came went =
+pub fields_ungained : (rows new : List Row) (lists later : List PathKept) (order mid set : List Prefix) (x y z u : Index) (p : Prefix) (place : ℕ) (paths : List Path) (e : Prefix) (own late : Option Prefix) → AreFields rows lists order x → IsGap (map prefix_of rows) place p
+    → ((d : Prefix) → late ≡ Some d → d ≡ p) → IsNoted x y p paths own → IsSeveral y z e → IsForgotten z u p [] late → new ≡ rows → later ≡ lists → IsAscending set → ((e : Prefix) → Contains mid e ↔ Contains order e ⊎ (e ≡ p)) → ((e : Prefix) → Contains set e ↔ Contains mid e × (e ≢ p)) → AreFields new later set u
+fields_ungained rows new lists later order mid set x y z u p place paths e own late h gap its_own noted several forgotten rows_are lists_are asc came went =
     let none : Contains order p → ⊥ = λ c. gap_absent (map prefix_of rows) place p gap (subst (λ l. Contains l p) h.same c) in
     let same : set ≡ order = set_back order mid set p (subst IsAscending (sym h.same) h.ordered) asc none came went in
     fields_with rows new lists later order set x u h rows_are lists_are same
-    (indexed_less rows z u p [] None forgotten (λ s c e. inl (λ is. gap_absent (map prefix_of rows) place p gap (subst (Contains (map prefix_of rows)) is (map_in prefix_of rows s c)))) (λ s c e. none_some s.prefix e)
-    (several_more rows y z e several (indexed_more rows x y p paths None noted h.indexed)))
+    (indexed_less rows z u p [] late forgotten (λ s c e. inl (absent s c)) (λ s c e. absent s c (its_own s.prefix e)) (several_more rows y z e several (indexed_more rows x y p paths own noted h.indexed)))
+  where
+    absent : (s : Row) → Contains rows s → s.prefix ≢ p
+    absent s c is = gap_absent (map prefix_of rows) place p gap (subst (Contains (map prefix_of rows)) is (map_in prefix_of rows s c))

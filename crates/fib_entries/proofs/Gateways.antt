@@ -14,7 +14,7 @@ use Rattle.fib_resolve.specs.Aims.{kind_aim, kind_counts, marked, marked_list}
 use Rattle.fib_resolve.specs.Forwarding.{is_met, is_up}
 use Rattle.fib_resolve.specs.Keys.{same_path, source_rank}
 use Rattle.fib_resolve.specs.Loops.{targets, kind_targets, looped, looped_kind, is_kept}
-use Rattle.fib_resolve.specs.Pairs.{base_pairs, pairs, chosen, best_pair, paths_of, is_interface, attached_by, neighbor_pairs, derived_pair, derived_kind, one, same_pair}
+use Rattle.fib_resolve.specs.Pairs.{base_pairs, pairs, chosen, best_pair, paths_of, is_interface, attached_by, derived_pair, derived_kind, one, same_pair}
 use Rattle.fib_resolve.specs.Resolution.{hop_end}
 use Rattle.fib_resolve.specs.Tables.{IsSound}
 use Rattle.fib_resolve.specs.Touched.{is_touched}
@@ -25,7 +25,6 @@ use Rattle.fib_resolve.specs.declared.pairs.Pair.{Pair}
 use Rattle.fib_resolve.specs.declared.types.End.TheVariants as answers
 use Rattle.fib_resolve.specs.declared.types.FibSource.{FibSource}
 use Rattle.fib_resolve.specs.declared.types.FibSource.TheVariants as sources
-use Rattle.fib_resolve.specs.declared.types.Neighbor.{Neighbor}
 use Rattle.fib_resolve.specs.declared.types.Path.{Path}
 use Rattle.fib_resolve.specs.declared.types.PathKind.{PathKind}
 use Rattle.fib_resolve.specs.declared.types.PathKind.TheVariants as kinds
@@ -35,15 +34,15 @@ use Rattle.fib_resolve.proofs.Covering.{filter_in, filter_from, pairs_apart}
 use Rattle.fib_resolve.proofs.LoopTests.{looped-Decides}
 use Rattle.fib_resolve.proofs.OneList.{one_list, source_by_rank}
 use Rattle.fib_resolve.proofs.Touching.{best_of, BestOf, same_pair-Decides, untouched_pairs}
-use Rattle.fib_changes.specs.Sources.{all_hops, HasNeighbor, NeighborsCaught}
+use Rattle.fib_changes.specs.Sources.{all_hops, NeighborsCaught}
 use Rattle.fib_changes.proofs.Cycles.{last_edge, path_edge}
 use Rattle.fib_changes.proofs.Edits.{in_front}
-use Rattle.fib_changes.proofs.SamePairs.{Origin, origin, from_origin, base, neighbor, derived, flat_map_from, near_from, near_host, derived_host, same_met}
+use Rattle.fib_changes.proofs.SamePairs.{Origin, origin, from_origin, base, neighbor, derived, flat_map_from, derived_host, same_met}
 use Rattle.fib_entries.specs.Known.{holders, kind_met}
 use Rattle.fib_entries.specs.inner.Leaf.{IsLeafEdit}
 use Rattle.fib_entries.specs.inner.Part.{in_part}
 use Rattle.fib_entries.proofs.Counting.{count_parts, counts_same, holders_step}
-use Rattle.fib_entries.proofs.Leafing.{flags_beside, host_is, host_other, last_step, late_cover, late_led, late_led_before, leaf_after, macs_beside, only_one, part_cases, same_entry}
+use Rattle.fib_entries.proofs.Leafing.{flags_beside, host_is, last_step, late_cover, late_led, late_led_before, leaf_after, macs_beside, near_is, near_list, near_moved, only_one, part_cases, same_entry}
 use Rattle.fib_entries.proofs.Hosts.{base_given}
 use Rattle.fib_entries.proofs.Using.{once}
 
@@ -61,18 +60,6 @@ pub derived_paths : (U : Tables) (a : ℕ) → (derived_pair U a).paths ≡ (one
 unfolding derived_pair
 derived_paths U a = refl
 
--- the pairs of a neighbor, by how its cover attaches it
-near_list : Option ℕ → ℕ → ℕ → List Pair
-near_list o i a = if is_interface o i then one (host a) sources.Adjacency (kinds.Hop a i) ∷ [] else []
-
-near_is : (U : Tables) (n : Neighbor) → neighbor_pairs U n ≡ near_list (attached_by U n.addr) n.interface n.addr
-unfolding neighbor_pairs near_list
-near_is U n = refl
-
-near_kept : (U V : Tables) (n m : Neighbor) → m.interface ≡ n.interface → m.addr ≡ n.addr → attached_by U n.addr ≡ attached_by V n.addr → neighbor_pairs U n ≡ neighbor_pairs V m
-near_kept U V n m on at same =
-    near_is U n ∙ (ap (λ o. near_list o n.interface n.addr) same ∙ (ap (λ i. near_list (attached_by V n.addr) i n.addr) (sym on) ∙ (ap (λ a. near_list (attached_by V a) m.interface a) (sym at) ∙ sym (near_is V m))))
-
 near_source : (o : Option ℕ) (i a : ℕ) (x : Pair) → Contains (near_list o i a) x → source_rank x.source ≡ 4
 unfolding near_list
 near_source o i a x c = by (is_interface o i) c
@@ -84,24 +71,17 @@ near_source o i a x c = by (is_interface o i) c
 -- where the host's base pairs, its neighbors and its cover are the same, and it is a next hop in the second tables alone
 module _ (U V : Tables) (a : ℕ) (bases : (x : Pair) → host a ≡ x.prefix → Contains (base_pairs U) x ↔ Contains (base_pairs V) x) (near : NeighborsCaught U V (λ _. false)) (attached : attached_by U a ≡ attached_by V a)
     (none : Contains (all_hops U) a → ⊥) (there : Contains (all_hops V) a) where
-  near_moved : (X Y : Tables) → ((i : ℕ) → HasNeighbor X i a → HasNeighbor Y i a) → attached_by X a ≡ attached_by Y a → (x : Pair) → host a ≡ x.prefix → (n : Neighbor) → Contains X.neighbors n → Contains (neighbor_pairs X n) x → Contains (pairs Y) x
-  near_moved X Y has same x own n k c =
-      let f = near_from X n x c in
-      let at : n.addr ≡ a = host_is n.addr a (sym (near_host n.addr n.interface) ∙ ap (λ z. z.prefix) f.1 ∙ sym own) in
-      let m = has n.interface (n, k, refl, at) in
-      from_origin Y x (neighbor m.0 m.1 (subst (λ l. Contains l x) (near_kept X Y n m.0 m.2 (m.3 ∙ sym at) (ap (attached_by X) at ∙ same ∙ ap (attached_by Y) (sym at))) c))
-
   pub gained_pairs : (x : Pair) → host a ≡ x.prefix → Contains (pairs V) x ↔ Contains (pairs U) x ⊎ (derived_pair V a ≡ x)
   gained_pairs x own = (λ c. forth (origin V x c), λ d. elim d [ inl was ↦ back (origin U x was) | inr is ↦ from_origin V x (derived a there is) ])
     where
       forth : Origin V x → Contains (pairs U) x ⊎ (derived_pair V a ≡ x)
       forth (base k) = inl (from_origin U x (base ((bases x own).1 k)))
-      forth (neighbor n k m) = inl (near_moved V U (λ i. (near a i refl).1) (sym attached) x own n k m)
+      forth (neighbor n k m) = inl (near_moved V U a (λ i. (near a i refl).1) (sym attached) x own n k m)
       forth (derived b k e) = inr (ap (derived_pair V) (host_is a b (own ∙ (sym (ap (λ z. z.prefix) e) ∙ derived_host V b))) ∙ e)
 
       back : Origin U x → Contains (pairs V) x
       back (base k) = from_origin V x (base ((bases x own).0 k))
-      back (neighbor n k m) = near_moved U V (λ i. (near a i refl).0) attached x own n k m
+      back (neighbor n k m) = near_moved U V a (λ i. (near a i refl).0) attached x own n k m
       back (derived b k e) = absurd (none (subst (Contains (all_hops U)) (sym (host_is a b (own ∙ (sym (ap (λ z. z.prefix) e) ∙ derived_host U b)))) k))
 
   -- where it is none, no pair is of that source
@@ -161,7 +141,7 @@ pair_uncounted U x paths none =
     ))
 
 -- a host to which the prefix alone leads, to which nothing does, is on no cycle
-module _ (U : Tables) (p : Prefix) (a : ℕ) (short : (b : ℕ) → p ≢ host b) (leaf : (d : Prefix) → Contains (targets U d) p → ⊥) (led : (d : Prefix) → Contains (targets U d) (host a) → d ≡ p) where
+module _ (U : Tables) (p : Prefix) (a : ℕ) (off : p ≢ host a) (leaf : (d : Prefix) → Contains (targets U d) p → ⊥) (led : (d : Prefix) → Contains (targets U d) (host a) → d ≡ p) where
   pub apart_unlooped : (b : ℕ) → Contains (targets U (host a)) (host b) → looped U (host a) b ≡ false
   apart_unlooped b edge = elim (either (looped U (host a) b)) [
     | inr isnt ↦ isnt
@@ -169,11 +149,11 @@ module _ (U : Tables) (p : Prefix) (a : ℕ) (short : (b : ℕ) → p ≢ host b
   ]
     where
       back : (n : ℕ) → Walk (Next (targets U)) n (host b) p → ⊥
-      back zero w = short b (sym w)
+      back zero w = leaf (host a) (subst (Contains (targets U (host a))) w edge)
       back (suc n) w = (let z = last_edge (Next (targets U)) n (host b) p w in leaf z.0 z.1)
 
       by : (n : ℕ) → Walk (Next (targets U)) n (host b) (host a) → ⊥
-      by zero w = short a (sym (led (host a) (subst (Contains (targets U (host a))) w edge)))
+      by zero w = off (sym (led (host a) (subst (Contains (targets U (host a))) w edge)))
       by (suc n) w = (let z = last_step (Next (targets U)) n (host b) (host a) w in back n (subst (Walk (Next (targets U)) n (host b)) (led z.0 z.2) z.1))
 
 mark_with : Aim → Bool → Path → Marked
@@ -188,8 +168,8 @@ module _ (S T : Tables) (p : Prefix) (source : FibSource) (a : ℕ) (h : IsLeafE
   late_in : Contains (a ∷ []) a
   late_in = in_front a a [] refl
 
-  other : (b : ℕ) → p ≢ host b
-  other = host_other S T p source (a ∷ []) h
+  other : p ≢ host a
+  other = h.late_other a late_in
 
   led_before : (d : Prefix) → Contains (targets S d) (host a) → d ≡ p
   led_before d c = late_led_before S T p source (a ∷ []) h d a late_in c
@@ -211,8 +191,8 @@ module _ (S T : Tables) (p : Prefix) (source : FibSource) (a : ℕ) (h : IsLeafE
   hop_out q b c is = elim (either (in_part p (a ∷ []) (host b))) [
     | inr isnt ↦ isnt
     | inl inside ↦ elim (part_cases p (a ∷ []) (host b) inside) [
-      | inl at ↦ absurd (other b at)
-      | inr (d, m, at) ↦ absurd (other a (sym (led_before (host a) (subst (Contains (targets S (host a))) (sym at ∙ ap host (sym (only_one a d m))) (hop_edge S q b c is)))))
+      | inl at ↦ absurd (h.leaf (host a) (subst (Contains (targets S (host a))) (sym at) (hop_edge S q b c is)))
+      | inr (d, m, at) ↦ absurd (other (sym (led_before (host a) (subst (Contains (targets S (host a))) (sym at ∙ ap host (sym (only_one a d m))) (hop_edge S q b c is)))))
     ]
   ]
 
@@ -320,7 +300,7 @@ module _ (S T : Tables) (p : Prefix) (source : FibSource) (a : ℕ) (h : IsLeafE
       apart : (x : Pair) → same_prefix p x.prefix ≡ true → same_pair y x ≡ false
       apart x is = elim (either (same_pair y x)) [
         | inr isnt ↦ isnt
-        | inl that ↦ absurd (other a ((same_prefix-Decides p x.prefix).0 is ∙ (sym (ap (λ z. z.prefix) ((same_pair-Decides y x).0 that)) ∙ at)))
+        | inl that ↦ absurd (other ((same_prefix-Decides p x.prefix).0 is ∙ (sym (ap (λ z. z.prefix) ((same_pair-Decides y x).0 that)) ∙ at)))
       ]
 
   -- a pair that is in one alone touches the host

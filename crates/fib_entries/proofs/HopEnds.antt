@@ -1,12 +1,12 @@
 -- Hop ends of paths of a leaf that the lists of their neighbors' hosts have too.
-use Rattle.std.proofs.Common.{arith, ◌≡◌, ℕ, ◌<◌, Bool, true, false, not, ◌&&◌, ◌==◌, List, [], ◌∷◌, Option, Some, None, inl, inr, refl, sym, ◌∙◌, ap, subst, if◌then◌else◌}
+use Rattle.std.proofs.Common.{arith, ◌≡◌, ◌≢◌, ℕ, ◌<◌, Bool, true, false, not, ◌&&◌, ◌==◌, List, [], ◌∷◌, Option, Some, None, inl, inr, refl, sym, ◌∙◌, ap, subst, if◌then◌else◌}
 use Rattle.std.specs.Prelude.{Contains}
 use Rattle.std.specs.List.{list_all}
 use Rattle.std.proofs.lemmas.Bool.{false≢true}
 use Rattle.std.proofs.lemmas.Bool.Decides.{Decides-eqb}
 use Rattle.fib_list.proofs.Lists.{either, Contains-nil, Contains-flat_map}
 use Rattle.fib_list.proofs.Booleans.{and_both}
-use Rattle.fib_addr.specs.Prefixes.{Prefix, same_prefix, host}
+use Rattle.fib_addr.specs.Prefixes.{Prefix, IsPrefix, same_prefix, host}
 use Rattle.fib_resolve.specs.Aims.{marked, marked_list, kind_aim}
 use Rattle.fib_resolve.specs.Pairs.{entries, chosen}
 use Rattle.fib_resolve.specs.Resolution.{hop_end}
@@ -24,8 +24,7 @@ use Rattle.fib_changes.proofs.SamePairs.{map_in, map_from, flat_map_from}
 use Rattle.fib_entries.specs.Known.{Known, prefix_of, row_of, StandsFor}
 use Rattle.fib_entries.specs.inner.Ends.{aim_at, end_at}
 use Rattle.fib_entries.specs.inner.Hosting.{shared_but, shared_path_but}
-use Rattle.fib_entries.specs.inner.Leaf.{has_end, shared_kind, shared_path}
-use Rattle.fib_entries.specs.inner.Led.{ends_beside, path_beside}
+use Rattle.fib_entries.specs.inner.Leaf.{ends_beside, has_end, path_beside, shared_kind, shared_path}
 use Rattle.fib_entries.specs.Rows.{Row}
 use Rattle.fib_entries.proofs.Leafing.{not_it}
 use Rattle.fib_entries.proofs.LeafSizes.{HasEnd, adjacency_with, adjacency_is, ends_in}
@@ -44,6 +43,16 @@ end_of S e (kinds.Attached i) z h = by (e.len == 32) h
 end_of S e (kinds.Hop a i) z h = in_front (adjacency_with i a) z [] (adjacency_is (adjacency_with i a) z h)
 end_of S e (kinds.Recursive a) z h = absurd (false≢true h)
 end_of S e kinds.Cover z h = absurd (false≢true h)
+
+-- a prefix is shorter than a host where such a path is one over an interface
+pub glean_short : (p : Prefix) → IsPrefix p → (paths : List Path) → list_all (path_beside p) paths ≡ true → (q : Path) → Contains paths q → (i : ℕ) → q.kind ≡ kinds.Attached i → p.len < 32
+glean_short p real paths beside q c i is =
+    let b : ends_beside p (kinds.Attached i) ≡ true = subst (λ z. ends_beside p z ≡ true) is (each_true (path_beside p) paths q beside c) in
+    by (p.len == 32) refl b
+  where
+    by : (b : Bool) → (p.len == 32) ≡ b → not b ≡ true → p.len < 32
+    by true e n = absurd (false≢true n)
+    by false e n = (let off : p.len ≢ 32 = λ z. false≢true (sym e ∙ (Decides-eqb p.len 32).1 z) in let le = real.short in omega (arith, off, le))
 
 both_hold : (a b : Bool) → a ≡ true → b ≡ true → (a && b) ≡ true
 both_hold a b x y = rw (x, y) refl

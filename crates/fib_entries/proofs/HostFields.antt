@@ -25,7 +25,7 @@ use Rattle.fib_entries.specs.declared.changes.Followed.{Followed}
 use Rattle.fib_entries.specs.declared.hosting.Late.{Late}
 use Rattle.fib_entries.specs.Rows.{Row}
 use Rattle.fib_entries.proofs.Arriving.{indexed_came, names_came, named_came, ordered_came}
-use Rattle.fib_entries.proofs.Exits.{IsIn, fields_with, in_alike, in_host, in_index, indexed_each, indexed_less, indexed_more}
+use Rattle.fib_entries.proofs.Exits.{IsIn, fields_with, in_alike, in_host, in_index, indexed_each, indexed_less, indexed_more, none_hosted}
 use Rattle.fib_entries.proofs.Hosts.{loose_pair}
 use Rattle.fib_entries.proofs.Housing.{hosted_names, hosted_ordered}
 use Rattle.fib_entries.proofs.Leafing.{only_one}
@@ -106,7 +106,7 @@ fields_both rows new lists later order set x y T g p source paths rank made f h 
     let new_asc = paired_ordered c.low new c.listed.place ((sources.RecursiveResolution, g.list) ∷ []) c.listed.row c.listed.at c.listed.set low_asc in
     let named = listed_named c.low new c.between later g c.listed low_asc (named_came c.mid c.low lists c.between c.place p paths (plain_own T source paths rank) c.placed mid_asc c.gap (hosted_named rows c.mid g c.hosted gap lists h.named)) in
     let mid_indexed = hosted_indexed rows c.mid g c.hosted gap y (noted.late (host g.addr) refl) (indexed_more rows x y p paths (Some (host g.addr)) noted h.indexed) in
-    let low_indexed = indexed_came c.mid c.low lists c.between c.place p paths (plain_own T source paths rank) c.placed mid_asc c.gap y T refl short noted.own mid_indexed in
+    let low_indexed = indexed_came c.mid c.low lists c.between c.place p paths (plain_own T source paths rank) c.placed mid_asc c.gap y T refl (none_hosted y p short) noted.own mid_indexed in
     record {
       held = named_held new later named;
       named = named;

@@ -27,7 +27,7 @@ use Rattle.fib_resolve.proofs.Touching.{best_of, BestOf, untouched_pairs}
 use Rattle.fib_changes.specs.Sources.{all_hops}
 use Rattle.fib_changes.proofs.SamePairs.{Origin, origin, from_origin, base, neighbor, derived, near_from, near_host, derived_host}
 use Rattle.fib_entries.specs.inner.Leaf.{IsLeafEdit, AreWhole}
-use Rattle.fib_entries.proofs.Leafing.{front, base_cases, base_came, each_has, entry_of_pair, pair_at, own_prefix, host_other, host_is, late_attached}
+use Rattle.fib_entries.proofs.Leafing.{front, base_cases, base_came, each_has, entry_of_pair, pair_at, own_prefix, host_is, late_attached}
 
 -- no base pair is made of a next hop
 IsGiven : Pair → Type 0
@@ -136,7 +136,7 @@ module _ (S T : Tables) (p : Prefix) (source : FibSource) (late : List ℕ) (h :
     loose = sym (late_attached S T p source late h a m) ∙ whole.loose a m;
     based = λ x c is. elim (base_came S T p source late h x c) [
       | inl was ↦ (loose_before a m).based x was is
-      | inr (r, k, it, at) ↦ host_other S T p source late h a (sym (own_prefix S T p source late h r it) ∙ ap (λ z. z.prefix) at ∙ is)
+      | inr (r, k, it, at) ↦ h.late_other a m (sym (own_prefix S T p source late h r it) ∙ ap (λ z. z.prefix) at ∙ is)
     ];
   }
 

@@ -27,6 +27,7 @@ use Rattle.fib_entries.specs.declared.hosting.Late.{Late}
 use Rattle.fib_entries.specs.declared.replace.Own.{Own}
 use Rattle.fib_entries.specs.Rows.{Row}
 use Rattle.fib_entries.proofs.Arriving.{gap_inside}
+use Rattle.fib_entries.proofs.Leafing.{short_other}
 use Rattle.fib_entries.proofs.Linking.{rest_whole, set_length, set_names}
 use Rattle.fib_entries.proofs.Looking.{at_place, never}
 use Rattle.fib_entries.proofs.Placing.{insert_back, inserted_ascending, inserted_at, inserted_map}
@@ -132,9 +133,6 @@ gap_beside order k j p h a b off = by (prefix_cmp h p) refl
           ];
         }
 
-pub not_host : (p : Prefix) (a : ℕ) → p.len < 32 → p ≢ host a
-not_host p a short is = (let n = ap (λ z. z.len) is in omega (arith, n, short))
-
 -- the host's row got its list
 pub listed_by : (old new : List Row) (lists later : List PathKept) (g : Late) (h : Prefix) (place : ℕ) (pairs : List (FibSource × ℕ)) → h ≡ host g.addr → option_and_then (slice_get old) (Some place) ≡ row_of old h → place < length old
     → ((r : Row) → slice_get old place ≡ Some r → new ≡ slice_set old place (with_pairs pairs r)) → pairs ≡ (sources.RecursiveResolution, g.list) ∷ [] → Takes lists later (plain kinds.Cover ∷ []) g.list → AreInterned later → IsListed old new lists later g
@@ -172,4 +170,4 @@ module _ (old mid : List Row) (g : Late) (h : IsHosted old mid g) (asc : IsAscen
 
   pub hosted_gap : (k place : ℕ) (q p : Prefix) → IsGap (map prefix_of old) k p → p.len < 32 → place ≡ beside (prefix_cmp q p) k → q ≡ host g.addr → IsGap (map prefix_of mid) place p
   hosted_gap k place q p there short is q_is = subst (λ n. IsGap (map prefix_of mid) n p) (sym (is ∙ ap (λ z. beside (prefix_cmp z p) k) q_is))
-      (subst (λ l. IsGap l (beside (prefix_cmp (host g.addr) p) k) p) (sym hosted_names) (gap_beside (map prefix_of old) k g.place p (host g.addr) there gap (not_host p g.addr short)))
+      (subst (λ l. IsGap l (beside (prefix_cmp (host g.addr) p) k) p) (sym hosted_names) (gap_beside (map prefix_of old) k g.place p (host g.addr) there gap (short_other p short g.addr)))

@@ -1,5 +1,5 @@
 -- A leaf that comes: what is known stands for the tables afterwards.
-use Rattle.std.proofs.Common.{arith, ◌≡◌, ◌≢◌, ℕ, ◌+◌, ◌-◌, ◌<◌, ◌≤◌, ◌^◌, Bool, true, false, ◌==◌, List, [], ◌∷◌, map, Some, None, ◌⊎◌, inl, inr, refl, sym, ◌∙◌, ap, subst, slice_get, ◌↔◌, if◌then◌else◌}
+use Rattle.std.proofs.Common.{arith, ◌≡◌, ◌≢◌, ℕ, ◌+◌, ◌-◌, ◌<◌, ◌≤◌, ◌^◌, Bool, true, false, ◌==◌, List, [], ◌∷◌, map, Option, Some, ◌⊎◌, inl, inr, refl, sym, ◌∙◌, ap, subst, slice_get, ◌↔◌, if◌then◌else◌}
 use Rattle.std.specs.Prelude.{Contains, min}
 use Rattle.std.proofs.lemmas.Bool.{false≢true, cases_lt}
 use Rattle.std.proofs.lemmas.Bool.Decides.{Decides-eqb}
@@ -17,7 +17,6 @@ use Rattle.fib_changes.specs.Differ.{Differ}
 use Rattle.fib_changes.specs.declared.change.Change.TheVariants as changes
 use Rattle.fib_changes.proofs.SamePairs.{map_from, map_in}
 use Rattle.fib_interned.specs.Interned.{AreInterned}
-use Rattle.fib_interned.proofs.Finding.{none_some}
 use Rattle.fib_entries.specs.Known.{PathKept, Known, content_of, prefix_of, rank_of, rank_in, IsRow, StandsFor, holders}
 use Rattle.fib_entries.specs.Changes.{AreTouched, AreMoved}
 use Rattle.fib_entries.specs.inner.Coming.{IsArriving, IsBelonging, IsPlaced, HasCome, blank_row, with_pairs}
@@ -30,7 +29,7 @@ use Rattle.fib_entries.proofs.Arriving.{mid_own, with_it, there_came, row_from, 
 use Rattle.fib_entries.proofs.Belonging.{no_entry, none_was, belonging_edit, came_is_row}
 use Rattle.fib_entries.proofs.Growing.{IsGrown, size_more}
 use Rattle.fib_entries.proofs.Exits.{fields_with, indexed_less, indexed_more}
-use Rattle.fib_entries.proofs.HopEnds.{ends_shared}
+use Rattle.fib_entries.proofs.HopEnds.{ends_others, glean_short}
 use Rattle.fib_entries.proofs.LeafRows.{IsLeafMade, entry_same, entry_own, stands_leaf, touched_leaf, moved_leaf, still_leaf}
 use Rattle.fib_entries.proofs.PartRows.{row_by, no_row}
 use Rattle.fib_entries.proofs.LeafSizes.{plain_targets, ends_by}
@@ -43,10 +42,10 @@ use Rattle.fib_entries.proofs.Using.{once, recounted, counted_taken, taken_stays
 
 module _ (v : Known) (S T : Tables) (p : Prefix) (source : FibSource) (place : ℕ) (k : StandsFor v S) (m : IsArriving v.rows T p source place) (differ : Differ (changes.Route p source ∷ []) S T) (after : IsSound T) where
   belonging : IsBelonging v.rows T p source place
-  belonging = record { gap = m.gap; prefix = m.prefix; short = m.short; written = m.written; clear = m.clear; some = m.some }
+  belonging = record { gap = m.gap; prefix = m.prefix; written = m.written; clear = m.clear; some = m.some }
 
   pub arriving_edit : IsLeafEdit S T p source []
-  arriving_edit = belonging_edit v S T p source place k belonging after [] differ (λ a c. inr (led_by v S p k (paths_at p source T.routes) a m.shared c)) (λ a none. absurd (Contains-nil a none))
+  arriving_edit = belonging_edit v S T p source place k belonging after [] differ (λ a c. inr (led_by v S p k (paths_at p source T.routes) a m.shared c)) (λ a none. absurd (Contains-nil a none)) (λ a none. absurd (Contains-nil a none))
 
   pub none_before : paths_at p source S.routes ≡ []
   none_before = none_was v S T p source place k belonging after
@@ -58,7 +57,7 @@ module _ (v : Known) (S T : Tables) (p : Prefix) (source : FibSource) (place : �
     lacks = no_entry v S T p source place k belonging after;
     has = (entry_own S T p source [] arriving_edit).1 m.some;
     lists = λ e off. chosen_same S T p source [] arriving_edit e (outside p e off);
-    shared = λ z c. ends_shared v S k p m.short (paths_at p source T.routes) m.shared z (ends_by T p (paths_at p source T.routes) (chosen_after S T p source [] arriving_edit) z c);
+    shared = λ z c. ends_others v S k p (paths_at p source T.routes) m.shared m.beside z (ends_by T p (paths_at p source T.routes) (chosen_after S T p source [] arriving_edit) z c);
   }
 
   pub size_law : size T ≡ size S + own_size p (entry_before v.rows place) (entry_at v.rows place)
@@ -145,7 +144,7 @@ module _ (v w : Known) (S T : Tables) (p : Prefix) (source : FibSource) (place t
   ]
 
   own_is_row : IsRow w.lists T (with_pairs ((source, r.new_id) ∷ []) mid.0)
-  own_is_row = came_is_row S T p source [] h w.lists r.new_id (top + 1) mid.0 mid.2.0 mid.2.1 new_content m.plain m.some
+  own_is_row = came_is_row S T p source [] h w.lists r.new_id (top + 1) mid.0 mid.2.0 mid.2.1 new_content m.plain (glean_short p m.prefix (paths_at p source T.routes) m.beside) m.some
 
   rank_own : rank_of w.rows p ≡ top + 1
   rank_own = ap rank_in (row_by w.rows ordered p (with_pairs ((source, r.new_id) ∷ []) mid.0) there (sym mid.2.0.prefix)) ∙ mid.2.0.rank
@@ -202,18 +201,20 @@ followed_came v w T p source place top most f m apart c count fits small above a
 
 -- and the fields still fit together
 pub come_fields : (rows new : List Row) (lists later : List PathKept) (order set : List Prefix) (x y : Index) (T : Tables) (p : Prefix) (source : FibSource) (place : ℕ) (paths : List Path) (rank : ℕ) (f : Followed)
-    → AreFields rows lists order x → IsArriving rows T p source place → HasCome T rows new lists later place p source paths rank f → IsNoted x y p paths None → IsAscending set → ((e : Prefix) → Contains set e ↔ Contains order e ⊎ (e ≡ p)) → AreFields new later set y
-come_fields rows new lists later order set x y T p source place paths rank f h m c noted asc members =
+    → AreFields rows lists order x → IsArriving rows T p source place → HasCome T rows new lists later place p source paths rank f → (own : Option Prefix) → (p.len ≡ 32 → own ≡ Some p) → IsNoted x y p paths own → IsAscending set → ((e : Prefix) → Contains set e ↔ Contains order e ⊎ (e ≡ p)) → AreFields new later set y
+come_fields rows new lists later order set x y T p source place paths rank f h m c own its_own noted asc members =
     fields_came rows new lists later place p paths (plain_own T source paths rank) c.placed h.ordered m.gap h.named set y asc
     (λ e. subst (λ l. Contains set e ↔ Contains l e ⊎ (e ≡ p)) h.same (members e))
-    (indexed_came rows new lists later place p paths (plain_own T source paths rank) c.placed h.ordered m.gap y T refl m.short noted.own (indexed_more rows x y p paths None noted h.indexed))
+    (indexed_came rows new lists later place p paths (plain_own T source paths rank) c.placed h.ordered m.gap y T refl (λ long. noted.late p (its_own long)) noted.own (indexed_more rows x y p paths own noted h.indexed))
 
 -- also where the row didn't come, and the prefix went again
 pub as_before : (rows new : List Row) (lists later : List PathKept) (order mid set : List Prefix) (x y z : Index) (T : Tables) (p : Prefix) (source : FibSource) (place : ℕ) (paths : List Path) → AreFields rows lists order x → IsArriving rows T p source place
-    → IsNoted x y p paths None → IsForgotten y z p [] None → new ≡ rows → later ≡ lists → IsAscending set → ((e : Prefix) → Contains mid e ↔ Contains order e ⊎ (e ≡ p)) → ((e : Prefix) → Contains set e ↔ Contains mid e × (e ≢ p)) → AreFields new later set z
-as_before rows new lists later order mid set x y z T p source place paths h m noted forgotten rows_are lists_are asc came went =
+    → (own late : Option Prefix) → ((d : Prefix) → late ≡ Some d → d ≡ p) → IsNoted x y p paths own → IsForgotten y z p [] late → new ≡ rows → later ≡ lists → IsAscending set → ((e : Prefix) → Contains mid e ↔ Contains order e ⊎ (e ≡ p)) → ((e : Prefix) → Contains set e ↔ Contains mid e × (e ≢ p)) → AreFields new later set z
+as_before rows new lists later order mid set x y z T p source place paths h m own late its_own noted forgotten rows_are lists_are asc came went =
     let none : Contains order p → ⊥ = λ c. gap_absent (map prefix_of rows) place p m.gap (subst (λ l. Contains l p) h.same c) in
     let same : set ≡ order = set_back order mid set p (subst IsAscending (sym h.same) h.ordered) asc none came went in
     fields_with rows new lists later order set x z h rows_are lists_are same
-    (indexed_less rows y z p [] None forgotten (λ s c e. inl (λ is. gap_absent (map prefix_of rows) place p m.gap (subst (Contains (map prefix_of rows)) is (map_in prefix_of rows s c)))) (λ s c e. none_some s.prefix e)
-    (indexed_more rows x y p paths None noted h.indexed))
+    (indexed_less rows y z p [] late forgotten (λ s c e. inl (absent s c)) (λ s c e. absent s c (its_own s.prefix e)) (indexed_more rows x y p paths own noted h.indexed))
+  where
+    absent : (s : Row) → Contains rows s → s.prefix ≢ p
+    absent s c is = gap_absent (map prefix_of rows) place p m.gap (subst (Contains (map prefix_of rows)) is (map_in prefix_of rows s c))

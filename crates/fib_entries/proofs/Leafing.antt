@@ -1,6 +1,6 @@
--- What a change of a route makes another where nothing leads to its prefix and it covers no host: its own entry, and the hosts of late
+-- What a change of a route makes another where nothing leads to its prefix and it covers no other host: its own entry, and the hosts of late
 -- next hops, which no other route has.
-use Rattle.std.proofs.Common.{arith, ◌≡◌, ◌≢◌, ℕ, zero, suc, ◌<◌, ◌^◌, Bool, true, false, not, ◌||◌, ◌&&◌, ◌==◌, List, [], ◌∷◌, ◌++◌, map, Option, Some, None, ◌⊎◌, inl, inr, refl, sym, ◌∙◌, ap, subst, ◌↔◌}
+use Rattle.std.proofs.Common.{arith, ◌≡◌, ◌≢◌, ℕ, zero, suc, ◌<◌, ◌^◌, Bool, true, false, not, ◌||◌, ◌&&◌, ◌==◌, List, [], ◌∷◌, ◌++◌, map, Option, Some, None, ◌⊎◌, inl, inr, refl, sym, ◌∙◌, ap, subst, ◌↔◌, if◌then◌else◌}
 use Rattle.std.specs.Prelude.{Contains, flat_map, nat_lt, find, option_map, filter_map, IfSome, is_some}
 use Rattle.std.specs.List.{AllByRecursion, list_any}
 use Rattle.std.specs.Set.{is_member}
@@ -22,7 +22,7 @@ use Rattle.fib_resolve.specs.Tables.{is_route}
 use Rattle.fib_resolve.specs.Resolution.{mac_of, is_neighbor}
 use Rattle.fib_resolve.specs.declared.pairs.Pair.{Pair}
 use Rattle.fib_resolve.specs.Forwarding.{is_up}
-use Rattle.fib_resolve.specs.Loops.{targets, kind_targets, looped, looped_kind}
+use Rattle.fib_resolve.specs.Loops.{targets, kind_targets, looped}
 use Rattle.fib_resolve.specs.Touched.{is_touched, differ, same_mac, other_mac, other_flag}
 use Rattle.fib_resolve.specs.declared.types.Path.{Path}
 use Rattle.fib_resolve.specs.declared.types.PathKind.{PathKind}
@@ -293,6 +293,30 @@ or_neither : (x y : Bool) → (x || y) ≡ false → y ≡ false
 or_neither true y h = absurd (false≢true (sym h))
 or_neither false y h = h
 
+-- a prefix shorter than a host is none
+pub short_other : (p : Prefix) → p.len < 32 → (a : ℕ) → p ≢ host a
+short_other p short a is = (let n = ap (λ z. z.len) is in omega (arith, n, short))
+
+-- the pairs of a neighbor, by how its cover attaches it
+unfoldable pub near_list : Option ℕ → ℕ → ℕ → List Pair
+near_list o i a = if is_interface o i then one (host a) sources.Adjacency (kinds.Hop a i) ∷ [] else []
+
+pub near_is : (U : Tables) (n : Neighbor) → neighbor_pairs U n ≡ near_list (attached_by U n.addr) n.interface n.addr
+unfolding neighbor_pairs near_list
+near_is U n = refl
+
+near_kept : (U V : Tables) (n m : Neighbor) → m.interface ≡ n.interface → m.addr ≡ n.addr → attached_by U n.addr ≡ attached_by V n.addr → neighbor_pairs U n ≡ neighbor_pairs V m
+near_kept U V n m on at same =
+    near_is U n ∙ (ap (λ o. near_list o n.interface n.addr) same ∙ (ap (λ i. near_list (attached_by V n.addr) i n.addr) (sym on) ∙ (ap (λ a. near_list (attached_by V a) m.interface a) (sym at) ∙ sym (near_is V m))))
+
+-- they are the other tables' too, where it is a neighbor there and its cover attaches it alike
+pub near_moved : (X Y : Tables) (a : ℕ) → ((i : ℕ) → HasNeighbor X i a → HasNeighbor Y i a) → attached_by X a ≡ attached_by Y a → (x : Pair) → host a ≡ x.prefix → (n : Neighbor) → Contains X.neighbors n → Contains (neighbor_pairs X n) x → Contains (pairs Y) x
+near_moved X Y a has same x is n k c =
+    let f = near_from X n x c in
+    let at : n.addr ≡ a = host_is n.addr a (sym (near_host n.addr n.interface) ∙ ap (λ z. z.prefix) f.1 ∙ sym is) in
+    let m = has n.interface (n, k, refl, at) in
+    from_origin Y x (neighbor m.0 m.1 (subst (λ l. Contains l x) (near_kept X Y n m.0 m.2 (m.3 ∙ sym at) (ap (attached_by X) at ∙ same ∙ ap (attached_by Y) (sym at))) c))
+
 -- in the part is the prefix, or the host of a late next hop
 pub part_cases : (p : Prefix) (late : List ℕ) (e : Prefix) → in_part p late e ≡ true → (p ≡ e) ⊎ ((a : ℕ) × Contains late a × (host a ≡ e))
 part_cases p late e is = elim (or_cases (same_prefix p e) _ is) [
@@ -457,8 +481,24 @@ module _ (S T : Tables) (p : Prefix) (source : FibSource) (late : List ℕ) (h :
     ]
   ]
 
-  pub host_other : (a : ℕ) → p ≢ host a
-  host_other a is = (let l = ap (λ z. z.len) is in let s = h.short in omega (arith, l, s))
+  -- the prefix is no next hop's host: before it would have the pair of one, and what makes it one would lead to it
+  pub no_hop_before : (a : ℕ) → p ≡ host a → Contains (all_hops S) a → ⊥
+  unfolding derived_pair
+  no_hop_before a is c =
+      let own = h.only (derived_pair S a) (from_origin S (derived_pair S a) (derived a c refl)) (is ∙ sym (derived_host S a)) in
+      derived_off (subst (λ s. (source_rank s ≡ 2) ⊎ (source_rank s ≡ 3)) (sym own) h.written)
+
+  pub no_hop_after : (a : ℕ) → p ≡ host a → Contains (all_hops T) a → ⊥
+  no_hop_after a is c =
+      let r = flat_map_from recursive_hops T.routes a c in
+      elim (either (is_route p source r.0)) [
+        | inl it ↦ elim (h.hops r.0 a it (inr r.1) r.2) [ inl late_one ↦ h.late_other a late_one is | inr d ↦ h.leaf d.0 (subst (Contains (targets S d.0)) (sym is) d.2) ]
+        | inr off ↦ no_hop_before a is (Contains-flat_map recursive_hops S.routes r.0 a ((routes_same r.0 off).1 r.1) r.2)
+      ]
+
+  -- nor is it a target
+  pub other_target : (U : Tables) → ((a : ℕ) → p ≡ host a → Contains (all_hops U) a → ⊥) → (d : Prefix) (a : ℕ) → Contains (targets U d) (host a) → p ≢ host a
+  other_target U none d a c is = (let r = hop_route U d a c in none a is (Contains-flat_map recursive_hops U.routes r.0 a r.1 r.3))
 
   none_before : (a : ℕ) → IsAway a → (x : Pair) → Contains (pairs S) x → x.prefix ≡ host a → ⊥
   unfolding IsAway
@@ -469,12 +509,12 @@ module _ (S T : Tables) (p : Prefix) (source : FibSource) (late : List ℕ) (h :
         | inr beyond ↦ beyond (h.real (host a) e).fits
       ]
 
-  none_after : (a : ℕ) → list_any (λ b. b == a) late ≡ false → IsAway a → (x : Pair) → Contains (pairs T) x → x.prefix ≡ host a → ⊥
+  none_after : (a : ℕ) → p ≢ host a → list_any (λ b. b == a) late ≡ false → IsAway a → (x : Pair) → Contains (pairs T) x → x.prefix ≡ host a → ⊥
   unfolding IsAway
-  none_after a early away x c is = by (origin T x c)
+  none_after a other early away x c is = by (origin T x c)
     where
       by : Origin T x → ⊥
-      by (base k) = none_before a away x (from_origin S x (base ((base_caught x (not_it p x.prefix (λ e. host_other a (e ∙ is)))).1 k))) is
+      by (base k) = none_before a away x (from_origin S x (base ((base_caught x (not_it p x.prefix (λ e. other (e ∙ is)))).1 k))) is
       by (neighbor n k m) = (let f = near_from T n x m in
           let at : n.addr ≡ a = host_is n.addr a (sym (near_host n.addr n.interface) ∙ ap (λ z. z.prefix) f.1 ∙ is) in
           elim away [
@@ -484,9 +524,9 @@ module _ (S T : Tables) (p : Prefix) (source : FibSource) (late : List ℕ) (h :
       by (derived b k e) = (let at : b ≡ a = host_is b a (sym (derived_host T b) ∙ ap (λ z. z.prefix) e ∙ is) in
           none_before a away (derived_pair S b) (from_origin S (derived_pair S b) (derived b ((hops_same b (subst (λ z. list_any (λ c. c == z) late ≡ false) (sym at) early)).1 k) refl)) (derived_host S b ∙ ap host at))
 
-  none_same : (a : ℕ) → list_any (λ b. b == a) late ≡ false → IsAway a → SameEntry S T (host a)
-  none_same a early away = record {
-    pairs = λ x is. (λ c. absurd (none_before a away x c (sym is)), λ c. absurd (none_after a early away x c (sym is)));
+  none_same : (a : ℕ) → p ≢ host a → list_any (λ b. b == a) late ≡ false → IsAway a → SameEntry S T (host a)
+  none_same a other early away = record {
+    pairs = λ x is. (λ c. absurd (none_before a away x c (sym is)), λ c. absurd (none_after a other early away x c (sym is)));
     cover = λ q c is. absurd (Contains-nil q (subst (λ l. Contains l q) (chosen-no_entry S (host a) none_entry) c));
   }
     where
@@ -516,7 +556,8 @@ module _ (S T : Tables) (p : Prefix) (source : FibSource) (late : List ℕ) (h :
   not_cover : (U : Tables) → Keeps U → (a : ℕ) → a < 2 ^ 32 → IsApart (entries S) p a → p ≢ cover U a
   unfolding cover Keeps
   not_cover U keeps a small (inl out) is = false≢true (sym out ∙ ap (λ z. contains z a) is ∙ (longest_is_longest a (short_prefixes U) small).matches)
-  not_cover U keeps a small (inr (q, n, inside)) is =
+  not_cover U keeps a small (inr (inl long)) is = (let s = cover_short U a in let e = ap (λ z. z.len) is in omega (arith, long, s, e))
+  not_cover U keeps a small (inr (inr (q, n, inside))) is =
       let x = pair_at S q n.member in
       let other : p ≢ x.0.prefix = λ e. (let same = ap (λ z. z.len) (e ∙ x.2) in let lt = n.longer in omega (arith, same, lt)) in
       let there = short_pair S U x.0 x.1 (subst (λ z. z.len < 32) (sym x.2) n.short) (keeps x.0 other) in
@@ -539,11 +580,12 @@ module _ (S T : Tables) (p : Prefix) (source : FibSource) (late : List ℕ) (h :
   same_entry e off = elim (either (e.len == 32)) [
     | inr shorter ↦ caught e (quiet e off (λ is. absurd (false≢true (sym shorter ∙ (Decides-eqb e.len 32).1 is))))
     | inl long ↦ (let at : host e.bits ≡ e = ap (λ n. prefix_with e.bits n) (sym ((Decides-eqb e.len 32).0 long)) in
+        let other : p ≢ host e.bits = λ is. part_not p late e off (is ∙ at) in
         let early : list_any (λ b. b == e.bits) late ≡ false = sym (ap (λ b. b && list_any (λ b. b == e.bits) late) long) ∙ or_neither (same_prefix p e) _ off in
         elim (either (nat_lt e.bits (2 ^ 32))) [
-          | inr beyond ↦ subst (SameEntry S T) at (none_same e.bits early (inr (λ lt. false≢true (sym beyond ∙ lt-ltb e.bits (2 ^ 32) lt))))
+          | inr beyond ↦ subst (SameEntry S T) at (none_same e.bits other early (inr (λ lt. false≢true (sym beyond ∙ lt-ltb e.bits (2 ^ 32) lt))))
           | inl small ↦ elim (away_or_apart e.bits) [
-            | inl away ↦ subst (SameEntry S T) at (none_same e.bits early away)
+            | inl away ↦ subst (SameEntry S T) at (none_same e.bits other early away)
             | inr apart ↦ caught e (quiet e off (λ _. (ltb-true e.bits (2 ^ 32) small, apart)))
           ]
         ])
@@ -554,6 +596,15 @@ module _ (S T : Tables) (p : Prefix) (source : FibSource) (late : List ℕ) (h :
 
       caught : IsCaught S T (affected S T (same_prefix p) (λ a. list_any (λ b. b == a) late || false))
       caught = affected_catch S T (same_prefix p) (λ a. list_any (λ b. b == a) late) (λ _. false) h.before h.after good base_caught hops_same near
+
+  -- a pair that a neighbor makes at the prefix after the change was there before
+  pub near_before : (x : Pair) → p ≡ x.prefix → (n : Neighbor) → Contains T.neighbors n → Contains (neighbor_pairs T n) x → Contains (pairs S) x
+  near_before x at n k m =
+      let is : host n.addr ≡ x.prefix = sym (near_host n.addr n.interface) ∙ ap (λ z. z.prefix) (near_from T n x m).1 in
+      let long : p.len ≡ 32 = ap (λ z. z.len) (at ∙ sym is) in
+      let small = (h.far n k).0 in
+      let u = uncovered n.addr small (inr (inl long)) in
+      near_moved T S n.addr (λ i. (near n.addr i refl).1) (sym (attached_agrees S T (same_prefix p) base_caught good n.addr h.after small u.0 u.1)) x is n k m
 
   pub targets_same : (d : Prefix) → in_part p late d ≡ false → targets S d ≡ targets T d
   targets_same d off = same_targets S T d h.after (same_entry d off)
@@ -581,9 +632,9 @@ module _ (S T : Tables) (p : Prefix) (source : FibSource) (late : List ℕ) (h :
       by inside q c kinds.Local is t = Contains-nil p t
       by inside q c (kinds.Attached i) is t = Contains-nil p t
       by inside q c (kinds.Hop b i) is t = Contains-nil p t
-      by inside q c (kinds.Recursive b) is t = host_other b (sym (only_one (host b) p t))
+      by inside q c (kinds.Recursive b) is t = other_target T no_hop_after d b (path_edge T d q b c is) (sym (only_one (host b) p t))
       by inside q c kinds.Cover is t = elim (part_cases p late d inside) [
-        | inl same ↦ (let long : p.len ≡ 32 = ap (λ z. z.len) same ∙ cover_at_host T h.after d q c is in let s = h.short in omega (arith, long, s))
+        | inl same ↦ (let long : p.len ≡ 32 = ap (λ z. z.len) same ∙ cover_at_host T h.after d q c is in let s = cover_short T d.bits in let e = ap (λ z. z.len) (only_one (cover T d.bits) p t) in omega (arith, long, s, e))
         | inr (a, m, at) ↦ late_covered T keeps_after a m (sym (ap (λ z. cover T z.bits) at ∙ only_one (cover T d.bits) p t))
       ]
 
@@ -602,21 +653,21 @@ module _ (S T : Tables) (p : Prefix) (source : FibSource) (late : List ℕ) (h :
   pub late_led_before : (d : Prefix) (a : ℕ) → Contains late a → Contains (targets S d) (host a) → d ≡ p
   late_led_before = led_by_route S (λ r off c. c)
 
-  no_loop : (U : Tables) → ((d : Prefix) → Contains (targets U d) p → ⊥) → (a : ℕ) → looped U p a ≡ false
-  no_loop U leaf a = elim (either (looped U p a)) [
+  no_loop : (U : Tables) → ((d : Prefix) → Contains (targets U d) p → ⊥) → (a : ℕ) → p ≢ host a → looped U p a ≡ false
+  no_loop U leaf a other = elim (either (looped U p a)) [
     | inr isnt ↦ isnt
     | inl is ↦ (let l = (looped-Decides U p a).0 is in absurd (by l.0 l.1))
   ]
     where
       by : (n : ℕ) → Walk (Next (targets U)) n (host a) p → ⊥
-      by zero w = host_other a (sym w)
+      by zero w = other (sym w)
       by (suc n) w = (let z = last_edge (Next (targets U)) n (host a) p w in leaf z.0 z.1)
 
-  pub unlooped_before : (a : ℕ) → looped S p a ≡ false
-  unlooped_before a = no_loop S h.leaf a
+  pub unlooped_before : (a : ℕ) → p ≢ host a → looped S p a ≡ false
+  unlooped_before a other = no_loop S h.leaf a other
 
-  pub unlooped : (a : ℕ) → looped T p a ≡ false
-  unlooped a = no_loop T leaf_after a
+  pub unlooped : (q : Path) (a : ℕ) → Contains (chosen T p) q → q.kind ≡ kinds.Recursive a → looped T p a ≡ false
+  unlooped q a c is = no_loop T leaf_after a (other_target T no_hop_after p a (path_edge T p q a c is))
 
   -- no cycle leads through the part
   no_cycle : (U : Tables) → ((d : Prefix) → Contains (targets U d) p → ⊥) → ((d : Prefix) (a : ℕ) → Contains late a → Contains (targets U d) (host a) → d ≡ p)
@@ -627,12 +678,12 @@ module _ (S T : Tables) (p : Prefix) (source : FibSource) (late : List ℕ) (h :
         | inl at ↦ no_dependant U t.at (λ d c. leaf d (subst (Contains (targets U d)) (sym at) c)) cycle
         | inr (b, m, at) ↦ (let z = last_step (Next (targets U)) cycle.0 t.at t.at cycle.1 in
             let here : z.0 ≡ p = led z.0 b m (subst (Contains (targets U z.0)) (sym at) z.2) in
-            back cycle.0 b t.at at (subst (Walk (Next (targets U)) cycle.0 t.at) here z.1))
+            back cycle.0 b m t.at at (subst (Walk (Next (targets U)) cycle.0 t.at) here z.1))
       ]
     where
-      back : (n : ℕ) (b : ℕ) (x : Prefix) → host b ≡ x → Walk (Next (targets U)) n x p → ⊥
-      back zero b x at w = host_other b (sym (at ∙ w))
-      back (suc n) b x at w = (let z = last_edge (Next (targets U)) n x p w in leaf z.0 z.1)
+      back : (n : ℕ) (b : ℕ) → Contains late b → (x : Prefix) → host b ≡ x → Walk (Next (targets U)) n x p → ⊥
+      back zero b m x at w = h.late_other b m (sym (at ∙ w))
+      back (suc n) b m x at w = (let z = last_edge (Next (targets U)) n x p w in leaf z.0 z.1)
 
   -- the part alone is touched
   pub untouched : (e : Prefix) → in_part p late e ≡ false → is_touched S T e ≡ false
@@ -645,19 +696,11 @@ module _ (S T : Tables) (p : Prefix) (source : FibSource) (late : List ℕ) (h :
       by (own is) = false≢true (sym off ∙ is)
       by (ends q c m) = means_beside S T p source h.differ e q.kind m
       by (needing q a c is need ch) = elim (part_cases p late (host a) ch) [
-        | inl same ↦ host_other a same
+        | inl same ↦ h.leaf e (subst (Contains (targets S e)) (sym same) (path_edge S e q a c is))
         | inr (b, m, at) ↦ part_not p late e off (sym (late_led_before e b m (subst (Contains (targets S e)) (sym at) (path_edge S e q a c is))))
       ]
       by (loops q a c is (inl t)) = no_cycle S h.leaf late_led_before e a (path_edge S e q a c is) t
       by (loops q a c is (inr t)) = no_cycle T leaf_after late_led e a (path_edge T e q a (subst (λ l. Contains l q) (chosen_same e off) c) is) t
-
-  pub unlooped_kind : (k : PathKind) → looped_kind T p k ≡ false
-  unlooped_kind kinds.Drop = refl
-  unlooped_kind kinds.Local = refl
-  unlooped_kind (kinds.Attached i) = refl
-  unlooped_kind (kinds.Hop a i) = refl
-  unlooped_kind (kinds.Recursive a) = unlooped a
-  unlooped_kind kinds.Cover = refl
 
   -- outside the part nothing changes
   pub part_edit : IsPartEdit S T (in_part p late)

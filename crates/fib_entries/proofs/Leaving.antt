@@ -1,5 +1,5 @@
 -- A leaf that goes: what is known stands for the tables afterwards.
-use Rattle.std.proofs.Common.{arith, ◌≡◌, ◌≢◌, ℕ, ◌+◌, ◌-◌, ◌<◌, ◌≤◌, ◌^◌, Bool, true, false, ◌==◌, List, [], ◌∷◌, map, Some, None, inl, inr, refl, sym, ◌∙◌, ap, subst, slice_get, ◌↔◌, if◌then◌else◌}
+use Rattle.std.proofs.Common.{arith, ◌≡◌, ◌≢◌, ℕ, ◌+◌, ◌-◌, ◌<◌, ◌≤◌, ◌^◌, Bool, true, false, ◌==◌, List, [], ◌∷◌, map, Option, Some, inl, inr, refl, sym, ◌∙◌, ap, subst, slice_get, ◌↔◌, if◌then◌else◌}
 use Rattle.std.specs.Prelude.{Contains, IsSome, min, filter_map}
 use Rattle.std.specs.List.{list_all, remove}
 use Rattle.std.proofs.lemmas.Bool.{false≢true, cases_lt}
@@ -20,7 +20,7 @@ use Rattle.fib_changes.specs.Differ.{Differ}
 use Rattle.fib_changes.specs.declared.change.Change.TheVariants as changes
 use Rattle.fib_changes.proofs.SamePairs.{map_from, from_origin, base}
 use Rattle.fib_interned.specs.Interned.{AreInterned, kept_of}
-use Rattle.fib_interned.proofs.Finding.{some_is, none_some, contains_at}
+use Rattle.fib_interned.proofs.Finding.{some_is, contains_at}
 use Rattle.fib_entries.specs.Known.{PathKept, Known, content_of, prefix_of, rank_of, rank_in, IsRow, StandsFor, holders}
 use Rattle.fib_entries.specs.Changes.{AreTouched, AreMoved}
 use Rattle.fib_entries.specs.inner.Fields.{AreCounted, AreFields, Index, IsForgotten}
@@ -33,7 +33,7 @@ use Rattle.fib_entries.proofs.Exits.{indexed_less}
 use Rattle.fib_entries.proofs.Growing.{IsGrown, size_more}
 use Rattle.fib_entries.proofs.LeafRows.{IsLeafMade, entry_same, entry_own, entry_was, stands_leaf, touched_leaf, moved_leaf, still_leaf}
 use Rattle.fib_entries.proofs.PartRows.{row_by, no_row}
-use Rattle.fib_entries.proofs.HopEnds.{ends_shared}
+use Rattle.fib_entries.proofs.HopEnds.{ends_others}
 use Rattle.fib_entries.proofs.LeafSizes.{plain_targets, ends_by, end_moved}
 use Rattle.fib_entries.proofs.Leafing.{chosen_same, from_route, is_not, outside}
 use Rattle.fib_entries.proofs.Listing.{source_of_route, own_before, own_after, chosen_before, chosen_after, counted_own, counted_none, holders_are}
@@ -71,7 +71,6 @@ module _ (v : Known) (S T : Tables) (p : Prefix) (source : FibSource) (place id 
     after = after;
     differ = differ;
     prefix = m.prefix;
-    short = m.short;
     real = λ q c. (let r = real_entry q c in subst IsPrefix r.2 (k.rows r.0 r.1).prefix);
     alone = clear_alone v S p T.neighbors k m.clear;
     far = clear_far v S p T.neighbors k m.clear;
@@ -84,6 +83,7 @@ module _ (v : Known) (S T : Tables) (p : Prefix) (source : FibSource) (place id 
     ];
     late_out = λ a c. absurd (Contains-nil a c);
     late_alone = λ a c. absurd (Contains-nil a c);
+    late_other = λ a c. absurd (Contains-nil a c);
   }
 
 module _ (v w : Known) (S T : Tables) (p : Prefix) (source : FibSource) (place id : ℕ) (old : List Path) (most : ℕ) (k : StandsFor v S) (m : IsLeaving v.rows v.lists T p source place id old) (differ : Differ (changes.Route p source ∷ []) S T) (after : IsSound T)
@@ -155,7 +155,7 @@ module _ (v w : Known) (S T : Tables) (p : Prefix) (source : FibSource) (place i
     has = entry_was S T p source [] h (some_was v S T p source place id old k m differ after);
     lists = λ e off. sym (chosen_same S T p source [] h e (outside p e off));
     shared = λ z c. end_moved S T (same_prefix p) (λ e off. (entry_same S T p source h e (is_not p e off)).0) (λ e off. chosen_same S T p source [] h e (outside p e (is_not p e off))) z
-        (ends_shared v S k p m.short old m.shared z (ends_by S p old (chosen_before S T p source [] h ∙ list_was v S T p source place id old k m differ after) z c));
+        (ends_others v S k p old m.shared m.beside z (ends_by S p old (chosen_before S T p source [] h ∙ list_was v S T p source place id old k m differ after) z c));
   }
 
   size_law : size S ≡ size T + own_size p (before_of (map prefix_of w.rows) place) (slice_get (map prefix_of w.rows) place)
@@ -222,11 +222,12 @@ followed_gone v w T p source place id old most f m apart c count below le after 
 
 -- and the fields still fit together
 pub left_fields : (rows new : List Row) (lists later : List PathKept) (order set : List Prefix) (x y : Index) (T : Tables) (p : Prefix) (source : FibSource) (place id : ℕ) (old paths : List Path) (f : Followed)
-    → AreFields rows lists order x → IsLeaving rows lists T p source place id old → HasLeft rows new lists later place p id paths f → IsForgotten x y p [] None → IsAscending set → ((e : Prefix) → Contains set e ↔ Contains order e × (e ≢ p)) → AreFields new later set y
-left_fields rows new lists later order set x y T p source place id old paths f h m c forgotten asc members =
+    → AreFields rows lists order x → IsLeaving rows lists T p source place id old → HasLeft rows new lists later place p id paths f → (own : Option Prefix) → ((d : Prefix) → own ≡ Some d → d ≡ p) → IsForgotten x y p [] own → IsAscending set → ((e : Prefix) → Contains set e ↔ Contains order e × (e ≢ p)) → AreFields new later set y
+left_fields rows new lists later order set x y T p source place id old paths f h m c own its_own forgotten asc members =
     fields_gone rows new lists later place p id (goals_of c.before) (goals_of paths) c.withdrawn h.ordered m.row m.at m.own c.before h.named source m.pairs c.content set y asc
     (λ e. subst (λ l. Contains set e ↔ Contains l e × (e ≢ p)) h.same (members e))
-    (indexed_less new x y p [] None forgotten (λ s k e. inl (λ same. (row_left rows new lists later place p id (goals_of c.before) (goals_of paths) c.withdrawn h.ordered m.row m.at m.own s k).0 (sym same))) (λ s k e. none_some s.prefix e)
+    (indexed_less new x y p [] own forgotten (λ s k e. inl (λ same. (row_left rows new lists later place p id (goals_of c.before) (goals_of paths) c.withdrawn h.ordered m.row m.at m.own s k).0 (sym same)))
+    (λ s k e. (row_left rows new lists later place p id (goals_of c.before) (goals_of paths) c.withdrawn h.ordered m.row m.at m.own s k).0 (sym (its_own s.prefix e)))
     (indexed_gone rows new lists later place p id (goals_of c.before) (goals_of paths) c.withdrawn h.ordered m.row m.at m.own x h.indexed))
 
 pub leaving_kept : (rows : List Row) (lists : List PathKept) (T : Tables) (p : Prefix) (source : FibSource) (place id : ℕ) (old : List Path) → IsLeaving rows lists T p source place id old → IsSome (kept_of lists id)

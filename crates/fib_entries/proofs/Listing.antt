@@ -12,23 +12,25 @@ use Rattle.fib_addr.proofs.PrefixLaws.{same_prefix-Decides}
 use Rattle.fib_resolve.specs.Keys.{source_rank, same_path}
 use Rattle.fib_resolve.specs.Pairs.{pairs, chosen, best_pair, paths_of, route_pair}
 use Rattle.fib_resolve.specs.Edits.{paths_at}
+use Rattle.fib_resolve.specs.Loops.{looped}
 use Rattle.fib_resolve.specs.Tables.{IsSound, is_route, IsSoundRoute}
 use Rattle.fib_resolve.specs.Touched.{is_touched}
 use Rattle.fib_resolve.specs.declared.pairs.Pair.{Pair}
 use Rattle.fib_resolve.specs.declared.types.Path.{Path}
+use Rattle.fib_resolve.specs.declared.types.PathKind.TheVariants as kinds
 use Rattle.fib_resolve.specs.declared.types.FibSource.{FibSource}
 use Rattle.fib_resolve.specs.declared.types.Route.{Route}
 use Rattle.fib_resolve.specs.declared.types.Tables.{Tables}
 use Rattle.fib_resolve.proofs.OneList.{one_list, source_by_rank}
 use Rattle.fib_resolve.proofs.Touching.{best_of, BestOf, untouched_pairs}
-use Rattle.fib_changes.proofs.SamePairs.{Origin, origin, from_origin, base, neighbor, derived, near_from, near_host, derived_host}
+use Rattle.fib_changes.proofs.SamePairs.{Origin, origin, from_origin, base, neighbor, derived, derived_host}
 use Rattle.fib_changes.proofs.Edits.{in_cases, in_front, in_rest}
 use Rattle.fib_entries.specs.Known.{holders}
 use Rattle.fib_entries.specs.inner.Leaf.{IsLeafEdit}
 use Rattle.fib_entries.specs.inner.Part.{in_part}
 use Rattle.fib_entries.proofs.Counting.{one_counted, none_counted, holders_step}
 use Rattle.fib_entries.proofs.Using.{once}
-use Rattle.fib_entries.proofs.Leafing.{written_route, base_came, from_route, same_entry, host_other, is_not, is_it, outside}
+use Rattle.fib_entries.proofs.Leafing.{written_route, base_came, from_route, same_entry, near_before, no_hop_after, unlooped, is_not, is_it, outside}
 
 some_nil : {X : Type 0} (x : X) (xs : List X) → x ∷ xs ≡ [] → ⊥
 some_nil x xs e = (cc)
@@ -119,15 +121,18 @@ module _ (S T : Tables) (p : Prefix) (source : FibSource) (late : List ℕ) (h :
         | inl was ↦ h.only x (from_origin S x (base was)) at
         | inr (r, c, it, is) ↦ sym (ap (λ z. z.source) is) ∙ (source_of_route p source r it).1
       ]
-      by x at (neighbor n k m) = (let f = near_from T n x m in
-          absurd (host_other S T p source late h n.addr (at ∙ ap (λ z. z.prefix) (sym f.1) ∙ near_host n.addr n.interface)))
-      by x at (derived b k e) = absurd (host_other S T p source late h b (at ∙ ap (λ z. z.prefix) (sym e) ∙ derived_host T b))
+      by x at (neighbor n k m) = h.only x (near_before S T p source late h x at n k m) at
+      by x at (derived b k e) = absurd (no_hop_after S T p source late h b (at ∙ ap (λ z. z.prefix) (sym e) ∙ derived_host T b) k)
 
   pub chosen_before : chosen S p ≡ paths_at p source S.routes
   chosen_before = own_chosen S p source own_before
 
   pub chosen_after : chosen T p ≡ paths_at p source T.routes
   chosen_after = own_chosen T p source own_after
+
+  -- no path of it is looped
+  pub unlooped_path : (q : Path) (a : ℕ) → Contains (paths_at p source T.routes) q → q.kind ≡ kinds.Recursive a → looped T p a ≡ false
+  unlooped_path q a c = unlooped S T p source late h q a (subst (λ l. Contains l q) (sym chosen_after) c)
 
   -- the users of a list before and after
   pub part_holders : (paths : List Path) → holders T paths + count_by (λ x. pointwise same_path x.paths paths) (filter (λ x. in_part p late x.prefix) (pairs S))

@@ -28,7 +28,7 @@ use Rattle.fib_changes.proofs.Edits.{in_cases, in_front, in_rest}
 use Rattle.fib_changes.proofs.SamePairs.{map_from, map_in, flat_map_from, from_origin, base, derived_host}
 use Rattle.fib_interned.specs.Interned.{AreInterned}
 use Rattle.fib_interned.proofs.Finding.{contains_at, some_is}
-use Rattle.fib_entries.specs.Known.{Known, content_of, prefix_of, rank_of, rank_in, ArePairs, IsRow, StandsFor, holders, kind_met}
+use Rattle.fib_entries.specs.Known.{Known, PathKept, content_of, prefix_of, row_of, rank_of, rank_in, ArePairs, IsRow, StandsFor, holders, kind_met}
 use Rattle.fib_entries.specs.Changes.{AreTouched, AreMoved}
 use Rattle.fib_entries.specs.inner.Clear.{IsApart}
 use Rattle.fib_entries.specs.inner.Coming.{with_pairs}
@@ -43,9 +43,9 @@ use Rattle.fib_entries.specs.Rows.{Row}
 use Rattle.fib_entries.proofs.Departing.{unused_but}
 use Rattle.fib_entries.proofs.Gateways.{IsGained, derived_source, gained_pairs, gained_there, gained_new, gained_chosen, gateway_holders, gateway_kept, gateway_looped, gateway_marked, gateway_met, gateway_targets, gateway_touched, not_derived, pair_counted, pair_uncounted}
 use Rattle.fib_entries.proofs.Growing.{IsGrown, size_more}
-use Rattle.fib_entries.proofs.HopEnds.{ends_but}
+use Rattle.fib_entries.proofs.HopEnds.{ends_others_but}
 use Rattle.fib_entries.proofs.LeafRows.{entry_own, entry_was}
-use Rattle.fib_entries.proofs.Leafing.{base_beside, chosen_same, entry_of_pair, from_route, host_other, is_not, late_attached, late_led, late_led_before, near_beside, not_it, only_one, part_cases, part_edit, part_host, part_not, routes_beside, unlooped_before}
+use Rattle.fib_entries.proofs.Leafing.{base_beside, chosen_same, entry_of_pair, from_route, is_not, late_attached, late_led, late_led_before, near_beside, not_it, only_one, part_cases, part_edit, part_host, part_not, routes_beside, unlooped_before}
 use Rattle.fib_entries.proofs.LeafSizes.{HasEnd, end_moved, ends_by, plain_targets}
 use Rattle.fib_entries.proofs.Listing.{chosen_before, chosen_after, counted_none, counted_own, own_after, own_before, own_touched, source_of_route}
 use Rattle.fib_entries.proofs.Owning.{owned_all, owned_list, owned_some}
@@ -59,6 +59,14 @@ use Rattle.fib_entries.proofs.SparePairs.{lost_list, other_real, spare_cases}
 use Rattle.fib_entries.proofs.Using.{once, unit_same, counted_given, given_stays}
 use Rattle.fib_entries.proofs.WithHost.{list_hop}
 use Rattle.fib_entries.proofs.Withdrawing.{order_at, names_gone, ordered_gone, but_for, row_was}
+
+-- the gateway's row isn't the prefix's, to which nothing leads
+pub spare_other : (rows : List Row) (lists : List PathKept) (T : Tables) (p : Prefix) (source : FibSource) (place id : ℕ) (old : List Path) (g : Gateway) → IsAscending (map prefix_of rows) → IsLosing rows lists T p source place id old g → p ≢ host g.addr
+spare_other rows lists T p source place id old g asc m is =
+    let one = row_by rows asc p m.row (contains_at rows place m.row m.at) (sym m.own) in
+    let two = row_by rows asc (host g.addr) m.spare.row m.spare.there (sym m.spare.own) in
+    let same = some_is m.row m.spare.row (sym one ∙ (ap (row_of rows) is ∙ two)) in
+    Contains-nil p (subst (λ l. Contains l p) (sym m.spare.alone ∙ (ap (λ z. z.dependants) (sym same) ∙ m.none)) (in_front p p [] refl))
 
 module _ (v : Known) (S T : Tables) (p : Prefix) (source : FibSource) (place id : ℕ) (old : List Path) (g : Gateway) (k : StandsFor v S) (m : IsLosing v.rows v.lists T p source place id old g) (differ : Differ (changes.Route p source ∷ []) S T) (after : IsSound T) where
   own_there : Contains v.rows m.row
@@ -81,13 +89,15 @@ module _ (v : Known) (S T : Tables) (p : Prefix) (source : FibSource) (place id 
   real_entry : (q : Prefix) → Contains (entries S) q → (r : Row) × Contains v.rows r × (r.prefix ≡ q)
   real_entry q c = map_from prefix_of v.rows q ((k.entries q).1 c)
 
+  off : p ≢ host g.addr
+  off = spare_other v.rows v.lists T p source place id old g k.ordered m
+
   pub losing_edit : IsLeafEdit S T p source (g.addr ∷ [])
   losing_edit = record {
     before = k.sound;
     after = after;
     differ = differ;
     prefix = m.prefix;
-    short = m.short;
     real = λ q c. (let r = real_entry q c in subst IsPrefix r.2 (k.rows r.0 r.1).prefix);
     alone = clear_alone v S p T.neighbors k m.clear;
     far = clear_far v S p T.neighbors k m.clear;
@@ -100,6 +110,7 @@ module _ (v : Known) (S T : Tables) (p : Prefix) (source : FibSource) (place id 
     ];
     late_out = λ a c. subst (λ z. (z < 2 ^ 32) × IsApart (entries S) p z) (only_one g.addr a c) (m.spare.small, rows_apart v S p g.addr k m.spare.away);
     late_alone = λ a c r off there hop. unused_but v S k p source g.addr m.spare.row m.spare.there m.spare.own m.spare.alone (λ x d at other. absurd (other (all_own x d at).0)) m.spare.unhidden r off there (subst (Contains (recursive_hops r)) (sym (only_one g.addr a c)) hop);
+    late_other = λ a c is. off (is ∙ ap host (sym (only_one g.addr a c)));
   }
 
   late_in : Contains (g.addr ∷ []) g.addr
@@ -120,7 +131,7 @@ module _ (v : Known) (S T : Tables) (p : Prefix) (source : FibSource) (place id 
   host_pairs = subst (λ z. ArePairs v.lists S z m.spare.row.pairs) m.spare.own (k.rows m.spare.row m.spare.there).pairs
 
   bases : (x : Pair) → host g.addr ≡ x.prefix → Contains (base_pairs T) x ↔ Contains (base_pairs S) x
-  bases x own = (let b = base_beside S T p source differ x (not_it p x.prefix (λ is. host_other S T p source (g.addr ∷ []) losing_edit g.addr (is ∙ sym own))) in (b.1, b.0))
+  bases x own = (let b = base_beside S T p source differ x (not_it p x.prefix (λ is. off (is ∙ sym own))) in (b.1, b.0))
 
   near : NeighborsCaught T S (λ _. false)
   near a i quiet = (let n = near_beside S T p source differ a i quiet in (n.1, n.0))
@@ -164,7 +175,7 @@ module _ (v w : Known) (S T : Tables) (p : Prefix) (source : FibSource) (place i
   late_in_list = in_front g.addr g.addr [] refl
 
   not_host : p ≢ host g.addr
-  not_host = host_other S T p source (g.addr ∷ []) h g.addr
+  not_host = h.late_other g.addr late_in_list
 
   has : IsGained T S g.addr
   has = lost v S T p source place id old g k m differ after
@@ -337,8 +348,8 @@ module _ (v w : Known) (S T : Tables) (p : Prefix) (source : FibSource) (place i
 
   shared_end : (z : Adjacency) → Contains (adjacencies_of S p) z → HasEnd T (same_prefix p) z
   shared_end z i =
-      let s = ends_but v S k p m.short g.addr old m.shared z (ends_by S p old (chosen_before S T p source (g.addr ∷ []) h ∙ list_was v S T p source place id old g k m differ after) z i) in
-      end_moved S T (same_prefix p) (λ e off. (beside_entry e (is_not p e off)).0) (λ e off. lists_same e (is_not p e off)) z (host z.next_hop, not_it p (host z.next_hop) (host_other S T p source (g.addr ∷ []) h z.next_hop), s.0, s.1)
+      end_moved S T (same_prefix p) (λ e off. (beside_entry e (is_not p e off)).0) (λ e off. lists_same e (is_not p e off)) z
+      (ends_others_but v S k p g.addr old m.shared m.beside z (ends_by S p old (chosen_before S T p source (g.addr ∷ []) h ∙ list_was v S T p source place id old g k m differ after) z i))
 
   grown : IsGrown T S p
   grown = record {
@@ -422,7 +433,7 @@ module _ (v w : Known) (S T : Tables) (p : Prefix) (source : FibSource) (place i
       k.falls p (host g.addr) (
         q.0,
         subst (λ l. Contains l q.0) (sym (chosen_before S T p source (g.addr ∷ []) h ∙ list_was v S T p source place id old g k m differ after)) q.1,
-        subst (λ z. is_kept S p z ≡ true) (sym q.2) (ap not (unlooped_before S T p source (g.addr ∷ []) h g.addr)),
+        subst (λ z. is_kept S p z ≡ true) (sym q.2) (ap not (unlooped_before S T p source (g.addr ∷ []) h g.addr not_host)),
         subst (λ z. Contains (kind_targets S p z) (host g.addr)) (sym q.2) (in_front (host g.addr) (host g.addr) [] refl),
       )
 

@@ -22,7 +22,8 @@ use Rattle.fib_changes.specs.declared.change.Change.TheVariants as changes
 use Rattle.fib_changes.proofs.SamePairs.{flat_map_from, map_from}
 use Rattle.fib_entries.specs.Known.{Known, PathKept, StandsFor, prefix_of}
 use Rattle.fib_entries.specs.inner.Course.{made_of}
-use Rattle.fib_entries.specs.inner.Led.{IsLedEdit, IsReaching, but_hops, has_hop, path_beside, shared_gone, shared_late}
+use Rattle.fib_entries.specs.inner.Leaf.{path_beside}
+use Rattle.fib_entries.specs.inner.Led.{IsLedEdit, IsReaching, but_hops, has_hop, shared_gone, shared_late}
 use Rattle.fib_entries.specs.inner.Reaching.{IsOut, late_names, turned_addrs}
 use Rattle.fib_entries.specs.Rows.{Row}
 use Rattle.fib_entries.specs.declared.hosting.Late.{Late}

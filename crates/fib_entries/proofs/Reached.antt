@@ -52,7 +52,7 @@ use Rattle.fib_changes.proofs.SamePairs.{map_in, map_from}
 use Rattle.fib_interned.proofs.Finding.{contains_at, none_some}
 use Rattle.fib_entries.specs.Known.{PathKept, Known, content_of, prefix_of, row_of, rank_of, rank_in, ArePairs, IsHeld, IsRow, StandsFor, holders, kind_met}
 use Rattle.fib_entries.specs.inner.Leaf.{goal_of, is_plain, plain_kind}
-use Rattle.fib_entries.specs.inner.Led.{IsLedEdit, IsReaching, IsTurn, ends_beside, path_beside}
+use Rattle.fib_entries.specs.inner.Led.{IsLedEdit, IsReaching, IsTurn}
 use Rattle.fib_entries.specs.inner.Looping.{AreLoops, AreReached, loops_of, marks_with, next_with, relooped_in, relooped_row}
 use Rattle.fib_entries.specs.inner.Part.{IsButForPart, IsPartKept, IsQuietEdit, in_part}
 use Rattle.fib_entries.specs.inner.Reaching.{IsGoneStill, IsSettled, gone_addrs, gone_hosts, gone_moved, kind_loops, late_addrs, late_hosts, late_moved, looped_counts, looped_mark, looped_own, turned_addrs, turned_hosts}
@@ -64,6 +64,7 @@ use Rattle.fib_entries.specs.inner.Looping.{grows, is_relooped, is_relooped_at, 
 use Rattle.fib_entries.specs.inner.Raising.{AreBack, FallBut, moved_from, raised_of, raised_prefix, raised_row, rank_or, rank_with}
 use Rattle.fib_entries.specs.inner.Reaching.{IsRisenKept}
 use Rattle.fib_entries.proofs.Counting.{counts_some}
+use Rattle.fib_entries.proofs.HopEnds.{glean_short}
 use Rattle.fib_entries.proofs.LoopRows.{same_flags_is, same_flags_of}
 use Rattle.fib_entries.proofs.Hosts.{came_touched, went_touched, loose_chosen, loose_from, loose_marks, loose_pair, loose_targets, loose_there}
 use Rattle.fib_entries.proofs.Leafing.{not_it, only_one, part_cases, part_host, part_not}
@@ -77,7 +78,6 @@ use Rattle.fib_entries.proofs.PartRows.{kept_wakes, listed_row, no_row, pairs_ke
 use Rattle.fib_entries.proofs.Woken.{row_wakes}
 use Rattle.fib_entries.proofs.Standing.{row_there as row_found}
 use Rattle.fib_entries.proofs.Replacing.{aim_is, mark_with, maps_same, met_any, met_is}
-use Rattle.fib_entries.proofs.Sharing.{each_true}
 use Rattle.fib_entries.proofs.Taking.{list_self}
 
 -- the host that comes is that of a late next hop
@@ -255,13 +255,7 @@ module _ (v w : Known) (S T : Tables) (p : Prefix) (source : FibSource) (place i
       (Contains-flat_map (λ y. goal_of y.kind) (paths_at p source T.routes) q (host a) c (subst (λ z. Contains (goal_of z) (host a)) (sym is) (in_front (host a) (host a) [] refl))))
 
   glean : (q : Path) → Contains (paths_at p source T.routes) q → (i : ℕ) → q.kind ≡ kinds.Attached i → p.len < 32
-  glean q c i is =
-      let b : ends_beside p (kinds.Attached i) ≡ true = subst (λ z. ends_beside p z ≡ true) is (each_true (path_beside p) (paths_at p source T.routes) q m.beside c) in
-      by (p.len == 32) refl b
-    where
-      by : (b : Bool) → (p.len == 32) ≡ b → not b ≡ true → p.len < 32
-      by true e n = absurd (false≢true n)
-      by false e n = (let off : p.len ≢ 32 = λ z. false≢true (sym e ∙ (Decides-eqb p.len 32).1 z) in let le = m.prefix.short in omega (arith, off, le))
+  glean = glean_short p m.prefix (paths_at p source T.routes) m.beside
 
   own_row_is : (s : Row) → Contains mid s → p ≡ s.prefix → IsRow later T s
   unfolding marked_list

@@ -72,7 +72,6 @@ module _ (v : Known) (S T : Tables) (p : Prefix) (source : FibSource) (place id 
     after = after;
     differ = differ;
     prefix = m.prefix;
-    short = m.short;
     real = λ q c. (let r = real_entry q c in subst IsPrefix r.2 (k.rows r.0 r.1).prefix);
     alone = clear_alone v S p T.neighbors k m.clear;
     far = clear_far v S p T.neighbors k m.clear;
@@ -85,4 +84,5 @@ module _ (v : Known) (S T : Tables) (p : Prefix) (source : FibSource) (place id 
     ];
     late_out = λ a c. absurd (Contains-nil a c);
     late_alone = λ a c. absurd (Contains-nil a c);
+    late_other = λ a c. absurd (Contains-nil a c);
   }

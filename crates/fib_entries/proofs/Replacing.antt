@@ -38,11 +38,11 @@ use Rattle.fib_interned.proofs.Finding.{contains_at}
 use Rattle.fib_entries.specs.Known.{Known, content_of, prefix_of, rank_of, IsRow, StandsFor, holders, kind_met}
 use Rattle.fib_entries.specs.inner.Leaf.{IsLeafEdit, IsReady, IsReplaced, plain_own, goals_of, goal_of, is_plain, plain_kind, plain_mark, plain_aim, plain_counts, own_row, shared_path}
 use Rattle.fib_entries.proofs.Counting.{counts_some}
-use Rattle.fib_entries.proofs.Leafing.{unlooped, leaf_after}
+use Rattle.fib_entries.proofs.Leafing.{leaf_after}
 use Rattle.fib_entries.proofs.LeafRows.{IsLeafMade}
 use Rattle.fib_entries.proofs.HopEnds.{ends_shared}
 use Rattle.fib_entries.proofs.LeafSizes.{HasEnd, ends_in, size_same, each_plain, plain_targets}
-use Rattle.fib_entries.proofs.Listing.{own_before, own_after, own_list, own_there, chosen_before, chosen_after, holders_are, counted_own, pair_of}
+use Rattle.fib_entries.proofs.Listing.{own_before, own_after, own_list, own_there, chosen_before, chosen_after, unlooped_path, holders_are, counted_own, pair_of}
 use Rattle.fib_entries.proofs.Ready.{ready_edit, list_before, some_before}
 use Rattle.fib_entries.proofs.Taking.{list_self}
 use Rattle.fib_entries.proofs.Settling.{Settlement, counted_by, list_content, list_counted, list_stays, row_after, row_from, row_led, row_led_own, row_names, row_once, row_ordered, row_rank, row_relinked, row_there}
@@ -192,10 +192,10 @@ module _ (v w : Known) (S T : Tables) (p : Prefix) (source : FibSource) (place i
         ),
       );
     };
-    looped = maps_same (λ q. false) (λ q. looped_kind T p q.kind) (paths_at p source T.routes) (λ q c. loop_is T p q.kind (λ a is. unlooped S T p source [] h a)) ∙ ap (map (λ q. looped_kind T p q.kind)) (sym (chosen_after S T p source [] h));
+    looped = maps_same (λ q. false) (λ q. looped_kind T p q.kind) (paths_at p source T.routes) (λ q c. loop_is T p q.kind (λ a is. unlooped_path S T p source [] h q a c is)) ∙ ap (map (λ q. looped_kind T p q.kind)) (sym (chosen_after S T p source [] h));
     met = maps_same (λ q. true) (λ q. kind_met T q.need q.kind) (paths_at p source T.routes) (λ q c. met_is T q.need q.kind (and_both (plain_kind q.kind) (need_rank q.need == 0) (each_plain (paths_at p source T.routes) q m.plain_after c)).1)
         ∙ ap (map (λ q. kind_met T q.need q.kind)) (sym (chosen_after S T p source [] h));
-    marked = maps_same (plain_mark T) (marked T p) (paths_at p source T.routes) (λ q c. mark_is T p q (λ i is. m.short) (each_plain (paths_at p source T.routes) q m.plain_after c) (λ a is. unlooped S T p source [] h a))
+    marked = maps_same (plain_mark T) (marked T p) (paths_at p source T.routes) (λ q c. mark_is T p q (λ i is. m.short) (each_plain (paths_at p source T.routes) q m.plain_after c) (λ a is. unlooped_path S T p source [] h q a c is))
         ∙ ap (map (marked T p)) (sym (chosen_after S T p source [] h));
     dependants = λ d. (λ c. absurd (none_own d c), λ c. absurd (leaf_after S T p source [] h d c));
     dependants_once = row_once v w S T p ((source, new_id) ∷ []) (paths_at p source T.routes) (plain_own T source (paths_at p source T.routes) rank) change;

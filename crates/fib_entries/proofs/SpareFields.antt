@@ -1,5 +1,5 @@
 -- The row of a gateway as it loses its pair, and the fields of entries, which fit together then.
-use Rattle.std.proofs.Common.{arith, ◌≡◌, ◌≢◌, ℕ, ◌+◌, ◌-◌, ◌<◌, true, List, [], ◌∷◌, ◌++◌, map, length, take, Some, None, inl, inr, refl, sym, ◌∙◌, ap, subst, slice_get, ◌↔◌}
+use Rattle.std.proofs.Common.{arith, ◌≡◌, ◌≢◌, ℕ, ◌+◌, ◌-◌, ◌<◌, true, List, [], ◌∷◌, ◌++◌, map, length, take, Option, Some, inl, inr, refl, sym, ◌∙◌, ap, subst, slice_get, ◌↔◌}
 use Rattle.std.specs.Prelude.{Contains, option_and_then, option_map, slice_set}
 use Rattle.std.specs.Cmp.Lexicographic.{pointwise}
 use Rattle.std.specs.List.{list_all}
@@ -15,7 +15,7 @@ use Rattle.fib_resolve.specs.declared.types.FibSource.TheVariants as sources
 use Rattle.fib_resolve.specs.declared.types.Path.{Path}
 use Rattle.fib_resolve.specs.declared.types.Tables.{Tables}
 use Rattle.fib_changes.proofs.Edits.{in_front}
-use Rattle.fib_interned.proofs.Finding.{contains_at, none_some, some_is}
+use Rattle.fib_interned.proofs.Finding.{contains_at, some_is}
 use Rattle.fib_entries.specs.Known.{PathKept, content_of, prefix_of, row_of, IsHeld}
 use Rattle.fib_entries.specs.inner.Coming.{with_pairs}
 use Rattle.fib_entries.specs.inner.Ends.{has_exit}
@@ -136,11 +136,12 @@ module _ (old new : List Row) (lists later : List PathKept) (g : Gateway) (list 
 
 -- all of it
 pub fields_lost : (rows new : List Row) (lists later : List PathKept) (order set : List Prefix) (x y : Index) (T : Tables) (p : Prefix) (source : FibSource) (place id : ℕ) (old : List Path) (g : Gateway) (f : Followed) → AreFields rows lists order x
-    → IsLosing rows lists T p source place id old g → HasLost rows new lists later place p id old g f → IsForgotten x y p [] None → IsAscending set → ((e : Prefix) → Contains set e ↔ Contains order e × (e ≢ p)) → AreFields new later set y
-fields_lost rows new lists later order set x y T p source place id old g f h m c forgotten asc members =
+    → IsLosing rows lists T p source place id old g → HasLost rows new lists later place p id old g f → (own : Option Prefix) → ((d : Prefix) → own ≡ Some d → d ≡ p) → IsForgotten x y p [] own → IsAscending set → ((e : Prefix) → Contains set e ↔ Contains order e × (e ≢ p)) → AreFields new later set y
+fields_lost rows new lists later order set x y T p source place id old g f h m c own its_own forgotten asc members =
     let low_ordered = ordered_gone rows c.low lists c.between place p id (goals_of old) [] c.withdrawn h.ordered m.row m.at m.own in
     let low = fields_gone rows c.low lists c.between place p id (goals_of old) [] c.withdrawn h.ordered m.row m.at m.own old h.named source m.pairs m.content set y asc
     (λ e. subst (λ l. Contains set e ↔ Contains l e × (e ≢ p)) h.same (members e))
-    (indexed_less c.low x y p [] None forgotten (λ s k e. inl (λ same. (row_left rows c.low lists c.between place p id (goals_of old) [] c.withdrawn h.ordered m.row m.at m.own s k).0 (sym same))) (λ s k e. none_some s.prefix e)
+    (indexed_less c.low x y p [] own forgotten (λ s k e. inl (λ same. (row_left rows c.low lists c.between place p id (goals_of old) [] c.withdrawn h.ordered m.row m.at m.own s k).0 (sym same)))
+    (λ s k e. (row_left rows c.low lists c.between place p id (goals_of old) [] c.withdrawn h.ordered m.row m.at m.own s k).0 (sym (its_own s.prefix e)))
     (indexed_gone rows c.low lists c.between place p id (goals_of old) [] c.withdrawn h.ordered m.row m.at m.own x h.indexed)) in
     fields_unjoined c.low new c.between later g m.spare.list c.unjoined low_ordered (ap (option_map (λ z. z.content)) (c.withdrawn.given.others g.list (λ is. m.apart (sym is))) ∙ m.spare.listed) set y low

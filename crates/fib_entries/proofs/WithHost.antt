@@ -52,7 +52,7 @@ use Rattle.fib_entries.proofs.Covering.{cover_found}
 use Rattle.fib_entries.proofs.HopEnds.{ends_but}
 use Rattle.fib_entries.proofs.Hosts.{loose_pair, late_pair, late_there, late_entry, late_chosen, late_targets, late_marks, late_touched}
 use Rattle.fib_entries.proofs.LeafRows.{entry_own}
-use Rattle.fib_entries.proofs.Leafing.{late_led, late_cover, late_covered_before, late_hop, part_cases, part_own, part_host, part_not, part_edit, entry_of_pair, chosen_same, is_not, host_other, only_one}
+use Rattle.fib_entries.proofs.Leafing.{late_led, late_cover, late_covered_before, late_hop, part_cases, part_own, part_host, part_not, part_edit, entry_of_pair, chosen_same, is_not, only_one, short_other}
 use Rattle.fib_entries.proofs.LeafSizes.{HasEnd, ends_by, ends_in, plain_targets, adjacencies_same}
 use Rattle.fib_entries.proofs.BothRows.{AreBoth, both_ordered, both_with, both_others, both_p, both_h, both_ranks, both_rank_p, both_rank_h, both_names, h_names, h_ordered}
 use Rattle.fib_entries.proofs.Linking.{attached_one, but_self}
@@ -124,7 +124,7 @@ module _ (v : Known) (S T : Tables) (p : Prefix) (source : FibSource) (place : �
 
   pub hosting_edit : IsLeafEdit S T p source (g.addr ∷ [])
   hosting_edit = belonging_edit v S T p source place k m.belongs after (g.addr ∷ []) differ (λ a c. led_but v S p k (paths_at p source T.routes) g.addr a m.shared c)
-      (λ a c. subst (λ z. (z < 2 ^ 32) × IsApart (entries S) p z × (Contains (all_hops S) z → ⊥)) (only_one g.addr a c) (m.late.small, inl m.late.away, no_hop))
+      (λ a c. subst (λ z. (z < 2 ^ 32) × IsApart (entries S) p z × (Contains (all_hops S) z → ⊥)) (only_one g.addr a c) (m.late.small, inl m.late.away, no_hop)) (λ a c. short_other p m.short a)
 
   pub hosting_whole : AreWhole S (g.addr ∷ [])
   hosting_whole = record {
@@ -145,7 +145,7 @@ module _ (v w : Known) (S T : Tables) (p : Prefix) (source : FibSource) (place t
   late_in = in_front g.addr g.addr [] refl
 
   not_host : p ≢ host g.addr
-  not_host = host_other S T p source (g.addr ∷ []) h g.addr
+  not_host = short_other p m.short g.addr
 
   cover_at : m.late.cover.prefix ≡ cover S g.addr
   cover_at = cover_is v S T p source place g k m differ after
@@ -285,7 +285,7 @@ module _ (v w : Known) (S T : Tables) (p : Prefix) (source : FibSource) (place t
   own_row s t at =
       let x = both_p v.rows w.rows (host g.addr) p m.late.cover.prefix (goals_of (paths_at p source T.routes)) (host_own m.late.cover.prefix g.rank) (plain_own T source (paths_at p source T.routes) (top + 1))
       ((sources.RecursiveResolution, g.list) ∷ []) ((source, c.placed.new_id) ∷ []) both k.ordered not_host s t at in
-      subst (IsRow w.lists T) x.1 (came_is_row S T p source (g.addr ∷ []) h w.lists c.placed.new_id (top + 1) x.0 x.2.0 x.2.1 own_content m.plain m.belongs.some)
+      subst (IsRow w.lists T) x.1 (came_is_row S T p source (g.addr ∷ []) h w.lists c.placed.new_id (top + 1) x.0 x.2.0 x.2.1 own_content m.plain (λ q i on is. m.short) m.belongs.some)
 
   host_row : (s : Row) → Contains w.rows s → host g.addr ≡ s.prefix → IsRow w.lists T s
   unfolding marked_list
@@ -349,7 +349,7 @@ module _ (v w : Known) (S T : Tables) (p : Prefix) (source : FibSource) (place t
   ]
     where
       goal_not_own : (paths : List Path) (t : Prefix) → Contains (goals_of paths) t → p ≢ t
-      goal_not_own paths t goal same = (let long = goal_long paths t goal in let e = ap (λ z. z.len) same in let s = m.belongs.short in omega (arith, long, e, s))
+      goal_not_own paths t goal same = (let long = goal_long paths t goal in let e = ap (λ z. z.len) same in let s = m.short in omega (arith, long, e, s))
 
   -- the size
   good : ArePrefixes (map prefix_of v.rows)
@@ -404,11 +404,11 @@ module _ (v w : Known) (S T : Tables) (p : Prefix) (source : FibSource) (place t
   -- a Hop end of the prefix is that of a host that was there
   own_end : (z : Adjacency) → Contains (ends_in p (paths_at p source T.routes)) z → HasEnd S (in_part p (g.addr ∷ [])) z
   own_end z i =
-      let s = ends_but v S k p m.belongs.short g.addr (paths_at p source T.routes) m.shared z i in
+      let s = ends_but v S k p m.short g.addr (paths_at p source T.routes) m.shared z i in
       let off : in_part p (g.addr ∷ []) (host z.next_hop) ≡ false = elim (either (in_part p (g.addr ∷ []) (host z.next_hop))) [
         | inr isnt ↦ isnt
         | inl is ↦ elim (inside (host z.next_hop) is) [
-          | inl same ↦ absurd (host_other S T p source (g.addr ∷ []) h z.next_hop same)
+          | inl same ↦ absurd (short_other p m.short z.next_hop same)
           | inr same ↦ absurd (no_host_was (subst (Contains (entries S)) (sym same) s.0))
         ]
       ] in

@@ -41,7 +41,7 @@ use Rattle.fib_entries.proofs.Covering.{cover_found}
 use Rattle.fib_entries.proofs.HopEnds.{ends_but}
 use Rattle.fib_entries.proofs.Hosts.{loose_pair, loose_before, loose_chosen, late_entry, late_entry_before, late_pair_before, late_there_before, late_targets_before, late_touched_before}
 use Rattle.fib_entries.proofs.LeafRows.{entry_own}
-use Rattle.fib_entries.proofs.Leafing.{routes_beside, from_route, chosen_same, unlooped_before, part_cases, part_own, part_host, part_not, part_edit, entry_of_pair, host_other, only_one}
+use Rattle.fib_entries.proofs.Leafing.{routes_beside, from_route, chosen_same, unlooped_before, part_cases, part_own, part_host, part_not, part_edit, entry_of_pair, only_one, short_other}
 use Rattle.fib_entries.proofs.LeafSizes.{HasEnd, ends_by, ends_in, plain_targets, adjacencies_same}
 use Rattle.fib_entries.proofs.Listing.{source_of_route, chosen_before, chosen_after, own_touched, own_before, own_after, counted_own, counted_none, part_holders}
 use Rattle.fib_entries.proofs.Orders.{order_size, size_of_order, order_shrunk}
@@ -108,7 +108,6 @@ module _ (v : Known) (S T : Tables) (p : Prefix) (source : FibSource) (place id 
     after = after;
     differ = differ;
     prefix = m.prefix;
-    short = m.short;
     real = λ q c. (let r = real_entry q c in subst IsPrefix r.2 (k.rows r.0 r.1).prefix);
     alone = clear_alone v S p T.neighbors k m.clear;
     far = clear_far v S p T.neighbors k m.clear;
@@ -121,6 +120,7 @@ module _ (v : Known) (S T : Tables) (p : Prefix) (source : FibSource) (place id 
     ];
     late_out = λ a c. subst (λ z. (z < 2 ^ 32) × IsApart (entries S) p z) (only_one g.addr a c) (m.last.small, inl m.last.away);
     late_alone = λ a c r off there hop. unused_but v S k p source g.addr m.last.row m.last.there m.last.own m.last.alone (λ x d at other. absurd (other (all_own x d at).0)) m.last.unhidden r off there (subst (Contains (recursive_hops r)) (sym (only_one g.addr a c)) hop);
+    late_other = λ a c. short_other p m.short a;
   }
 
   pub parting_whole : AreWhole S (g.addr ∷ [])
@@ -141,7 +141,7 @@ module _ (v w : Known) (S T : Tables) (p : Prefix) (source : FibSource) (place i
   late_in = in_front g.addr g.addr [] refl
 
   not_host : p ≢ host g.addr
-  not_host = host_other S T p source (g.addr ∷ []) h g.addr
+  not_host = short_other p m.short g.addr
 
   hop_there : Contains (all_hops S) g.addr
   hop_there = hop_was v S T p source place id old g k m differ after
@@ -291,7 +291,7 @@ module _ (v w : Known) (S T : Tables) (p : Prefix) (source : FibSource) (place i
       let off : in_part p (g.addr ∷ []) (host z.next_hop) ≡ false = elim (either (in_part p (g.addr ∷ []) (host z.next_hop))) [
         | inr isnt ↦ isnt
         | inl is ↦ elim (inside (host z.next_hop) is) [
-          | inl same ↦ absurd (host_other S T p source (g.addr ∷ []) h z.next_hop same)
+          | inl same ↦ absurd (short_other p m.short z.next_hop same)
           | inr same ↦ absurd (host_no_end z (subst (λ q. Contains (adjacencies_of S q) z) (sym same) s.1))
         ]
       ] in
@@ -370,7 +370,7 @@ module _ (v w : Known) (S T : Tables) (p : Prefix) (source : FibSource) (place i
       k.falls p (host g.addr) (
         q.0,
         subst (λ l. Contains l q.0) (sym (chosen_before S T p source (g.addr ∷ []) h ∙ list_was v S T p source place id old g k m differ after)) q.1,
-        subst (λ z. is_kept S p z ≡ true) (sym q.2) (ap not (unlooped_before S T p source (g.addr ∷ []) h g.addr)),
+        subst (λ z. is_kept S p z ≡ true) (sym q.2) (ap not (unlooped_before S T p source (g.addr ∷ []) h g.addr not_host)),
         subst (λ z. Contains (kind_targets S p z) (host g.addr)) (sym q.2) (in_front (host g.addr) (host g.addr) [] refl),
       )
 

@@ -18,13 +18,16 @@ use fib_cover::PrefixSet;
 use fib_resolve::{Neighbor, Tables};
 use std::alloc::AllocError;
 
-/// The longer member in which the address lies, or what was found before where it lies outside the prefix; None where it lies in the prefix
-/// and in no longer member. What was found before spares the look-up where the address lies in it too.
+/// The longer member in which the address lies, or what was found before where it lies outside the prefix or that is a host; None where
+/// it lies in the prefix and in no longer member. What was found before spares the look-up where the address lies in it too.
 fn apart(order: &PrefixSet, p: Prefix, addr: Addr, found: Prefix) -> Option<Prefix>
     requires { p.len < found.len → IsNarrower order.now p found }
     ensures next { IfSome result (λ q. p.len < q.len → IsNarrower order.now p q) }
     ensures apart { IfSome result (λ _. IsApart order.now p addr) }
 {
+    if p.len() == 32 {
+        return Some(found);
+    }
     if !p.contains(addr) {
         return Some(found);
     }
@@ -38,14 +41,14 @@ fn apart(order: &PrefixSet, p: Prefix, addr: Addr, found: Prefix) -> Option<Pref
     Some(cover)
 }
 
-/// Whether the address lies outside the prefix or in a longer member.
+/// Whether the address lies outside the prefix or in a longer member, or the prefix is a host.
 pub fn is_apart(order: &PrefixSet, p: Prefix, addr: Addr) -> bool
     ensures { IsTrue result → IsApart order.now p addr }
 {
     apart(order, p, addr, p).is_some()
 }
 
-/// Whether each of these hosts lies outside the prefix or in a longer member.
+/// Whether that is so of each of these hosts.
 fn hosts_apart(order: &PrefixSet, p: Prefix, hosts: &[Prefix]) -> bool
     ensures { IsTrue result → (e : PrefixValue) → Contains hosts.now e → IsApart order.now p e.bits }
 {
@@ -68,7 +71,7 @@ fn addr_of(n: &Neighbor) -> Addr
     n.addr
 }
 
-/// Whether each of these neighbors does.
+/// Whether it is so of each of these neighbors.
 fn neighbors_apart(order: &PrefixSet, p: Prefix, neighbors: &[Neighbor]) -> bool
     ensures { IsTrue result → (n : NeighborValue) → Contains neighbors.now n → (n.addr < 2 ^ 32) × IsApart order.now p n.addr }
 {
@@ -94,8 +97,8 @@ fn may_be_leaf(rows: &Blocks<Row>, p: Prefix) -> bool
 }
 
 impl Entries {
-    /// Whether the prefix may be a leaf, in which each host's row and each neighbor lies in a longer row's prefix too. Its own row is asked
-    /// first, since it is found at once.
+    /// Whether the prefix may be a leaf, and is a host, or each host's row and each neighbor in it lies in a longer row's prefix too. Its own
+    /// row is asked first, since it is found at once.
     pub(crate) fn is_clear(&self, tables: &Tables, prefix: Prefix) -> Result<bool, AllocError>
         ensures { IfOk result (λ b. IsTrue b → IsClear self.now.rows tables.now.neighbors prefix) }
     {

@@ -15,7 +15,8 @@ use crate::change::Target;
 use crate::changes::{Followed, Touched};
 use crate::dependants::Dependants;
 use crate::going::take_out;
-use crate::leaf::{is_none, is_short, is_written, suits};
+use crate::leaf::{is_none, is_written, suits};
+use crate::led::are_beside;
 use crate::links::attach;
 use crate::replace::Own;
 use crate::rows::{Body, Row};
@@ -53,10 +54,9 @@ pub fn belongs(
     ensures inside { IfSome result (λ place. place ≤ length rows.now) }
 {
     let _tables = tables;
+    // Read so that the proof knows that it is a prefix.
+    let _len = p.len();
     if !is_written(source) {
-        return None;
-    }
-    if !is_short(p) {
         return None;
     }
     let Some(place) = gap_of(rows, p) else {
@@ -86,6 +86,9 @@ pub fn arriving(
         return None;
     };
     if !suits(rows, p, new) {
+        return None;
+    }
+    if !are_beside(p, new) {
         return None;
     }
     Some(place)

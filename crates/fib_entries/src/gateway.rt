@@ -1,5 +1,5 @@
 // The gateway of a route: the host of a next hop that no other route has, where it has other pairs too, as it gets its pair with the route.
-ghost use Rattle.std.specs.Prelude.{◌≡◌, ◌+◌, ◌-◌, ◌<◌, ◌≤◌, ◌^◌, ◌++◌, ◌∷◌, [], ℕ, true, IfOk, IfSome, IsSome, IsTrue, OnErr, Some, Contains, filter_map, length, map, slice_get, List as Items};
+ghost use Rattle.std.specs.Prelude.{◌≡◌, ◌≢◌, ◌+◌, ◌-◌, ◌<◌, ◌≤◌, ◌^◌, ◌++◌, ◌∷◌, [], ℕ, true, IfOk, IfSome, IsSome, IsTrue, OnErr, Some, Contains, filter_map, length, map, slice_get, List as Items};
 ghost use Rattle.std.specs.List.{list_all};
 ghost use Rattle.fib_addr.specs.Prefixes.{host};
 ghost use Rattle.fib_cover.specs.Covers.{IsAscending};
@@ -251,7 +251,7 @@ pub fn gain(
     to: Target<'_>,
 ) -> Result<Followed, AllocError>
     requires ascending { IsAscending (map prefix_of rows.old) }
-    requires short { to.prefix.len < 32 }
+    requires other { to.prefix ≢ host g.addr }
     requires gap { IsGap (map prefix_of rows.old) place to.prefix }
     requires there { Contains (map prefix_of rows.old) (host g.addr) }
     requires kept { IsSome (kept_of lists.old g.list) }

@@ -15,6 +15,7 @@ ghost use Rattle.fib_entries.specs.inner.Plies.{own_size, entry_at, entry_before
 use crate::apply::{alone, moved};
 use crate::changes::{Followed, Touched};
 use crate::leaf::{is_none, leaf_place, only_list, suits};
+use crate::led::are_beside;
 use crate::links::detach;
 use crate::plies::own_size;
 use crate::rows::Row;
@@ -51,7 +52,11 @@ pub fn leaving(
     if !is_none(new) {
         return None;
     }
-    if !suits(rows, p, lists.content(id)) {
+    let old = lists.content(id);
+    if !suits(rows, p, old) {
+        return None;
+    }
+    if !are_beside(p, old) {
         return None;
     }
     Some((place, id))

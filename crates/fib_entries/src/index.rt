@@ -135,6 +135,14 @@ impl Index {
     }
 }
 
+/// The prefix, where it is a host.
+pub fn own_host(p: Prefix) -> Option<Prefix>
+    ensures host { p.len ≡ 32 → result ≡ Some p }
+    ensures own { (e : PrefixValue) → result ≡ Some e → e ≡ p }
+{
+    if p.len() == 32 { Some(p) } else { None }
+}
+
 /// Whether the prefix is one of these.
 fn is_listed(list: &[Prefix], prefix: Prefix) -> bool
     ensures { IsTrue result → Contains list.now prefix }

@@ -172,7 +172,7 @@ fn marks(alloc: Global, tables: &Tables, paths: &[Path]) -> Result<Vec<Marked>, 
         .collect(alloc)
 }
 
-/// What the paths of a prefix shorter than a host are for, where they are plain and aren't looped.
+/// What the paths of a prefix are for, where they are plain, aren't looped and end elsewhere than at the prefix's own host.
 pub fn plain_marks(
     alloc: Global,
     tables: &Tables,
@@ -251,10 +251,9 @@ pub fn leaf_place(rows: &Blocks<Row>, p: Prefix, source: FibSource) -> Option<us
     ensures leaf { IfSome result (λ place. IsLeafAt rows.now place p source) }
     ensures inside { IfSome result (λ place. place < length rows.now) }
 {
+    // Read so that the proof knows that it is a prefix.
+    let _len = p.len();
     if !is_written(source) {
-        return None;
-    }
-    if !is_short(p) {
         return None;
     }
     let Some(place) = place_of(rows, p) else {
@@ -273,8 +272,8 @@ pub fn is_none(paths: &[Path]) -> bool
     paths.is_empty()
 }
 
-/// The place of the prefix's row and the number of its list, where the change of its route of that source to that list touches the row
-/// alone.
+/// The place of the row of a prefix shorter than a host and the number of its list, where the change of its route of that source to that
+/// list touches the row alone.
 pub fn ready(
     rows: &Blocks<Row>,
     lists: &PathLists,
@@ -290,6 +289,9 @@ pub fn ready(
     ensures { IfSome result (λ x. (old : Items PathValue) × IsReady rows.now lists.now tables.now p source x.0 x.1 old) }
 {
     let _tables = tables;
+    if !is_short(p) {
+        return None;
+    }
     let Some(place) = leaf_place(rows, p, source) else {
         return None;
     };

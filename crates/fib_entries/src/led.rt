@@ -5,7 +5,7 @@ ghost use Rattle.fib_resolve.specs.Forwarding.{is_attached_list};
 ghost use Rattle.fib_resolve.specs.Keys.{same_source};
 ghost use Rattle.fib_resolve.specs.Pairs.{attached_of};
 ghost use Rattle.fib_resolve.specs.declared.types.FibSource.{FibSource as FibSourceValue};
-ghost use Rattle.fib_entries.specs.inner.Led.{path_beside};
+ghost use Rattle.fib_entries.specs.inner.Leaf.{path_beside};
 
 use crate::hosting::is_loose_list;
 use crate::look::is_same;

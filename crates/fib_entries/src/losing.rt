@@ -153,7 +153,7 @@ pub fn lose(
 ) -> Result<Followed, AllocError>
     requires ascending { IsAscending (map prefix_of rows.old) }
     requires row { (r : RowValue) × (slice_get rows.old at.0 ≡ Some r) × (r.prefix ≡ p) }
-    requires short { p.len < 32 }
+    requires other { p ≢ host g.now.addr }
     requires worst { (r : RowValue) × (row_of rows.old (host g.now.addr) ≡ Some r) × IsWorst r.pairs g.now.list }
     requires kept { IsSome (kept_of lists.old at.1) }
     requires listed { IsSome (kept_of lists.old g.now.list) }

@@ -14,6 +14,7 @@ use crate::changes::Followed;
 use crate::coming::{arriving, come};
 use crate::entries::Entries;
 use crate::going::{leave, leaving, size_at};
+use crate::index::own_host;
 use crate::leaf::{ready, top_rank};
 use crate::plies::{lowered, own_size, raised};
 use fib_addr::Prefix;
@@ -91,7 +92,7 @@ impl Entries {
         };
         let followed = leave(self.alloc, &mut self.rows, &mut self.lists, at, prefix, new)?;
         self.order.remove(prefix);
-        self.index.forget(prefix, &[], None);
+        self.index.forget(prefix, &[], own_host(prefix));
         self.objects = objects;
         Ok(Some(followed))
     }
@@ -136,7 +137,7 @@ impl Entries {
             new,
             rank: top + 1,
         };
-        self.index.note(prefix, new, None)?;
+        self.index.note(prefix, new, own_host(prefix))?;
         self.order.insert(prefix)?;
         match come(self.alloc, &mut self.rows, &mut self.lists, place, to) {
             Ok(followed) => {
@@ -145,7 +146,7 @@ impl Entries {
             }
             Err(e) => {
                 self.order.remove(prefix);
-                self.index.forget(prefix, &[], None);
+                self.index.forget(prefix, &[], own_host(prefix));
                 Err(e)
             }
         }

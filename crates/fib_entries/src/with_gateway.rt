@@ -17,7 +17,9 @@ use crate::coming::belongs;
 use crate::entries::Entries;
 use crate::gateway::{Gateway, gain, gateway_for};
 use crate::going::size_at;
+use crate::index::own_host;
 use crate::leaf::{is_none, leaf_place, only_list, top_rank};
+use crate::led::are_beside;
 use crate::losing::{lose, spare_for};
 use crate::plies::{lowered, own_size, raised};
 use fib_addr::Prefix;
@@ -42,6 +44,9 @@ impl Entries {
         let Some(place) = belongs(&self.rows, tables, prefix, source, new) else {
             return None;
         };
+        if !are_beside(prefix, new) {
+            return None;
+        }
         let Some(gateway) = gateway_for(&self.rows, &self.lists, &self.order, prefix, new) else {
             return None;
         };
@@ -89,7 +94,7 @@ impl Entries {
             new,
             rank: top + 1,
         };
-        self.index.note(prefix, new, None)?;
+        self.index.note(prefix, new, own_host(prefix))?;
         self.index.note_several(Prefix::host(gateway.addr))?;
         self.order.insert(prefix)?;
         match gain(
@@ -106,7 +111,7 @@ impl Entries {
             }
             Err(e) => {
                 self.order.remove(prefix);
-                self.index.forget(prefix, &[], None);
+                self.index.forget(prefix, &[], own_host(prefix));
                 Err(e)
             }
         }
@@ -136,6 +141,9 @@ impl Entries {
             return None;
         }
         let old = self.lists.content(id);
+        if !are_beside(prefix, old) {
+            return None;
+        }
         let index = &self.index;
         let Some(gateway) = spare_for(&self.rows, &self.lists, &self.order, index, prefix, old)
         else {
@@ -183,7 +191,7 @@ impl Entries {
             &gateway,
         )?;
         self.order.remove(prefix);
-        self.index.forget(prefix, &[], None);
+        self.index.forget(prefix, &[], own_host(prefix));
         self.objects = objects;
         Ok(Some(followed))
     }

@@ -16,7 +16,7 @@ use crate::changes::Followed;
 use crate::coming::belongs;
 use crate::entries::Entries;
 use crate::hosting::{Late, MOST_OF_TWO, come_hosted, greater, insert_both, late_for, remove_both};
-use crate::leaf::{is_none, leaf_place, only_list, top_rank};
+use crate::leaf::{is_none, is_short, leaf_place, only_list, top_rank};
 use crate::parting::{Last, last_for, leave_parting};
 use crate::plies::raised;
 use fib_addr::Prefix;
@@ -25,8 +25,8 @@ use fib_resolve::{FibSource, Path, Tables};
 use std::alloc::AllocError;
 
 impl Entries {
-    /// The place where the prefix's row belongs, and the next hop whose host comes with it, where it comes with the route of that source and
-    /// list. The list is the route's in the tables.
+    /// The place where the row of a prefix shorter than a host belongs, and the next hop whose host comes with it, where it comes with the
+    /// route of that source and list. The list is the route's in the tables.
     fn hosting(
         &self,
         tables: &Tables,
@@ -38,6 +38,9 @@ impl Entries {
         requires clear { IsClear self.now.rows tables.now.neighbors prefix }
         ensures { IfSome result (λ x. IsHosting self.now.rows self.now.lists (map prefix_of self.now.rows) tables.now prefix source x.0 x.1) }
     {
+        if !is_short(prefix) {
+            return None;
+        }
         let Some(place) = belongs(&self.rows, tables, prefix, source, new) else {
             return None;
         };
@@ -103,8 +106,8 @@ impl Entries {
         }
     }
 
-    /// The place of the prefix's row, the number of its list, and the next hop whose host goes with it, where the row goes with the route of
-    /// that source, whose list is then that. The list is the route's in the tables.
+    /// The place of the row of a prefix shorter than a host, the number of its list, and the next hop whose host goes with it, where that row
+    /// goes with the route of that source, whose list is then that. The list is the route's in the tables.
     fn parting(
         &self,
         tables: &Tables,
@@ -117,6 +120,9 @@ impl Entries {
         ensures { IfSome result (λ x. (old : Items PathValue) × IsParting self.now.rows self.now.lists (map prefix_of self.now.rows) tables.now prefix source x.0.0 x.0.1 old x.1) }
     {
         let _tables = tables;
+        if !is_short(prefix) {
+            return None;
+        }
         let Some(place) = leaf_place(&self.rows, prefix, source) else {
             return None;
         };

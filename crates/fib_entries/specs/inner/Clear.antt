@@ -8,6 +8,6 @@ pub record IsNarrower (members : List Prefix) (p q : Prefix) : Type 0 where
   pub longer : p.len < q.len
   pub short : q.len < 32
 
--- the address lies outside the prefix, or in such a member
+-- the address lies outside the prefix, which may be a host and then covers nothing, or in such a member
 abbrev pub IsApart : List Prefix → Prefix → ℕ → Type 0
-IsApart members p a = (contains p a ≡ false) ⊎ ((q : Prefix) × IsNarrower members p q × (contains q a ≡ true))
+IsApart members p a = (contains p a ≡ false) ⊎ ((p.len ≡ 32) ⊎ ((q : Prefix) × IsNarrower members p q × (contains q a ≡ true)))

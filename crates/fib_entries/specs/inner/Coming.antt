@@ -1,5 +1,5 @@
 -- A leaf that comes with its one route. No contract of a public call rests on this.
-use Rattle.std.specs.Prelude.{◌≡◌, ◌≢◌, ◌⊎◌, ◌<◌, ℕ, true, List, [], ◌∷◌, map, Some, slice_get, slice_set}
+use Rattle.std.specs.Prelude.{◌≡◌, ◌≢◌, ◌⊎◌, ℕ, true, List, [], ◌∷◌, map, Some, slice_get, slice_set}
 use Rattle.std.specs.List.{list_all, insert}
 use Rattle.fib_addr.specs.Prefixes.{Prefix, IsPrefix}
 use Rattle.fib_interned.specs.Interned.{AreInterned, Takes}
@@ -9,17 +9,16 @@ use Rattle.fib_resolve.specs.declared.types.FibSource.{FibSource}
 use Rattle.fib_resolve.specs.declared.types.Path.{Path}
 use Rattle.fib_resolve.specs.declared.types.Tables.{Tables}
 use Rattle.fib_entries.specs.Known.{PathKept, prefix_of}
-use Rattle.fib_entries.specs.inner.Leaf.{AreAttached, IsClear, goals_of, is_plain, plain_own, shared_path, moved_at}
+use Rattle.fib_entries.specs.inner.Leaf.{AreAttached, IsClear, goals_of, is_plain, path_beside, plain_own, shared_path, moved_at}
 use Rattle.fib_entries.specs.inner.Plies.{IsGap}
 use Rattle.fib_entries.specs.declared.replace.Own.{Own}
 use Rattle.fib_entries.specs.Rows.{Row}
 use Rattle.fib_entries.specs.declared.changes.Followed.{Followed}
 
--- the prefix has no row and belongs at that place, no host and no neighbor lies in it, and its route is there
+-- the prefix has no row and belongs at that place, it is a host or none and no neighbor lies in it alone, and its route is there
 pub record IsBelonging (rows : List Row) (T : Tables) (p : Prefix) (source : FibSource) (place : ℕ) : Type 0 where
   pub gap : IsGap (map prefix_of rows) place p
   pub prefix : IsPrefix p
-  pub short : p.len < 32
   pub written : (source_rank source ≡ 2) ⊎ (source_rank source ≡ 3)
   pub clear : IsClear rows T.neighbors p
   pub some : paths_at p source T.routes ≢ []
@@ -28,10 +27,10 @@ pub record IsBelonging (rows : List Row) (T : Tables) (p : Prefix) (source : Fib
 pub record IsArriving (rows : List Row) (T : Tables) (p : Prefix) (source : FibSource) (place : ℕ) : Type 0 where
   pub gap : IsGap (map prefix_of rows) place p
   pub prefix : IsPrefix p
-  pub short : p.len < 32
   pub written : (source_rank source ≡ 2) ⊎ (source_rank source ≡ 3)
   pub clear : IsClear rows T.neighbors p
   pub plain : list_all is_plain (paths_at p source T.routes) ≡ true
+  pub beside : list_all (path_beside p) (paths_at p source T.routes) ≡ true
   pub shared : list_all (shared_path rows p) (paths_at p source T.routes) ≡ true
   pub some : paths_at p source T.routes ≢ []
 

@@ -17,7 +17,7 @@ use Rattle.fib_entries.specs.inner.Clear.{IsApart}
 use Rattle.fib_entries.specs.inner.Coming.{IsBelonging, IsPlaced, with_pairs}
 use Rattle.fib_entries.specs.inner.Fields.{Index}
 use Rattle.fib_entries.specs.inner.Hosting.{shared_path_but}
-use Rattle.fib_entries.specs.inner.Leaf.{is_plain, moved_at, plain_own}
+use Rattle.fib_entries.specs.inner.Leaf.{is_plain, moved_at, path_beside, plain_own}
 use Rattle.fib_entries.specs.declared.changes.Followed.{Followed}
 use Rattle.fib_entries.specs.declared.gateway.Gateway.{Gateway}
 use Rattle.fib_entries.specs.Rows.{Row}
@@ -55,6 +55,7 @@ pub record IsGaining (rows : List Row) (lists : List PathKept) (order : List Pre
   pub belongs : IsBelonging rows T p source place
   pub gateway : IsGateway rows lists order p g
   pub plain : list_all is_plain (paths_at p source T.routes) ≡ true
+  pub beside : list_all (path_beside p) (paths_at p source T.routes) ≡ true
   pub shared : list_all (shared_path_but rows p g.addr) (paths_at p source T.routes) ≡ true
   pub hop : Contains (filter_map recursive_of (paths_at p source T.routes)) g.addr
 

@@ -1,5 +1,5 @@
 -- A leaf that goes with its one route. No contract of a public call rests on this.
-use Rattle.std.specs.Prelude.{◌≡◌, ◌⊎◌, ◌<◌, ℕ, true, List, [], ◌∷◌, Some, slice_get}
+use Rattle.std.specs.Prelude.{◌≡◌, ◌⊎◌, ℕ, true, List, [], ◌∷◌, Some, slice_get}
 use Rattle.std.specs.List.{list_all, remove}
 use Rattle.fib_addr.specs.Prefixes.{Prefix, IsPrefix}
 use Rattle.fib_interned.specs.Interned.{AreInterned, Gives}
@@ -9,7 +9,7 @@ use Rattle.fib_resolve.specs.declared.types.FibSource.{FibSource}
 use Rattle.fib_resolve.specs.declared.types.Path.{Path}
 use Rattle.fib_resolve.specs.declared.types.Tables.{Tables}
 use Rattle.fib_entries.specs.Known.{PathKept, content_of}
-use Rattle.fib_entries.specs.inner.Leaf.{AreDetached, IsClear, goals_of, is_plain, shared_path, moved_at}
+use Rattle.fib_entries.specs.inner.Leaf.{AreDetached, IsClear, goals_of, is_plain, path_beside, shared_path, moved_at}
 use Rattle.fib_entries.specs.Rows.{Row}
 use Rattle.fib_entries.specs.declared.changes.Followed.{Followed}
 
@@ -22,10 +22,10 @@ pub record IsLeaving (rows : List Row) (lists : List PathKept) (T : Tables) (p :
   pub none : row.dependants ≡ []
   pub content : content_of lists id ≡ Some old
   pub prefix : IsPrefix p
-  pub short : p.len < 32
   pub written : (source_rank source ≡ 2) ⊎ (source_rank source ≡ 3)
   pub clear : IsClear rows T.neighbors p
   pub plain : list_all is_plain old ≡ true
+  pub beside : list_all (path_beside p) old ≡ true
   pub shared : list_all (shared_path rows p) old ≡ true
   pub gone : paths_at p source T.routes ≡ []
 

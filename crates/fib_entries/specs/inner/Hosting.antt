@@ -71,6 +71,7 @@ pub record IsComing (rows : List Row) (lists : List PathKept) (g : Late) : Type 
 -- the prefix comes with its route, and with it the host of one of the route's next hops, to whose other next hops others lead
 pub record IsHosting (rows : List Row) (lists : List PathKept) (order : List Prefix) (T : Tables) (p : Prefix) (source : FibSource) (place : ℕ) (g : Late) : Type 0 where
   pub belongs : IsBelonging rows T p source place
+  pub short : p.len < 32
   pub late : IsLate rows lists order p g
   pub plain : list_all is_plain (paths_at p source T.routes) ≡ true
   pub shared : list_all (shared_path_but rows p g.addr) (paths_at p source T.routes) ≡ true

@@ -42,14 +42,14 @@ use Rattle.fib_entries.specs.Changes.{AreTouched, AreMoved}
 use Rattle.fib_resolve.specs.Sizes.{size}
 use Rattle.fib_changes.specs.declared.change.Change.TheVariants as changes
 
--- the routes of one prefix and source alone can differ; no entry has an edge to the prefix, each host and each neighbor in it lies in a longer
--- entry too, and each next hop of these routes is one of another entry's list too, or a late one, which no other route has
+-- the routes of one prefix and source alone can differ, and the prefix has pairs of that source alone; no entry has an edge to it, it is a host
+-- or each host and each neighbor in it lies in a longer entry too, and each next hop of these routes is one of another entry's list too, or a late
+-- one, which no other route has and whose host isn't the prefix
 pub record IsLeafEdit (S T : Tables) (p : Prefix) (source : FibSource) (late : List ℕ) : Type 0 where
   pub before : IsSound S
   pub after : IsSound T
   pub differ : Differ (changes.Route p source ∷ []) S T
   pub prefix : IsPrefix p
-  pub short : p.len < 32
   pub real : (q : Prefix) → Contains (entries S) q → IsPrefix q
   pub alone : (a : ℕ) → Contains (entries S) (host a) → IsApart (entries S) p a
   pub far : (n : Neighbor) → Contains T.neighbors n → (n.addr < 2 ^ 32) × IsApart (entries S) p n.addr
@@ -60,6 +60,7 @@ pub record IsLeafEdit (S T : Tables) (p : Prefix) (source : FibSource) (late : L
       → Contains late a ⊎ ((d : Prefix) × (d ≢ p) × Contains (targets S d) (host a))
   pub late_out : (a : ℕ) → Contains late a → (a < 2 ^ 32) × IsApart (entries S) p a
   pub late_alone : (a : ℕ) → Contains late a → (r : Route) → is_route p source r ≡ false → Contains S.routes r → Contains (recursive_hops r) a → ⊥
+  pub late_other : (a : ℕ) → Contains late a → p ≢ host a
 
 -- no other pair is at the host of a late next hop, and its cover doesn't attach it
 pub record AreWhole (S : Tables) (late : List ℕ) : Type 0 where
@@ -107,7 +108,7 @@ goal_of kinds.Cover = []
 abbrev pub goals_of : List Path → List Prefix
 goals_of paths = flat_map (λ q. goal_of q.kind) paths
 
--- the marks of plain paths of a prefix shorter than a host that aren't looped
+-- the marks of plain paths that aren't looped, none of which ends at the prefix's own host
 abbrev pub plain_aim : Tables → PathKind → Aim
 plain_aim T kinds.Drop = aims.Ends answers.Drop
 plain_aim T kinds.Local = aims.Ends answers.Receive
@@ -183,7 +184,19 @@ shared_kind rows p kinds.Cover = true
 abbrev pub shared_path : List Row → Prefix → Path → Bool
 shared_path rows p q = shared_kind rows p q.kind
 
--- each host's row and each neighbor in the prefix lies in a longer row's too
+-- a path of that kind ends elsewhere than at the prefix's own host
+abbrev pub ends_beside : Prefix → PathKind → Bool
+ends_beside p kinds.Drop = true
+ends_beside p kinds.Local = true
+ends_beside p (kinds.Attached i) = not (p.len == 32)
+ends_beside p (kinds.Hop a i) = not (same_prefix p (host a))
+ends_beside p (kinds.Recursive a) = true
+ends_beside p kinds.Cover = true
+
+abbrev pub path_beside : Prefix → Path → Bool
+path_beside p q = ends_beside p q.kind
+
+-- each host's row and each neighbor in the prefix lies in a longer row's too, or the prefix is a host
 pub record IsClear (rows : List Row) (neighbors : List Neighbor) (p : Prefix) : Type 0 where
   pub hosts : (r : Row) → Contains rows r → r.prefix.len ≡ 32 → IsApart (map prefix_of rows) p r.prefix.bits
   pub far : (n : Neighbor) → Contains neighbors n → (n.addr < 2 ^ 32) × IsApart (map prefix_of rows) p n.addr
@@ -195,7 +208,6 @@ pub record IsLeafAt (rows : List Row) (place : ℕ) (p : Prefix) (source : FibSo
   pub own : row.prefix ≡ p
   pub none : row.dependants ≡ []
   pub prefix : IsPrefix p
-  pub short : p.len < 32
   pub written : (source_rank source ≡ 2) ⊎ (source_rank source ≡ 3)
 
 -- the row and the lists are such that the change of the route's list touches that row alone

@@ -1,7 +1,7 @@
 -- The change of the best route's list of a prefix that others may lead to. No contract of a public call rests on this.
-use Rattle.std.specs.Prelude.{◌≡◌, ◌≢◌, ◌⊎◌, ◌≤◌, ◌<◌, ◌^◌, ◌==◌, not, ℕ, Bool, true, false, filter, filter_map, nat_lt, List, [], ◌∷◌, Contains, Option, Some, None, slice_get}
+use Rattle.std.specs.Prelude.{◌≡◌, ◌≢◌, ◌⊎◌, ◌≤◌, ◌<◌, ◌^◌, not, ℕ, Bool, true, false, filter, filter_map, nat_lt, List, [], ◌∷◌, Contains, Option, Some, None, slice_get}
 use Rattle.std.specs.List.{list_any, list_all}
-use Rattle.fib_addr.specs.Prefixes.{Prefix, IsPrefix, contains, host, same_prefix}
+use Rattle.fib_addr.specs.Prefixes.{Prefix, IsPrefix, contains, host}
 use Rattle.fib_resolve.specs.Edits.{paths_at}
 use Rattle.fib_resolve.specs.Forwarding.{is_attached_list}
 use Rattle.fib_resolve.specs.Keys.{same_source, source_rank}
@@ -22,7 +22,7 @@ use Rattle.fib_changes.specs.Sources.{all_hops}
 use Rattle.fib_changes.specs.declared.change.Change.TheVariants as changes
 use Rattle.fib_entries.specs.Known.{PathKept, content_of}
 use Rattle.fib_entries.specs.inner.Hosting.{IsLate, shared_path_but}
-use Rattle.fib_entries.specs.inner.Leaf.{is_plain, shared_path}
+use Rattle.fib_entries.specs.inner.Leaf.{is_plain, path_beside, shared_path}
 use Rattle.fib_entries.specs.inner.Parting.{IsLast, path_at}
 use Rattle.fib_entries.specs.declared.hosting.Late.{Late}
 use Rattle.fib_entries.specs.declared.parting.Last.{Last}
@@ -67,18 +67,6 @@ pub record IsTurn (S T : Tables) (come go : List ℕ) : Type 0 where
   pub comes : (a : ℕ) → Contains come a → Contains (all_hops T) a
   pub there : (a : ℕ) → Contains go a → Contains (all_hops S) a
   pub goes : (a : ℕ) → Contains go a → Contains (all_hops T) a → ⊥
-
--- a path of that kind ends elsewhere than at the prefix's own host
-abbrev pub ends_beside : Prefix → PathKind → Bool
-ends_beside p kinds.Drop = true
-ends_beside p kinds.Local = true
-ends_beside p (kinds.Attached i) = not (p.len == 32)
-ends_beside p (kinds.Hop a i) = not (same_prefix p (host a))
-ends_beside p (kinds.Recursive a) = true
-ends_beside p kinds.Cover = true
-
-abbrev pub path_beside : Prefix → Path → Bool
-path_beside p q = ends_beside p q.kind
 
 -- the host of a late next hop comes, that of one of these paths, and the entry of each other next hop is another entry's too; without one,
 -- that is so of each

@@ -18,7 +18,7 @@ use Rattle.fib_entries.specs.inner.Fields.{has_several}
 use Rattle.fib_entries.specs.inner.Gateway.{is_better}
 use Rattle.fib_entries.specs.inner.Going.{IsWithdrawn}
 use Rattle.fib_entries.specs.inner.Hosting.{shared_path_but}
-use Rattle.fib_entries.specs.inner.Leaf.{IsClear, goals_of, is_plain, moved_at}
+use Rattle.fib_entries.specs.inner.Leaf.{IsClear, goals_of, is_plain, moved_at, path_beside}
 use Rattle.fib_entries.specs.inner.Parting.{IsNotIn}
 use Rattle.fib_entries.specs.declared.changes.Followed.{Followed}
 use Rattle.fib_entries.specs.declared.gateway.Gateway.{Gateway}
@@ -54,10 +54,10 @@ pub record IsLosing (rows : List Row) (lists : List PathKept) (T : Tables) (p : 
   pub none : row.dependants ≡ []
   pub content : content_of lists id ≡ Some old
   pub prefix : IsPrefix p
-  pub short : p.len < 32
   pub written : (source_rank source ≡ 2) ⊎ (source_rank source ≡ 3)
   pub clear : IsClear rows T.neighbors p
   pub plain : list_all is_plain old ≡ true
+  pub beside : list_all (path_beside p) old ≡ true
   pub shared : list_all (shared_path_but rows p g.addr) old ≡ true
   pub hop : Contains (filter_map recursive_of old) g.addr
   pub spare : IsSpare rows lists p g

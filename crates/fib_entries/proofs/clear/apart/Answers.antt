@@ -4,4 +4,4 @@ use Rattle.fib_entries.proofs.clear.apart.Goals as goal
 pub returns-clause-apart : goal.returns-clause-apart
 returns-clause-apart c =
     let match = c.in_ok-cover.ensures.0 in
-    inr (c.in_ok-cover.cover, record { member = match.member; longer = omega arith; short = match.short }, match.matches)
+    inr (inr (c.in_ok-cover.cover, record { member = match.member; longer = omega arith; short = match.short }, match.matches))

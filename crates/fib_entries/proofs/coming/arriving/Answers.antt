@@ -1,7 +1,7 @@
-use Rattle.std.proofs.Common.{◌≡◌, true, List, subst}
+use Rattle.std.proofs.Common.{◌≡◌, true, List, sym, ◌∙◌, subst}
 use Rattle.std.specs.List.{list_all}
 use Rattle.fib_resolve.specs.declared.types.Path.{Path}
-use Rattle.fib_entries.specs.inner.Leaf.{is_plain, shared_path}
+use Rattle.fib_entries.specs.inner.Leaf.{is_plain, path_beside, shared_path}
 use Rattle.fib_entries.proofs.coming.arriving.Goals as goal
 
 pub returns-clause-arriving : goal.returns-clause-arriving
@@ -12,9 +12,9 @@ returns-clause-arriving c =
     record {
       gap = b.gap;
       prefix = b.prefix;
-      short = b.short;
       written = b.written;
       clear = b.clear;
+      beside = subst (λ (l : List Path). list_all (path_beside c.args.p) l ≡ true) list (sym c.are_beside.ensures ∙ c.if-not-are_beside.false);
       plain = subst (λ (l : List Path). list_all is_plain l ≡ true) list new.0;
       shared = subst (λ (l : List Path). list_all (shared_path c.args.rows.now c.args.p) l ≡ true) list new.1;
       some = b.some;

@@ -7,8 +7,7 @@ returns-clause-belongs c =
     let list = c.requires.list in
     record {
       gap = c.in-Some.ensures.gap;
-      prefix = c.is_short.ensures.prefix;
-      short = c.is_short.ensures.short c.if-not-is_short.false;
+      prefix = c.len-len.ensures.prefix;
       written = c.is_written.ensures c.if-not-is_written.false;
       clear = c.requires.clear;
       some = λ none. false≢true (sym c.if-is_none.false ∙ c.is_none.ensures.1 (list ∙ none));

@@ -6,7 +6,6 @@ use Rattle.fib_entries.specs.declared.replace.Own.{Own}
 use Rattle.fib_entries.specs.inner.Coming.{IsPlaced}
 use Rattle.fib_entries.proofs.Arriving.{ordered_came, with_it}
 use Rattle.fib_entries.proofs.Gating.{placed_was, takes_stays}
-use Rattle.fib_entries.proofs.Housing.{not_host}
 use Rattle.fib_entries.proofs.gateway.gain.Goals as goal
 
 pub join-requires-clause-ascending : goal.join-requires-clause-ascending
@@ -21,7 +20,7 @@ join-requires-clause-there c =
 pub join-requires-clause-pairs : goal.join-requires-clause-pairs
 join-requires-clause-pairs c = λ r at.
     let was = placed_was c.args.rows.now c.place_row.new.rows c.args.lists.now c.place_row.new.lists c.args.place c.args.to.prefix c.args.to.new.now c.in_ok-own.own c.in_ok-place_row.ensures.done c.requires.ascending c.requires.gap
-    (host c.args.g.addr) (not_host c.args.to.prefix c.args.g.addr c.requires.short) r at in
+    (host c.args.g.addr) c.requires.other r at in
     c.in_ok-pairs.ensures was.0 was.1 ∙ ap (λ (l : List (FibSource × ℕ)). l ++ (sources.RecursiveResolution, c.args.g.list) ∷ []) (sym was.2)
 
 pub returns-clause-done : goal.returns-clause-done

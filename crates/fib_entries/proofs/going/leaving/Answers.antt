@@ -7,8 +7,8 @@ use Rattle.fib_resolve.specs.declared.types.FibSource.{FibSource}
 use Rattle.fib_entries.specs.Rows.{Row}
 use Rattle.fib_entries.proofs.going.leaving.Goals as goal
 
-pub content-requires : goal.content-requires
-content-requires c =
+pub content-old-requires : goal.content-old-requires
+content-old-requires c =
     let at = slice_get_read c.args.rows.now _ c.in-Some.place c.index.result.now refl c.in-Some.ensures.inside c.index.ensures in
     let own = c.in-Some-only_list.ensures in
     c.requires.held c.index.result.now (c.args.source, c.in-Some-only_list.id) (contains_at c.args.rows.now c.in-Some.place c.index.result.now at)
@@ -20,19 +20,19 @@ returns-clause-leaving c =
     let m = c.in-Some.ensures.leaf in
     let list = c.requires.list in
     let old = c.suits.ensures c.if-not-suits.false in (
-      c.content.result.now,
+      c.content-old.result.now,
       record {
         row = m.row;
         at = m.at;
         own = m.own;
         pairs = ap (λ (z : Row). z.pairs) (some_is m.row c.index.result.now (sym m.at ∙ at)) ∙ c.in-Some-only_list.ensures;
         none = m.none;
-        content = c.content.ensures;
+        content = c.content-old.ensures;
         prefix = m.prefix;
-        short = m.short;
         written = m.written;
         clear = c.requires.clear;
         plain = old.0;
+        beside = sym c.are_beside.ensures ∙ c.if-not-are_beside.false;
         shared = old.1;
         gone = sym list ∙ c.is_none.ensures.0 c.if-not-is_none.false;
       },

@@ -11,8 +11,7 @@ returns-clause-leaf c =
       row = r.0;
       at = r.1;
       own = sym (row_there c.args.rows.now c.args.p r.0 (sym c.in-Some.ensures.value ∙ r.1)).1;
-      prefix = c.is_short.ensures.prefix;
-      short = c.is_short.ensures.short c.if-not-is_short.false;
+      prefix = c.len-len.ensures.prefix;
       written = c.is_written.ensures c.if-not-is_written.false;
       none = c.is_leaf.ensures c.if-not-is_leaf.false r.0 r.1;
     }

@@ -10,7 +10,6 @@ use Rattle.fib_entries.specs.Known.{prefix_of}
 use Rattle.fib_entries.specs.Rows.{Row}
 use Rattle.fib_entries.specs.inner.Gateway.{is_better}
 use Rattle.fib_entries.specs.inner.Leaf.{goals_of, moved_at}
-use Rattle.fib_entries.proofs.Housing.{not_host}
 use Rattle.fib_entries.proofs.Placing.{some_list}
 use Rattle.fib_entries.proofs.SpareFields.{fewer_is, withdrawn_was}
 use Rattle.fib_entries.proofs.Standing.{row_there}
@@ -30,7 +29,7 @@ unjoin-requires-clause-there c =
     let w = c.requires.worst in
     let t = row_there c.args.rows.now (host c.args.g.now.addr) w.0 w.1 in
     (but_for c.args.rows.now c.withdraw.new.rows c.args.lists.now c.withdraw.new.lists c.args.at.0 c.args.p c.args.at.1 (goals_of l.0) [] (c.withdraw.ensures l.0 l.1) c.requires.ascending r.0 r.1 r.2 (host c.args.g.now.addr)).1
-    (subst (Contains (map prefix_of c.args.rows.now)) (sym t.1) (map_in prefix_of c.args.rows.now w.0 t.0), not_host c.args.p c.args.g.now.addr c.requires.short)
+    (subst (Contains (map prefix_of c.args.rows.now)) (sym t.1) (map_in prefix_of c.args.rows.now w.0 t.0), c.requires.other)
 
 pub unjoin-requires-clause-pairs : goal.unjoin-requires-clause-pairs
 unjoin-requires-clause-pairs c = λ s at.

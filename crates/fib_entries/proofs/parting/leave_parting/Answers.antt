@@ -4,7 +4,7 @@ use Rattle.fib_addr.specs.Prefixes.{Prefix, host}
 use Rattle.fib_entries.specs.Known.{rank_of}
 use Rattle.fib_entries.specs.declared.changes.Moved.{Moved}
 use Rattle.fib_entries.specs.inner.Leaf.{goals_of}
-use Rattle.fib_entries.proofs.Housing.{not_host}
+use Rattle.fib_entries.proofs.Leafing.{short_other}
 use Rattle.fib_entries.proofs.Placing.{some_list}
 use Rattle.fib_entries.proofs.Withdrawing.{ordered_gone, but_for}
 use Rattle.fib_entries.proofs.parting.leave_parting.Goals as goal
@@ -20,7 +20,7 @@ part-requires-clause-there c =
     let l = some_list c.args.lists.now c.args.at.1 c.requires.kept in
     let r = c.requires.row in
     (but_for c.args.rows.now c.withdraw.new.rows c.args.lists.now c.withdraw.new.lists c.args.at.0 c.args.p c.args.at.1 (goals_of l.0) [] (c.withdraw.ensures l.0 l.1) c.requires.ascending r.0 r.1 r.2 (host c.args.g.now.addr)).1
-    (c.requires.there, not_host c.args.p c.args.g.now.addr c.requires.short)
+    (c.requires.there, short_other c.args.p c.requires.short c.args.g.now.addr)
 
 pub part-requires-clause-kept : goal.part-requires-clause-kept
 part-requires-clause-kept c =

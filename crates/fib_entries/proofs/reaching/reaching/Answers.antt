@@ -10,8 +10,8 @@ use Rattle.fib_resolve.specs.declared.types.FibSource.{FibSource}
 use Rattle.fib_resolve.specs.declared.types.Neighbor.{Neighbor}
 use Rattle.fib_resolve.specs.declared.types.Path.{Path}
 use Rattle.fib_entries.specs.Rows.{Row}
-use Rattle.fib_entries.specs.inner.Leaf.{is_plain}
-use Rattle.fib_entries.specs.inner.Led.{but_hops, path_beside, shared_gone, shared_late}
+use Rattle.fib_entries.specs.inner.Leaf.{is_plain, path_beside}
+use Rattle.fib_entries.specs.inner.Led.{but_hops, shared_gone, shared_late}
 use Rattle.fib_entries.proofs.LedRows.{read_row}
 use Rattle.fib_entries.proofs.reaching.reaching.Goals as goal
 

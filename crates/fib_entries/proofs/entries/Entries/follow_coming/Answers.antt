@@ -35,15 +35,15 @@ invariant_of-self c = fields_noted c.self.inside.rows c.self.inside.rows c.self.
 
 pub invariant_of-self-in_err-insert : goal.invariant_of-self-in_err-insert
 invariant_of-self-in_err-insert c =
-    fields_noted c.self.inside.rows c.self.inside.rows c.self.inside.lists c.self.inside.lists c.self.inside.order c.insert.new.self c.self.inside.index c.note.new.self c.args.prefix c.args.new.now None c.self.invariant c.in_ok-note.ensures.ok
+    fields_noted c.self.inside.rows c.self.inside.rows c.self.inside.lists c.self.inside.lists c.self.inside.order c.insert.new.self c.self.inside.index c.note.new.self c.args.prefix c.args.new.now c.own_host.result c.self.invariant c.in_ok-note.ensures.ok
     refl refl c.in_err-insert.ensures.err
 
 pub invariant_of-self-in-Ok : goal.invariant_of-self-in-Ok
 invariant_of-self-in-Ok c =
     come_fields c.self.inside.rows c.come.new.rows c.self.inside.lists c.come.new.lists c.self.inside.order c.insert.new.self c.self.inside.index c.note.new.self c.args.tables.now c.args.prefix c.args.source c.in-Some.place c.args.new.now (c.top_rank-top.result + 1) c.in-Ok.followed c.self.invariant
-    (c.in-Some.ensures.arriving) c.in-Ok.ensures.done c.in_ok-note.ensures.ok c.insert.ensures.ordered c.in_ok-insert.ensures.members
+    (c.in-Some.ensures.arriving) c.in-Ok.ensures.done c.own_host.result c.own_host.ensures.host c.in_ok-note.ensures.ok c.insert.ensures.ordered c.in_ok-insert.ensures.members
 
 pub invariant_of-self-in-Err : goal.invariant_of-self-in-Err
 invariant_of-self-in-Err c =
     as_before c.self.inside.rows c.come.new.rows c.self.inside.lists c.come.new.lists c.self.inside.order c.insert.new.self c.remove.new.self c.self.inside.index c.note.new.self c.forget.new.self c.args.tables.now c.args.prefix c.args.source c.in-Some.place c.args.new.now c.self.invariant
-    (c.in-Some.ensures.arriving) c.in_ok-note.ensures.ok c.forget.ensures c.in-Err.ensures.rows c.in-Err.ensures.lists c.remove.ensures.ordered c.in_ok-insert.ensures.members c.remove.ensures.members
+    (c.in-Some.ensures.arriving) c.own_host.result c.own_host-in-Err.result c.own_host-in-Err.ensures.own c.in_ok-note.ensures.ok c.forget.ensures c.in-Err.ensures.rows c.in-Err.ensures.lists c.remove.ensures.ordered c.in_ok-insert.ensures.members c.remove.ensures.members

@@ -22,7 +22,7 @@ pub invariant_of-self-2 : goal.invariant_of-self-2
 invariant_of-self-2 c =
     left_fields c.self.inside.rows c.leave.new.rows c.self.inside.lists c.leave.new.lists c.self.inside.order c.remove.new.self c.self.inside.index c.forget.new.self c.args.tables.now c.args.prefix c.args.source c.in-Some.at.0 c.in-Some.at.1 c.in-Some.ensures.leaving.0
     c.args.new.now c.in_ok-followed.followed c.self.invariant
-    (c.in-Some.ensures.leaving.1) c.in_ok-followed.ensures.done c.forget.ensures
+    (c.in-Some.ensures.leaving.1) c.in_ok-followed.ensures.done c.own_host.result c.own_host.ensures.own c.forget.ensures
     c.remove.ensures.ordered c.remove.ensures.members
 
 pub returns-clause-followed : goal.returns-clause-followed

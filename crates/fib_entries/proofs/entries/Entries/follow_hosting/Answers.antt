@@ -33,7 +33,7 @@ pub invariant_of-self-in-Ok : goal.invariant_of-self-in-Ok
 invariant_of-self-in-Ok c =
     let m = subst (λ (v : Known). IsHosting v.rows v.lists (map prefix_of v.rows) c.args.tables.now c.args.prefix c.args.source c.in-Some.place c.in-Some.late) (sym c.self.view_is) c.in-Some.ensures in
     fields_both c.self.inside.rows c.come_hosted.new.rows c.self.inside.lists c.come_hosted.new.lists c.self.inside.order c.insert_both.new.order c.self.inside.index c.note.new.self c.args.tables.now c.in-Some.late c.args.prefix c.args.source c.args.new.now (c.greater-top.result + 1)
-    c.in-Ok.size c.in-Ok.followed c.self.invariant m.late.gap m.belongs.short c.in-Ok.ensures.done
+    c.in-Ok.size c.in-Ok.followed c.self.invariant m.late.gap m.short c.in-Ok.ensures.done
     (subst (λ (q : Prefix). IsNoted c.self.inside.index c.note.new.self c.args.prefix c.args.new.now (Some q)) c.host-host.ensures c.in_ok-note.ensures.ok) c.insert_both.ensures.ordered
     (subst (λ (q : Prefix). (e : Prefix) → Contains c.insert_both.new.order e ↔ (Contains c.self.inside.order e ⊎ (e ≡ q)) ⊎ (e ≡ c.args.prefix)) c.host-host.ensures c.in_ok-insert_both.ensures.members)
 

@@ -8,7 +8,7 @@ use Rattle.fib_entries.specs.inner.Leaf.{IsFollowed}
 use Rattle.fib_entries.specs.inner.Losing.{IsLosing}
 use Rattle.fib_entries.specs.inner.Plies.{own_size, entry_at, entry_before}
 use Rattle.fib_entries.proofs.Following.{known}
-use Rattle.fib_entries.proofs.Lost.{followed_lost}
+use Rattle.fib_entries.proofs.Lost.{followed_lost, spare_other}
 use Rattle.fib_entries.proofs.Naming.{some_content}
 use Rattle.fib_entries.proofs.PartRows.{row_by}
 use Rattle.fib_entries.proofs.SpareFields.{fields_lost}
@@ -19,6 +19,11 @@ pub lose-requires-clause-row : goal.lose-requires-clause-row
 lose-requires-clause-row c =
     let m = subst (λ (v : Known). IsLosing v.rows v.lists c.args.tables.now c.args.prefix c.args.source c.in-Some.at.0 c.in-Some.at.1 c.in-Some.ensures.0 c.in-Some.gateway) (sym c.self.view_is) c.in-Some.ensures.1 in
     (m.row, m.at, m.own)
+
+pub lose-requires-clause-other : goal.lose-requires-clause-other
+lose-requires-clause-other c =
+    let m = subst (λ (v : Known). IsLosing v.rows v.lists c.args.tables.now c.args.prefix c.args.source c.in-Some.at.0 c.in-Some.at.1 c.in-Some.ensures.0 c.in-Some.gateway) (sym c.self.view_is) c.in-Some.ensures.1 in
+    spare_other c.self.inside.rows c.self.inside.lists c.args.tables.now c.args.prefix c.args.source c.in-Some.at.0 c.in-Some.at.1 c.in-Some.ensures.0 c.in-Some.gateway c.self.invariant.ordered m
 
 pub lose-requires-clause-worst : goal.lose-requires-clause-worst
 lose-requires-clause-worst c =
@@ -40,7 +45,7 @@ invariant_of-self-2 c =
     let old = c.in-Some.ensures.0 in
     let m = subst (λ (v : Known). IsLosing v.rows v.lists c.args.tables.now c.args.prefix c.args.source c.in-Some.at.0 c.in-Some.at.1 old c.in-Some.gateway) (sym c.self.view_is) c.in-Some.ensures.1 in
     fields_lost c.self.inside.rows c.lose.new.rows c.self.inside.lists c.lose.new.lists c.self.inside.order c.remove.new.self c.self.inside.index c.forget.new.self c.args.tables.now c.args.prefix c.args.source c.in-Some.at.0 c.in-Some.at.1 old
-    c.in-Some.gateway c.in_ok-followed.followed c.self.invariant m (c.in_ok-followed.ensures.done old m.content) c.forget.ensures c.remove.ensures.ordered c.remove.ensures.members
+    c.in-Some.gateway c.in_ok-followed.followed c.self.invariant m (c.in_ok-followed.ensures.done old m.content) c.own_host.result c.own_host.ensures.own c.forget.ensures c.remove.ensures.ordered c.remove.ensures.members
 
 pub returns-clause-followed : goal.returns-clause-followed
 returns-clause-followed c =
