@@ -132,7 +132,7 @@ pub record IsBelow (U : Tables) (p : Prefix) (source : FibSource) (list : List P
   pub worse : (x : Pair) → Contains (pairs U) x → p ≡ x.prefix → source_rank source < source_rank x.source
 
 -- a host isn't so short
-no_host : (p : Prefix) (a : ℕ) → p.len < 32 → p ≡ host a → ⊥
+pub no_host : (p : Prefix) (a : ℕ) → p.len < 32 → p ≡ host a → ⊥
 no_host p a lt is = (let e = ap (λ z. z.len) is in omega (arith, lt, e))
 
 module _ (U : Tables) (p : Prefix) (source : FibSource) (list : List Path) (b : IsBelow U p source list) where

@@ -97,5 +97,8 @@ pub mod HopRows
 pub mod HopFields
 pub mod Doubling
 pub mod Relent
+pub mod Doubled
 pub mod Overlaying
 pub mod Overtaking
+pub mod Uncovering
+pub mod Baring

@@ -4,23 +4,24 @@ use Rattle.std.specs.Prelude.{Contains}
 use Rattle.std.specs.Set.{is_member}
 use Rattle.fib_reach.specs.Walks.{AllDiffer}
 use Rattle.fib_addr.specs.Prefixes.{Prefix, host, same_prefix}
-use Rattle.fib_resolve.specs.Edits.{paths_at}
+use Rattle.fib_resolve.specs.Edits.{paths_at, with_routes}
 use Rattle.fib_resolve.specs.Loops.{targets}
 use Rattle.fib_resolve.specs.Sizes.{size}
 use Rattle.fib_resolve.specs.Tables.{IsSound}
 use Rattle.fib_resolve.specs.declared.types.FibSource.{FibSource}
 use Rattle.fib_resolve.specs.declared.types.Path.{Path}
+use Rattle.fib_resolve.specs.declared.types.Route.{Route}
 use Rattle.fib_resolve.specs.declared.types.Tables.{Tables}
 use Rattle.fib_changes.specs.Differ.{Differ}
 use Rattle.fib_changes.specs.declared.change.Change.TheVariants as changes
 use Rattle.fib_interned.specs.Interned.{AreInterned}
 use Rattle.fib_interned.proofs.Finding.{none_some, some_is}
-use Rattle.fib_entries.specs.Known.{Known, StandsFor, content_of, prefix_of}
+use Rattle.fib_entries.specs.Known.{Known, PathKept, StandsFor, content_of, prefix_of}
 use Rattle.fib_entries.specs.inner.Course.{IsCourse, made_of}
 use Rattle.fib_entries.specs.inner.Leaf.{IsFollowed}
 use Rattle.fib_entries.specs.inner.Led.{IsReaching}
 use Rattle.fib_entries.specs.inner.Looping.{AreLoops, AreReached, next_with}
-use Rattle.fib_entries.specs.inner.Reaching.{HasReached, IsRisenKept, IsPut, looped_own, turned_hosts}
+use Rattle.fib_entries.specs.inner.Reaching.{HasCover, HasReached, IsRisenKept, IsPut, looped_own, turned_hosts}
 use Rattle.fib_entries.specs.Rows.{Row}
 use Rattle.fib_entries.specs.declared.changes.Followed.{Followed}
 use Rattle.fib_entries.specs.declared.hosting.Late.{Late}
@@ -28,6 +29,7 @@ use Rattle.fib_entries.specs.declared.parting.Last.{Last}
 use Rattle.fib_entries.specs.declared.reaching.Course.{Course}
 use Rattle.fib_entries.specs.declared.replace.Own.{Own}
 use Rattle.fib_entries.proofs.Anew.{filter_differ}
+use Rattle.fib_entries.proofs.Leafing.{is_it}
 use Rattle.fib_entries.proofs.LedReach.{reach_host_late, reach_is}
 use Rattle.fib_entries.proofs.Reached.{reached_followed, reached_names}
 use Rattle.fib_entries.proofs.ReachSizes.{objects_turned, turned_size}
@@ -41,6 +43,11 @@ covered : (v : Known) (S T : Tables) (p : Prefix) (source : FibSource) (place id
 covered v S T p source place id old None _ k m differ after g is = absurd (none_some g is)
 covered v S T p source place id old (Some y) gone k m differ after g is = subst (λ (z : Late). (r : Row) × (slice_get v.rows z.cover ≡ Some r) × (z.rank ≡ r.rank + 1) × (targets T (host z.addr) ≡ r.prefix ∷ [])) (some_is y g is)
     (m.hops.1.cover, m.hops.1.at, m.hops.1.rank, reach_host_late v S T p source place id old y gone k m differ after)
+
+-- that cover's row is there
+pub reaching_cover : (rows : List Row) (lists : List PathKept) (order : List Prefix) (T : Tables) (p : Prefix) (source : FibSource) (place id : ℕ) (old : List Path) (late : Option Late) (gone : Option Last) → IsReaching rows lists order T p source place id old late gone → HasCover rows late
+reaching_cover rows lists order T p source place id old None _ m g is = absurd (none_some g is)
+reaching_cover rows lists order T p source place id old (Some y) _ m g is = subst (λ (z : Late). (r : Row) × (slice_get rows z.cover ≡ Some r)) (some_is y g is) (m.hops.1.cover, m.hops.1.at)
 
 -- what comes of it is right
 pub followed_reached : (v w : Known) (T : Tables) (p : Prefix) (source : FibSource) (place id : ℕ) (old new : List Path) (rank most : ℕ) (late : Option Late) (gone : Option Last) (made : ℕ) (c : Course) (f : Followed)
@@ -72,3 +79,26 @@ followed_reached v w T p source place id old new rank most late gone made c f m 
         reached_followed v w S T p source place id old late gone k m differ after ways.coming x ways.seen reached q.edges loops q.few among put.replaced.new_id r.out w.lists set sizes.0 c.raised r.ranked refl
         (subst (λ l. IsRisenKept v.rows p l q.edges late c.raised) list q.risen) q.gone_still q.grown (covered v S T p source place id old late gone k m differ after) most f (r.touched ∙ ap (λ l. p ∷ turned_hosts late gone ++ l) q.again) r.moved
         (subst AllDiffer (sym ways.few_are) (filter_differ (λ z. not (is_member same_prefix (turned_hosts late gone) z)) ways.seen ways.once)) (λ e. other (m.content ∙ ap Some (e ∙ sym list))) sizes.1
+
+-- the route with that list, and no other
+abbrev pub lone : Prefix → FibSource → List Path → List Route
+lone p source paths = record { prefix = p; source = source; paths = paths } ∷ []
+
+pub lone_list : (p : Prefix) (source : FibSource) (paths : List Path) → paths ≡ paths_at p source (lone p source paths)
+lone_list p source paths = sym (rw (is_it p source (record { prefix = p; source = source; paths = paths }) refl refl) refl)
+
+-- what comes of the list is the same in tables with other routes
+abbrev pub course_beside : (rows : List Row) (T : Tables) (routes : List Route) (p : Prefix) (source : FibSource) (old new : List Path) (rank : ℕ) (late : Option Late) (gone : Option Last) (c : Course) → IsCourse rows T p source old new rank late gone c → IsCourse rows (with_routes T routes) p source old new rank late gone c
+course_beside rows T routes p source old new rank late _ c q = record {
+  few = q.few;
+  edges = q.edges;
+  ways = q.ways;
+  own = q.own;
+  late_is = q.late_is;
+  gone_is = q.gone_is;
+  gone_still = q.gone_still;
+  risen = q.risen;
+  relooped = q.relooped;
+  grown = q.grown;
+  again = q.again;
+}

@@ -23,3 +23,4 @@ pub mod Near
 pub mod Hop
 pub mod Clear
 pub mod Above
+pub mod Under

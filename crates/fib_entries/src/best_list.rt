@@ -1,15 +1,17 @@
 // The list of a prefix's best route, replaced whatever leads to the prefix.
-ghost use Rattle.std.specs.Prelude.{◌∷◌, ◌-◌, ◌^◌, IfNone, OnErr, OnOk, ◌≡◌, ◌<◌, ◌≤◌, IfOk, IfSome, [], map, List as Items};
-ghost use Rattle.fib_resolve.specs.Edits.{paths_at};
+ghost use Rattle.std.specs.Prelude.{◌∷◌, ◌-◌, ◌^◌, Contains, IfNone, OnErr, OnOk, ◌≡◌, ◌<◌, ◌≤◌, IfOk, IfSome, [], map, nat_lt, true, List as Items};
+ghost use Rattle.std.specs.List.{list_all};
+ghost use Rattle.fib_resolve.specs.Edits.{paths_at, with_routes};
 ghost use Rattle.fib_resolve.specs.Tables.{IsSound};
 ghost use Rattle.fib_resolve.specs.declared.types.Tables.{Tables as TablesValue};
 ghost use Rattle.fib_entries.specs.Known.{StandsFor, prefix_of};
 ghost use Rattle.fib_resolve.specs.declared.types.Path.{Path as PathValue};
+ghost use Rattle.fib_resolve.specs.declared.types.Route.{Route as RouteValue};
 ghost use Rattle.fib_paths.specs.PathLists.{IsUsedLess};
 ghost use Rattle.fib_entries.specs.inner.Course.{IsCourse};
 ghost use Rattle.fib_entries.specs.inner.Led.{IsReaching};
 ghost use Rattle.fib_entries.specs.inner.Reaching.{HasReached};
-ghost use Rattle.fib_entries.specs.inner.Leaf.{IsFollowed};
+ghost use Rattle.fib_entries.specs.inner.Leaf.{IsFollowed, is_plain};
 ghost use Rattle.fib_changes.specs.Differ.{Differ};
 ghost use Rattle.fib_changes.specs.declared.change.Change.TheVariants as changes;
 
@@ -43,6 +45,26 @@ impl Entries {
         requires most { most < 2 ^ 32 - 1 }
         ensures followed { IfOk result (λ o. IfSome o (λ f. (S : TablesValue) → StandsFor self.old S →
             Differ (changes.Route prefix source ∷ []) S tables.now → IsFollowed self.old self.new S tables.now most f)) }
+        ensures none { IfOk result (λ o. IfNone o (self.new ≡ self.old)) }
+        ensures err { OnErr result (self.new ≡ self.old) }
+    {
+        self.replace_best(tables, prefix, source, new, most)
+    }
+
+    /// The same where the list is the route's in tables that are like these but for routes.
+    pub(crate) fn replace_best(
+        &mut self,
+        tables: &Tables,
+        prefix: Prefix,
+        source: FibSource,
+        new: &[Path],
+        most: u32,
+    ) -> Result<Option<Followed>, AllocError>
+        requires most { most < 2 ^ 32 - 1 }
+        ensures followed { IfOk result (λ o. IfSome o (λ f. (S : TablesValue) (routes : Items RouteValue) → StandsFor self.old S →
+            IsSound (with_routes tables.now routes) → new.now ≡ paths_at prefix source routes → Differ (changes.Route prefix source ∷ []) S (with_routes tables.now routes)
+            → IsFollowed self.old self.new S (with_routes tables.now routes) most f)) }
+        ensures fit { IfOk result (λ o. IfSome o (λ f. Contains f.touched prefix × (list_all is_plain new.now ≡ true) × (list_all (λ n. nat_lt n.addr (2 ^ 32)) tables.now.neighbors ≡ true))) }
         ensures none { IfOk result (λ o. IfNone o (self.new ≡ self.old)) }
         ensures err { OnErr result (self.new ≡ self.old) }
     {
@@ -93,8 +115,7 @@ impl Entries {
         to: &Target<'_>,
         course: Course,
     ) -> Result<(Followed, u32), AllocError>
-        requires reaching { (old : Items PathValue) × IsReaching self.old.rows self.old.lists (map prefix_of self.old.rows) to.now.tables.now to.now.prefix to.now.source spot.now.place spot.now.id old spot.now.turned.late spot.now.turned.gone }
-        requires list { to.now.new.now ≡ paths_at to.now.prefix to.now.source to.now.tables.now.routes }
+        requires reaching { (old : Items PathValue) × (routes : Items RouteValue) × IsReaching self.old.rows self.old.lists (map prefix_of self.old.rows) (with_routes to.now.tables.now routes) to.now.prefix to.now.source spot.now.place spot.now.id old spot.now.turned.late spot.now.turned.gone }
         requires course { (old : Items PathValue) × IsCourse self.old.rows to.now.tables.now to.now.prefix to.now.source old to.now.new.now to.now.rank spot.now.turned.late spot.now.turned.gone course }
         requires room { IsUsedLess self.old.lists to.now.new.now (2 ^ 32 - 1) }
         ensures done { IfOk result (λ x. (old : Items PathValue) (k : IsCourse self.old.rows to.now.tables.now to.now.prefix to.now.source old to.now.new.now to.now.rank spot.now.turned.late spot.now.turned.gone course) →

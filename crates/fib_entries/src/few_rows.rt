@@ -68,9 +68,12 @@ impl Entries {
                 return Ok(Some(followed));
             }
         }
-        match self.follow_reached(tables, prefix, source, new, most)? {
+        if let Some(followed) = self.follow_reached(tables, prefix, source, new, most)? {
+            return Ok(Some(followed));
+        }
+        match self.follow_above(tables, prefix, source, new, most)? {
             Some(followed) => Ok(Some(followed)),
-            None => self.follow_above(tables, prefix, source, new, most),
+            None => self.follow_under(tables, prefix, source, new, most),
         }
     }
 

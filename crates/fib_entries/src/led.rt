@@ -6,6 +6,7 @@ ghost use Rattle.fib_resolve.specs.Keys.{same_source};
 ghost use Rattle.fib_resolve.specs.Pairs.{attached_of};
 ghost use Rattle.fib_resolve.specs.declared.types.FibSource.{FibSource as FibSourceValue};
 ghost use Rattle.fib_entries.specs.inner.Leaf.{path_beside};
+ghost use Rattle.fib_entries.specs.inner.Under.{best_in};
 
 use crate::hosting::is_loose_list;
 use crate::look::is_same;
@@ -88,7 +89,8 @@ fn has_source(held: &[(FibSource, PathListId)], source: FibSource) -> bool
 
 /// The number of the row's best list, where that alone is of that source.
 pub fn best_list(r: &Row, source: FibSource) -> Option<PathListId>
-    ensures { IfSome result (λ id. (rest : Items (FibSourceValue × ℕ)) × (r.now.pairs ≡ (source, id) ∷ rest) × (list_any (λ q. same_source q.0 source) rest ≡ false)) }
+    ensures value { result ≡ best_in source r.now.pairs }
+    ensures best { IfSome result (λ id. (rest : Items (FibSourceValue × ℕ)) × (r.now.pairs ≡ (source, id) ∷ rest) × (list_any (λ q. same_source q.0 source) rest ≡ false)) }
 {
     match r.pairs() {
         [pair, rest @ ..] => {

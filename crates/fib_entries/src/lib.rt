@@ -45,6 +45,7 @@ mod relooping;
 mod replace;
 mod rows;
 mod sizes;
+mod under;
 mod waking;
 mod whole;
 mod with_gateway;

@@ -6,8 +6,9 @@ ghost use Rattle.fib_addr.specs.Prefixes.{Prefix as PrefixValue, host, same_pref
 ghost use Rattle.fib_interned.specs.Interned.{kept_of};
 ghost use Rattle.fib_paths.specs.PathLists.{IsUsedLess};
 ghost use Rattle.fib_reach.specs.Walks.{AllDiffer};
-ghost use Rattle.fib_resolve.specs.Edits.{paths_at};
+ghost use Rattle.fib_resolve.specs.Edits.{paths_at, with_routes};
 ghost use Rattle.fib_resolve.specs.declared.types.Path.{Path as PathValue};
+ghost use Rattle.fib_resolve.specs.declared.types.Route.{Route as RouteValue};
 ghost use Rattle.fib_entries.specs.Known.{prefix_of, rank_of};
 ghost use Rattle.fib_entries.specs.inner.Building.{AreHeld};
 ghost use Rattle.fib_entries.specs.inner.Fields.{AreAmong, has_several};
@@ -153,7 +154,8 @@ fn are_fit(p: Prefix, paths: &[Path]) -> bool
 }
 
 /// The place of the prefix's row and the number of its best list, where the change of that list makes another entry of the prefix alone, of
-/// the host of a late next hop, and of that of a last one. Next hops of both lists stay, whoever else has them.
+/// the host of a late next hop, and of that of a last one. Next hops of both lists stay, whoever else has them. The list need not be the
+/// tables': what is found holds of each that have it and are like them but for routes.
 pub fn reaching(
     alloc: Global,
     rows: &Blocks<Row>,
@@ -165,8 +167,8 @@ pub fn reaching(
     requires ascending { IsAscending (map prefix_of rows.now) }
     requires held { AreHeld rows.now lists.now }
     requires several { AreAmong has_several rows.now index.now.several }
-    requires list { to.now.new.now ≡ paths_at to.now.prefix to.now.source to.now.tables.now.routes }
-    ensures { IfOk result (λ o. IfSome o (λ x. (old : Items PathValue) × IsReaching rows.now lists.now order.now to.now.tables.now to.now.prefix to.now.source x.place x.id old x.turned.late x.turned.gone)) }
+    ensures { IfOk result (λ o. IfSome o (λ x. (old : Items PathValue) × ((routes : Items RouteValue) → to.now.new.now ≡ paths_at to.now.prefix to.now.source routes →
+        IsReaching rows.now lists.now order.now (with_routes to.now.tables.now routes) to.now.prefix to.now.source x.place x.id old x.turned.late x.turned.gone))) }
 {
     let Some(at) = best_place(rows, to.prefix, to.source) else {
         return Ok(None);

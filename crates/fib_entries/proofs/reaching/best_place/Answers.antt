@@ -6,7 +6,7 @@ use Rattle.fib_entries.proofs.reaching.best_place.Goals as goal
 pub returns : goal.returns
 returns c =
     let here = slice_get_read c.args.rows.now _ c.in_ok-place.place c.index.result.now refl c.in_ok-place.ensures.inside c.index.ensures in
-    let best = c.in_ok-id.ensures in
+    let best = c.in_ok-id.ensures.best in
     record {
       row = c.index.result.now;
       at = here;

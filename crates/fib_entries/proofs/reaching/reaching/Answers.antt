@@ -30,13 +30,12 @@ is_in_rest-requires c = λ q k.
 pub returns : goal.returns
 returns c =
     let m = c.in-Some.ensures in
-    let list = c.requires.list in
     let here : c.index.result.now ≡ m.row = c.index.ensures ∙ read_row c.args.rows.now c.in-Some.at.0 m.row _ m.at in
     let quiet = c.is_quiet.ensures c.if-not-is_quiet.false in
     let suited = c.are_fit.ensures c.if-not-are_fit.false in
     let fit = c.are_fit-2.ensures c.if-not-are_fit-2.false in (
       c.content-old.result.now,
-      record {
+      λ routes list. record {
         row = m.row;
         at = m.at;
         own = m.own;
