@@ -1,4 +1,5 @@
 // Each public call once, over elements that own memory.
+use crate::expect::same;
 use fib_blocks::{Blocks, Sought};
 use std::cmp::Ordering;
 use std::test::Fail;
@@ -42,26 +43,26 @@ fn number_at(list: &Blocks<Boxed>, place: usize) -> Option<u32> {
 #[test]
 fn elements_come_and_go(rt: HostRuntime) -> Result<(), Fail> {
     let mut list: Blocks<Boxed> = Blocks::new(rt.alloc());
-    assert_eq!(rt; number_at(&list, 0), None);
+    same(&rt, number_at(&list, 0), None);
     for number in 0..1_000 {
         list.insert(0, numbered(&rt, number)?)?;
     }
-    assert_eq!(rt; list.len(), 1_000);
-    assert_eq!(rt; number_at(&list, 0), Some(999));
-    assert_eq!(rt; number_at(&list, 999), Some(0));
+    same(&rt, list.len(), 1_000);
+    same(&rt, number_at(&list, 0), Some(999));
+    same(&rt, number_at(&list, 999), Some(0));
     if list.len() > 500 {
         *list[500].number = 7;
-        assert_eq!(rt; *list[500].number, 7);
+        same(&rt, *list[500].number, 7);
         let gone = list.remove(500);
-        assert_eq!(rt; *gone.number, 7);
+        same(&rt, *gone.number, 7);
     }
-    assert_eq!(rt; number_at(&list, 500), Some(498));
+    same(&rt, number_at(&list, 500), Some(498));
     for _ in 0..999 {
         if list.len() > 0 {
             let _gone = list.remove(0);
         }
     }
-    assert_eq!(rt; list.len(), 0);
+    same(&rt, list.len(), 0);
     Ok(())
 }
 
@@ -74,8 +75,12 @@ fn elements_are_found(rt: HostRuntime) -> Result<(), Fail> {
     let list = Blocks::of(rt.alloc(), evens)?;
     for place in 0..1_000 {
         let number = 2 * place as u32;
-        assert_eq!(rt; list.search(&Number { number }), Ok(place));
-        assert_eq!(rt; list.search(&Number { number: number + 1 }), Err(place + 1));
+        same(&rt, list.search(&Number { number }), Ok(place));
+        same(
+            &rt,
+            list.search(&Number { number: number + 1 }),
+            Err(place + 1),
+        );
     }
     Ok(())
 }

@@ -1,4 +1,5 @@
 // Worked files, whose packets no clause says by value. Hash values were computed outside of this program.
+use crate::expect::{holds, same};
 use fib_addr::Addr;
 use fib_capture::{Capture, CaptureError, Packet, Spans, flow_hash, laws};
 use std::alloc::{AllocError, Global};
@@ -70,7 +71,7 @@ fn bytes_of(alloc: Global, texts: &[&str]) -> Result<Vec<u8>, AllocError> {
 }
 
 /// Asserts that the file of these texts has these packets and this cut.
-fn holds(
+fn reads_as(
     rt: &impl Abort,
     alloc: Global,
     texts: &[&str],
@@ -78,8 +79,8 @@ fn holds(
     cut: Option<u32>,
 ) -> Result<(), Fail> {
     let capture = Capture::read(alloc, &bytes_of(alloc, texts)?)?;
-    assert_eq!(rt; capture.cut_at(), cut);
-    assert_eq!(rt; capture.count() as usize, packets.len());
+    same(rt, capture.cut_at(), cut);
+    same(rt, capture.count() as usize, packets.len());
     for place in 0..capture.count() {
         assert_eq!(rt;
             Some(&capture.at(place)),
@@ -103,7 +104,7 @@ fn flow(addr: u32, hash: u32) -> Packet {
 #[test]
 fn worked_hash(rt: HostRuntime) {
     let hash = flow_hash(Addr(0x0102_0304), Addr(0x0a00_0009), 1, 0, 0);
-    assert_eq!(rt; hash, 1_701_755_127);
+    same(&rt, hash, 1_701_755_127);
 }
 
 #[test]
@@ -112,32 +113,32 @@ fn whole_and_cut_files(rt: HostRuntime) -> Result<(), Fail> {
     laws::spans_point_to_flows();
     let alloc = rt.alloc();
     let ping = [flow(0x0a00_0009, 1_701_755_127)];
-    holds(&rt, alloc, &[RAW, RECORD, PING], &ping, None)?;
-    holds(&rt, alloc, &[BIG_RAW, BIG_RECORD, PING], &ping, None)?;
-    holds(&rt, alloc, &[RAW], &[], None)?;
-    holds(
+    reads_as(&rt, alloc, &[RAW, RECORD, PING], &ping, None)?;
+    reads_as(&rt, alloc, &[BIG_RAW, BIG_RECORD, PING], &ping, None)?;
+    reads_as(&rt, alloc, &[RAW], &[], None)?;
+    reads_as(
         &rt,
         alloc,
         &[RAW, RECORD, PING, "00000000000000000000"],
         &ping,
         Some(1),
     )?;
-    holds(&rt, alloc, &[RAW, RECORD, "450000"], &[], Some(0))?;
-    holds(
+    reads_as(&rt, alloc, &[RAW, RECORD, "450000"], &[], Some(0))?;
+    reads_as(
         &rt,
         alloc,
         &[RAW, "00000000 00000000 ffffffff ffffffff", PING],
         &[],
         Some(0),
     )?;
-    holds(
+    reads_as(
         &rt,
         alloc,
         &[RAW, "00000000 00000000 00000000 000000"],
         &[],
         Some(0),
     )?;
-    holds(
+    reads_as(
         &rt,
         alloc,
         &[RAW, "00000000 00000000 00000000 14000000"],
@@ -214,7 +215,7 @@ fn kinds_of_raw_packets(rt: HostRuntime) -> Result<(), Fail> {
         ),
     ];
     for (length, packet, kind) in rows {
-        holds(
+        reads_as(
             &rt,
             alloc,
             &[RAW, "00000000 00000000", length, "000000 00000000", packet],
@@ -250,7 +251,7 @@ fn kinds_of_ethernet_frames(rt: HostRuntime) -> Result<(), Fail> {
             kind,
             header,
         ];
-        holds(&rt, alloc, &texts, &[packet], None)?;
+        reads_as(&rt, alloc, &texts, &[packet], None)?;
     }
     Ok(())
 }
@@ -270,12 +271,12 @@ fn files_of_tcpdump(rt: HostRuntime) -> Result<(), Fail> {
         flow(0x7f00_0007, 471_261_074),
         flow(0x7f00_0007, 2_635_266_653),
     ];
-    holds(&rt, alloc, &FIRST_48_BYTES, &packets, None)?;
+    reads_as(&rt, alloc, &FIRST_48_BYTES, &packets, None)?;
     let packets = [
         flow(0x7f00_0009, 1_368_322_769),
         flow(0x7f00_0001, 3_896_863_825),
     ];
-    holds(&rt, alloc, &FIRST_36_BYTES, &packets, None)
+    reads_as(&rt, alloc, &FIRST_36_BYTES, &packets, None)
 }
 
 #[test]
@@ -283,9 +284,9 @@ fn a_capture_of_flows(rt: HostRuntime) -> Result<(), Fail> {
     let mut flows = Vec::new(rt.alloc());
     flows.push(flow(7, 9))?;
     let capture = Capture::of_flows(flows);
-    assert_eq!(rt; capture.cut_at(), None);
-    assert_eq!(rt; capture.count(), 1);
-    assert_eq!(rt; capture.at(0), flow(7, 9));
+    same(&rt, capture.cut_at(), None);
+    same(&rt, capture.count(), 1);
+    same(&rt, capture.at(0), flow(7, 9));
     Ok(())
 }
 
@@ -296,7 +297,7 @@ fn spans_in(
     texts: &[&str],
 ) -> Result<Result<Spans, CaptureError>, AllocError> {
     let bytes = bytes_of(alloc, texts)?;
-    assert!(rt; bytes.len() <= 268_435_456);
+    holds(rt, bytes.len() <= 268_435_456);
     Ok(Spans::read(alloc, &bytes))
 }
 
@@ -308,7 +309,7 @@ fn stand(
     places: &[Option<(u32, u32)>],
 ) -> Result<(), Fail> {
     let spans = spans_in(rt, alloc, texts)??;
-    assert_eq!(rt; spans.count() as usize, places.len());
+    same(rt, spans.count() as usize, places.len());
     for place in 0..spans.count() {
         assert_eq!(rt;
             Some(&spans.ipv4(place)),

@@ -1,4 +1,5 @@
 // Worked lines, of which no clause speaks by value.
+use crate::expect::{holds, same};
 use fib_commands::{Line, LineError, Script, ScriptError, laws, read_line};
 use fib_resolve::{Edit, SpecKind};
 use std::alloc::Global;
@@ -100,25 +101,29 @@ fn options_stand_in_any_order(rt: HostRuntime) -> Result<(), Fail> {
     let Line::Change(Edit::AddRoute { paths, .. }) = line else {
         return Err("no route")?;
     };
-    assert_eq!(rt; paths.len(), 2);
+    holds(&rt, paths.len() == 2);
     let first = &paths.as_slice()[0];
-    assert_eq!(rt; (first.weight, first.preference), (3, 4));
-    assert_eq!(rt; first.need, fib_resolve::Need::Host);
+    same(&rt, (first.weight, first.preference), (3, 4));
+    same(&rt, first.need, fib_resolve::Need::Host);
     let second = &paths.as_slice()[1];
-    assert!(rt; matches!(&second.kind, SpecKind::Attached(_)));
-    assert_eq!(rt; (second.weight, second.preference), (1, 0));
+    holds(&rt, matches!(&second.kind, SpecKind::Attached(_)));
+    same(&rt, (second.weight, second.preference), (1, 0));
     Ok(())
 }
 
 #[test]
 fn scripts_have_their_lines(rt: HostRuntime) -> Result<(), Fail> {
     let script = Script::read(rt.alloc(), b"one\r\n\r\r\ntwo")?;
-    assert_eq!(rt; script.lines(), 3);
-    assert_eq!(rt; script.line(1), b"one".as_slice());
-    assert_eq!(rt; script.line(2), b"\r".as_slice());
-    assert_eq!(rt; script.line(3), b"two".as_slice());
+    holds(&rt, script.lines() == 3);
+    same(&rt, script.line(1), b"one".as_slice());
+    same(&rt, script.line(2), b"\r".as_slice());
+    same(&rt, script.line(3), b"two".as_slice());
     let feeds = vec![in rt.alloc(); b'\n'; 65_536]?;
-    assert_eq!(rt; Script::read(rt.alloc(), &feeds[..65_535])?.lines(), 65_535);
+    same(
+        &rt,
+        Script::read(rt.alloc(), &feeds[..65_535])?.lines(),
+        65_535,
+    );
     match Script::read(rt.alloc(), &feeds) {
         Err(ScriptError::TooManyLines) => Ok(()),
         _ => Err("too many lines")?,

@@ -1,3 +1,4 @@
+use crate::expect::{holds, same};
 use fib_addr::{Addr, Prefix};
 use fib_cover::PrefixSet;
 use std::test::Fail;
@@ -15,14 +16,14 @@ fn nested() -> [Prefix; 4] {
 #[test]
 fn longest_matches(rt: HostRuntime) -> Result<(), Fail> {
     let mut set = PrefixSet::new(rt.alloc());
-    assert!(rt; set.is_empty());
+    holds(&rt, set.is_empty());
     let [wide, middle, narrow, host] = nested();
     for prefix in [host, narrow, wide, middle] {
-        assert!(rt; set.insert(prefix)?);
+        holds(&rt, set.insert(prefix)?);
     }
-    assert!(rt; !set.insert(narrow)?);
-    assert_eq!(rt; set.len(), 4);
-    assert!(rt; set.contains(narrow));
+    holds(&rt, !set.insert(narrow)?);
+    same(&rt, set.len(), 4);
+    holds(&rt, set.contains(narrow));
     let rows = [
         (0x0a01_0001, Some(host), Some(narrow)),
         (0x0a01_0002, Some(narrow), Some(narrow)),
@@ -31,15 +32,15 @@ fn longest_matches(rt: HostRuntime) -> Result<(), Fail> {
         (0x0b00_0000, None, None),
     ];
     for (addr, best, cover) in &rows {
-        assert_eq!(rt; set.best(Addr(*addr)), *best);
-        assert_eq!(rt; set.cover(Addr(*addr)), *cover);
+        same(&rt, set.best(Addr(*addr)), *best);
+        same(&rt, set.cover(Addr(*addr)), *cover);
     }
     let inside = set.inside(rt.alloc(), middle)?;
-    assert_eq!(rt; inside.as_slice(), [middle, narrow, host].as_slice());
+    same(&rt, inside.as_slice(), [middle, narrow, host].as_slice());
     let again = PrefixSet::of(rt.alloc(), inside.as_slice())?;
-    assert_eq!(rt; again.len(), 3);
-    assert!(rt; set.remove(host));
-    assert!(rt; !set.remove(host));
-    assert_eq!(rt; set.best(Addr(0x0a01_0001)), Some(narrow));
+    same(&rt, again.len(), 3);
+    holds(&rt, set.remove(host));
+    holds(&rt, !set.remove(host));
+    same(&rt, set.best(Addr(0x0a01_0001)), Some(narrow));
     Ok(())
 }

@@ -1,5 +1,6 @@
 // The public calls once, over the fresh tables; the crates above compare them with worked and generated tables. Each test owns what it looks
 // at and has one assertion: the prover follows every way out past every owner.
+use crate::expect::holds;
 use fib_addr::{Addr, Prefix};
 use fib_effective::{
     Known, add_adjacencies, adjacency_of, distinct, first_places, is_same_list, is_same_pair,
@@ -56,7 +57,10 @@ fn what_the_fresh_tables_say(rt: HostRuntime) -> Result<(), Fail> {
     let alloc = rt.alloc();
     let fresh = Tables::fresh(alloc);
     let known = Known::of(alloc, &fresh)?;
-    assert!(rt; size(alloc, &fresh)? == 20 && says_what_fresh_tables_say(alloc, &known)?);
+    holds(
+        &rt,
+        size(alloc, &fresh)? == 20 && says_what_fresh_tables_say(alloc, &known)?,
+    );
     Ok(())
 }
 
@@ -122,8 +126,9 @@ fn what_a_path_says(rt: HostRuntime) -> Result<(), Fail> {
     let alloc = rt.alloc();
     let hop = Addr(7);
     let routes = [route_over(alloc, hop)?];
-    assert!(rt;
-        says_what_its_paths_say(alloc, &routes[0], hop)? && is_hop_of(alloc, &routes, hop)?
+    holds(
+        &rt,
+        says_what_its_paths_say(alloc, &routes[0], hop)? && is_hop_of(alloc, &routes, hop)?,
     );
     Ok(())
 }

@@ -1,4 +1,5 @@
 // Each public call once, at a concrete type.
+use crate::expect::{holds, same};
 use fib_interned::{Interned, Numbered};
 use std::alloc::AllocError;
 use std::test::Fail;
@@ -29,19 +30,19 @@ fn take_numbered(kept: &mut Numbered<u32>, content: u32) -> Result<u64, AllocErr
 #[test]
 fn equal_contents_are_one(rt: HostRuntime) -> Result<(), Fail> {
     let mut kept = Interned::new(rt.alloc());
-    assert_eq!(rt; take(&mut kept, 7, 70)?, 7);
-    assert_eq!(rt; take(&mut kept, 5, 50)?, 5);
-    assert_eq!(rt; take(&mut kept, 3, 70)?, 7);
-    assert!(rt; kept.has(7));
-    assert_eq!(rt; kept.users(7), 2);
-    assert!(rt; !kept.give(7));
-    assert!(rt; kept.has(7));
-    assert!(rt; kept.give(7));
-    assert!(rt; !kept.has(7));
-    assert!(rt; kept.has(5));
-    assert_eq!(rt; *kept.content(5), 50);
-    assert_eq!(rt; kept.count(), 1);
-    assert_eq!(rt; kept.at(0), 5);
+    same(&rt, take(&mut kept, 7, 70)?, 7);
+    same(&rt, take(&mut kept, 5, 50)?, 5);
+    same(&rt, take(&mut kept, 3, 70)?, 7);
+    holds(&rt, kept.has(7));
+    same(&rt, kept.users(7), 2);
+    holds(&rt, !kept.give(7));
+    holds(&rt, kept.has(7));
+    holds(&rt, kept.give(7));
+    holds(&rt, !kept.has(7));
+    holds(&rt, kept.has(5));
+    same(&rt, *kept.content(5), 50);
+    same(&rt, kept.count(), 1);
+    same(&rt, kept.at(0), 5);
     Ok(())
 }
 
@@ -50,16 +51,16 @@ fn numbers_are_the_stores(rt: HostRuntime) -> Result<(), Fail> {
     let mut kept = Numbered::new(rt.alloc());
     let first = take_numbered(&mut kept, 70)?;
     let second = take_numbered(&mut kept, 50)?;
-    assert_ne!(rt; first, second);
-    assert_eq!(rt; take_numbered(&mut kept, 70)?, first);
-    assert!(rt; kept.has(first));
-    assert_eq!(rt; kept.users(first), 2);
-    assert!(rt; kept.has(second));
-    assert!(rt; kept.give(second));
-    assert!(rt; !kept.has(second));
-    assert!(rt; kept.has(first));
-    assert_eq!(rt; *kept.content(first), 70);
-    assert_eq!(rt; kept.count(), 1);
-    assert_eq!(rt; kept.at(0), first);
+    holds(&rt, first != second);
+    same(&rt, take_numbered(&mut kept, 70)?, first);
+    holds(&rt, kept.has(first));
+    same(&rt, kept.users(first), 2);
+    holds(&rt, kept.has(second));
+    holds(&rt, kept.give(second));
+    holds(&rt, !kept.has(second));
+    holds(&rt, kept.has(first));
+    same(&rt, *kept.content(first), 70);
+    same(&rt, kept.count(), 1);
+    same(&rt, kept.at(0), first);
     Ok(())
 }

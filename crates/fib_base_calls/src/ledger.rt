@@ -1,4 +1,5 @@
 // Each public call once.
+use crate::expect::{holds, same};
 use fib_addr::{Addr, Prefix};
 use fib_core::Word;
 use fib_ledger::{Known, Late, Lates, Ledger, Use};
@@ -14,19 +15,20 @@ fn buckets_are_deferred_and_cleared(rt: HostRuntime) -> Result<(), Fail> {
     late.add(first, 4, Word::ToBalance(7));
     late.add(second, 4, Word::ToBalance(8));
     late.add(first, 5, Word::ToBalance(9));
-    assert_eq!(rt; late.len(), 3);
-    assert_eq!(rt;
+    holds(&rt, late.len() == 3);
+    same(
+        &rt,
         late.at(1),
         Late {
             entry: second,
             slot: 4,
             word: Word::ToBalance(8),
-        }
+        },
     );
     late.clear(first);
-    assert_eq!(rt; late.len(), 1);
+    holds(&rt, late.len() == 1);
     late.take_out(0);
-    assert_eq!(rt; late.len(), 0);
+    same(&rt, late.len(), 0);
     let _alloc = late.allocator();
     Ok(())
 }
@@ -43,24 +45,25 @@ fn a_prefix_is_known_and_forgotten(rt: HostRuntime) -> Result<(), Fail> {
         mac: None,
         object: 30,
     })?;
-    assert!(rt; !ledger.forwarded(prefix));
-    assert!(rt;
+    holds(&rt, !ledger.forwarded(prefix));
+    holds(
+        &rt,
         ledger
             .set(
                 prefix,
                 Known {
                     forwarded: true,
                     uses,
-                }
+                },
             )
-            .is_none()
+            .is_none(),
     );
-    assert!(rt; ledger.forwarded(prefix));
+    holds(&rt, ledger.forwarded(prefix));
     ledger.tells();
     let Some(old) = ledger.forget(prefix) else {
         panic!(rt; "nothing is known");
     };
-    assert_eq!(rt; old.uses.len(), 1);
-    assert!(rt; !ledger.forwarded(prefix));
+    same(&rt, old.uses.len(), 1);
+    holds(&rt, !ledger.forwarded(prefix));
     Ok(())
 }

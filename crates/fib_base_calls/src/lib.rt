@@ -22,6 +22,8 @@ mod cover;
 #[cfg(test)]
 mod effective;
 #[cfg(test)]
+mod expect;
+#[cfg(test)]
 mod hops;
 #[cfg(test)]
 mod interned;

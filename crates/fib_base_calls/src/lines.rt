@@ -1,3 +1,4 @@
+use crate::expect::{holds, same};
 use fib_lines::{Words, count_lines, cut_line, is_idle, is_plain};
 use std::alloc::Global;
 use std::test::Fail;
@@ -29,11 +30,12 @@ fn lines_end_at_line_feeds(rt: HostRuntime) -> Result<(), Fail> {
     ];
     for (text, lines) in rows {
         let found = bracketed(rt.alloc(), text)?;
-        assert_eq!(rt;
+        same(
+            &rt,
             count_lines(text),
-            found.iter().filter(|b| **b == b'[').count()
+            found.iter().filter(|b| **b == b'[').count(),
         );
-        assert_eq!(rt; found.as_slice(), lines);
+        same(&rt, found.as_slice(), lines);
     }
     Ok(())
 }
@@ -41,17 +43,17 @@ fn lines_end_at_line_feeds(rt: HostRuntime) -> Result<(), Fail> {
 #[test]
 fn words_stand_between_blanks(rt: HostRuntime) -> Result<(), Fail> {
     let mut words = Words::new(b" \tip  route\tadd ");
-    assert_eq!(rt; words.count(), 3);
-    assert!(rt; words.next_is("ip"));
-    assert!(rt; !words.next_is("i"));
-    assert_eq!(rt; words.next(), Some(b"ip".as_slice()));
+    same(&rt, words.count(), 3);
+    holds(&rt, words.next_is("ip"));
+    holds(&rt, !words.next_is("i"));
+    same(&rt, words.next(), Some(b"ip".as_slice()));
     let (route, rest) = words.split_first().ok_or("a word is left")?;
-    assert_eq!(rt; route, b"route".as_slice());
-    assert_eq!(rt; rest.count(), 1);
-    assert_eq!(rt; words.next(), Some(b"route".as_slice()));
-    assert_eq!(rt; words.next(), Some(b"add".as_slice()));
-    assert!(rt; !words.has_word());
-    assert_eq!(rt; words.next(), None);
+    same(&rt, route, b"route".as_slice());
+    same(&rt, rest.count(), 1);
+    same(&rt, words.next(), Some(b"route".as_slice()));
+    same(&rt, words.next(), Some(b"add".as_slice()));
+    holds(&rt, !words.has_word());
+    same(&rt, words.next(), None);
     Ok(())
 }
 
@@ -67,7 +69,7 @@ fn idle_lines_and_plain_bytes(rt: HostRuntime) {
         (b"~ \x7f", false, false),
     ];
     for (line, idle, plain) in rows {
-        assert_eq!(rt; is_idle(&Words::new(line)), idle);
-        assert_eq!(rt; is_plain(line), plain);
+        same(&rt, is_idle(&Words::new(line)), idle);
+        same(&rt, is_plain(line), plain);
     }
 }

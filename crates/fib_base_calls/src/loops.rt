@@ -1,3 +1,4 @@
+use crate::expect::same;
 use fib_loops::mark;
 use std::test::Fail;
 
@@ -21,10 +22,10 @@ fn cycles_that_share_a_node(rt: HostRuntime) -> Result<(), Fail> {
     ];
     let marks = mark(rt.alloc(), 7, &edges)?;
     for (edge, expected) in looped.iter().enumerate() {
-        assert_eq!(rt; marks.looped(edge as u32), *expected);
+        same(&rt, marks.looped(edge as u32), *expected);
     }
-    assert_eq!(rt; marks.order().len(), 7);
+    same(&rt, marks.order().len(), 7);
     let none = mark(rt.alloc(), 3, &[])?;
-    assert_eq!(rt; none.order().len(), 3);
+    same(&rt, none.order().len(), 3);
     Ok(())
 }

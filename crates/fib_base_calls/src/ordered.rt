@@ -1,4 +1,5 @@
 // Each public call once, over members with a key and a number.
+use crate::expect::{holds, same};
 use fib_ordered::{Keyed, Ordered};
 use std::test::Fail;
 
@@ -41,25 +42,29 @@ fn take_in(set: &mut Ordered<Entry>, entry: Entry) -> Result<(), Fail> {
 #[test]
 fn members_come_and_go(rt: HostRuntime) -> Result<(), Fail> {
     let mut set: Ordered<Entry> = Ordered::new(rt.alloc());
-    assert_eq!(rt; set.find(3), None);
-    assert_eq!(rt; set.first_from(0), None);
-    assert_eq!(rt; set.last_below(9), None);
-    assert_eq!(rt; set.remove(9), None);
+    same(&rt, set.find(3), None);
+    same(&rt, set.first_from(0), None);
+    same(&rt, set.last_below(9), None);
+    same(&rt, set.remove(9), None);
     for number in 0..1_000 {
         set.reserve(rt.alloc(), 1)?;
         take_in(&mut set, numbered(number))?;
     }
     for number in 0..1_000 {
         let one = numbered(number);
-        assert_eq!(rt; set.find(one.key), Some(one));
-        assert_eq!(rt; set.first_from(one.key), Some(one));
-        assert_eq!(rt; set.last_below(one.key.saturating_add(1)), Some(one));
+        same(&rt, set.find(one.key), Some(one));
+        same(&rt, set.first_from(one.key), Some(one));
+        same(&rt, set.last_below(one.key.saturating_add(1)), Some(one));
     }
     for number in 0..500 {
-        assert_eq!(rt; set.remove(numbered(number).key), Some(numbered(number)));
+        same(
+            &rt,
+            set.remove(numbered(number).key),
+            Some(numbered(number)),
+        );
     }
-    assert!(rt; !set.contains(numbered(7).key));
-    assert!(rt; set.contains(numbered(507).key));
+    holds(&rt, !set.contains(numbered(7).key));
+    holds(&rt, set.contains(numbered(507).key));
     Ok(())
 }
 
@@ -79,8 +84,8 @@ fn neighbours(rt: HostRuntime) -> Result<(), Fail> {
         (31, None, Some(30)),
     ];
     for (key, from, below) in &rows {
-        assert_eq!(rt; set.first_from(*key).map(|e| e.key), *from);
-        assert_eq!(rt; set.last_below(*key).map(|e| e.key), *below);
+        same(&rt, set.first_from(*key).map(|e| e.key), *from);
+        same(&rt, set.last_below(*key).map(|e| e.key), *below);
     }
     Ok(())
 }

@@ -1,3 +1,4 @@
+use crate::expect::{holds, same};
 use fib_outside::{
     Failed, FreeGate, Gate, HonestShelf, HonestSink, MeetGate, MemoryShelf, MemorySink, Part,
     Shelf, Sink,
@@ -28,8 +29,8 @@ fn memory_sink_fails_where_told(rt: HostRuntime) -> Result<(), Fail> {
         (b"g", Err(Failed), b"abcdef"),
     ];
     for (piece, answer, written) in rows {
-        assert_eq!(rt; sink.write(piece), answer);
-        assert_eq!(rt; sink.bytes(), written);
+        same(&rt, sink.write(piece), answer);
+        same(&rt, sink.bytes(), written);
     }
     Ok(())
 }
@@ -39,16 +40,16 @@ fn memory_shelf_fails_where_told(rt: HostRuntime) -> Result<(), Fail> {
     let files = files_of(rt.alloc(), &[("a", b"first"), ("b", b""), ("a", b"second")])?;
     let mut shelf = MemoryShelf::new(files, [1].to_vec(rt.alloc())?);
     let mut into = [0u8; 3];
-    assert_eq!(rt; shelf.fetch(Part::Commands, "missing"), Err(Failed));
-    assert_eq!(rt; shelf.fetch(Part::Commands, "a"), Err(Failed));
+    same(&rt, shelf.fetch(Part::Commands, "missing"), Err(Failed));
+    same(&rt, shelf.fetch(Part::Commands, "a"), Err(Failed));
     if shelf.fetch(Part::Capture, "a").is_ok() {
-        assert_eq!(rt; shelf.read(&mut into), Ok(3));
-        assert_eq!(rt; into.as_slice(), b"fir".as_slice());
-        assert_eq!(rt; shelf.read(&mut into), Ok(2));
-        assert_eq!(rt; into.as_slice(), b"str".as_slice());
-        assert_eq!(rt; shelf.read(&mut into), Ok(0));
+        same(&rt, shelf.read(&mut into), Ok(3));
+        same(&rt, into.as_slice(), b"fir".as_slice());
+        same(&rt, shelf.read(&mut into), Ok(2));
+        same(&rt, into.as_slice(), b"str".as_slice());
+        same(&rt, shelf.read(&mut into), Ok(0));
     }
-    assert_eq!(rt; shelf.fetch(Part::Commands, "b"), Ok(()));
+    same(&rt, shelf.fetch(Part::Commands, "b"), Ok(()));
     Ok(())
 }
 
@@ -58,14 +59,14 @@ fn honest_forms_never_fail(rt: HostRuntime) -> Result<(), Fail> {
     let mut into = [0u8; 8];
     for (name, count) in [("a", 5), ("missing", 0), ("a", 5)] {
         if shelf.fetch(Part::Commands, name).is_ok() {
-            assert_eq!(rt; shelf.read(&mut into), Ok(count));
+            same(&rt, shelf.read(&mut into), Ok(count));
         }
     }
     let mut sink = HonestSink::new(rt.alloc());
-    assert_eq!(rt; sink.write(b"ab"), Ok(2));
-    assert_eq!(rt; sink.write(b"c"), Ok(1));
-    assert!(rt; !sink.lost());
-    assert_eq!(rt; sink.bytes(), b"abc".as_slice());
+    same(&rt, sink.write(b"ab"), Ok(2));
+    same(&rt, sink.write(b"c"), Ok(1));
+    holds(&rt, !sink.lost());
+    same(&rt, sink.bytes(), b"abc".as_slice());
     Ok(())
 }
 
@@ -87,15 +88,15 @@ fn meet_gate_gives_up(rt: HostRuntime) {
     let gate = MeetGate::new(7, 2, 3);
     gate.before(0, 6);
     gate.changing(1);
-    assert!(rt; !gate.met());
+    holds(&rt, !gate.met());
     gate.applied(2);
     gate.before(1, 7);
-    assert!(rt; !gate.met());
+    holds(&rt, !gate.met());
     gate.changing(2);
-    assert!(rt; gate.met());
+    holds(&rt, gate.met());
 
     let gate = MeetGate::new(7, 2, 3);
     gate.changing(2);
     gate.before(0, 7);
-    assert!(rt; !gate.met());
+    holds(&rt, !gate.met());
 }

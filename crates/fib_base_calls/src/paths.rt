@@ -1,4 +1,5 @@
 // Each public call once, with ample memory.
+use crate::expect::{holds, same};
 use fib_addr::Addr;
 use fib_paths::PathLists;
 use fib_resolve::{Need, Path, PathKind};
@@ -19,14 +20,14 @@ fn equal_lists_are_one(rt: HostRuntime) -> Result<(), Fail> {
     let one = [via(1)];
     let two = [via(1), via(2)];
     let first = lists.take(&one)?;
-    assert!(rt; lists.has_room(&two));
+    holds(&rt, lists.has_room(&two));
     let second = lists.take(&two)?;
-    assert!(rt; lists.has_room(&one));
+    holds(&rt, lists.has_room(&one));
     let again = lists.take(&one)?;
-    assert_eq!(rt; first, again);
-    assert_eq!(rt; lists.find(&two), Some(second));
-    assert_ne!(rt; first, second);
-    assert_eq!(rt; lists.count(), 2);
+    same(&rt, first, again);
+    same(&rt, lists.find(&two), Some(second));
+    holds(&rt, first != second);
+    same(&rt, lists.count(), 2);
     Ok(())
 }
 
@@ -35,11 +36,11 @@ fn a_list_goes_with_its_last_user(rt: HostRuntime) -> Result<(), Fail> {
     let mut lists = PathLists::new(rt.alloc());
     let one = [via(1)];
     let id = lists.take(&one)?;
-    assert_eq!(rt; lists.content(id).len(), 1);
+    same(&rt, lists.content(id).len(), 1);
     lists.hold(id);
-    assert_eq!(rt; lists.users(id), 2);
+    same(&rt, lists.users(id), 2);
     lists.give(id);
     lists.give(id);
-    assert_eq!(rt; lists.count(), 0);
+    same(&rt, lists.count(), 0);
     Ok(())
 }

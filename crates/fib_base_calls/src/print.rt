@@ -1,4 +1,5 @@
 // Worked texts, of which no clause speaks by value.
+use crate::expect::same;
 use fib_addr::{Addr, Mac, Prefix};
 use fib_print::{
     BatchFault, put_bad_header, put_batch, put_cut, put_end, put_message, put_not_ipv4, put_packet,
@@ -51,7 +52,7 @@ fn ends_and_packets(rt: HostRuntime) -> Result<(), Fail> {
     put_end(&mut out, &tables, &End::Drop)?;
     put_end(&mut out, &tables, &End::Receive)?;
     put_end(&mut out, &tables, &End::Glean(0))?;
-    assert_eq!(rt; out.as_slice(), b"dropreceiveglean eth0".as_slice());
+    same(&rt, out.as_slice(), b"dropreceiveglean eth0".as_slice());
     let version = Version::settled_at(4);
     let answer = Record {
         addr: next_hop,
@@ -63,13 +64,13 @@ fn ends_and_packets(rt: HostRuntime) -> Result<(), Fail> {
     let mut out = Vec::new(rt.alloc());
     put_packet(&mut out, &tables, 0, &answer)?;
     let line = b"packet 0 10.0.0.9 1701755127 4.4-4.4 adj eth0 10.0.0.9 02:00:00:00:00:09\n";
-    assert_eq!(rt; out.as_slice(), line.as_slice());
+    same(&rt, out.as_slice(), line.as_slice());
     let mut out = Vec::new(rt.alloc());
     put_not_ipv4(&mut out, 1)?;
     put_bad_header(&mut out, 2)?;
     put_cut(&mut out, 3)?;
     let lines = b"packet 1 not ipv4\npacket 2 bad header\ncapture ends inside packet 3\n";
-    assert_eq!(rt; out.as_slice(), lines.as_slice());
+    same(&rt, out.as_slice(), lines.as_slice());
     Ok(())
 }
 
@@ -79,9 +80,10 @@ fn paths_and_refusals(rt: HostRuntime) -> Result<(), Fail> {
     let mut out = Vec::new(rt.alloc());
     let host = path(PathKind::Recursive(Addr(0x0a00_0007)), Need::Host);
     put_path(&mut out, &tables, &host, None)?;
-    assert_eq!(rt;
+    same(
+        &rt,
         out.as_slice(),
-        b"via 10.0.0.7 weight 1 preference 0 resolve-via-host".as_slice()
+        b"via 10.0.0.7 weight 1 preference 0 resolve-via-host".as_slice(),
     );
     let mut out = Vec::new(rt.alloc());
     let cover = Prefix::masked(Addr(0x1e00_0000), 8);
@@ -91,15 +93,16 @@ fn paths_and_refusals(rt: HostRuntime) -> Result<(), Fail> {
         &path(PathKind::Cover, Need::Any),
         Some(cover),
     )?;
-    assert_eq!(rt;
+    same(
+        &rt,
         out.as_slice(),
-        b"cover 30.0.0.0/8 weight 1 preference 0".as_slice()
+        b"cover 30.0.0.0/8 weight 1 preference 0".as_slice(),
     );
     let mut out = Vec::new(rt.alloc());
     put_refusal(&mut out, 8, Refusal::ConnectedElsewhere)?;
     put_batch(&mut out, 9, BatchFault::Spoiled)?;
     put_message(&mut out, 10, "syntax")?;
     let lines = b"line 8: connected on another interface\nline 9: batch spoiled\nline 10: syntax\n";
-    assert_eq!(rt; out.as_slice(), lines.as_slice());
+    same(&rt, out.as_slice(), lines.as_slice());
     Ok(())
 }

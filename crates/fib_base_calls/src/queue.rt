@@ -1,4 +1,5 @@
 // Each public call once, over prefixes with ranks.
+use crate::expect::{holds, same};
 use fib_addr::{Addr, Prefix};
 use fib_queue::{Queue, Queued};
 use std::test::Fail;
@@ -10,30 +11,30 @@ fn prefix(number: u32) -> Prefix {
 #[test]
 fn prefixes_are_taken_by_rank(rt: HostRuntime) -> Result<(), Fail> {
     let mut queue = Queue::new(rt.alloc());
-    assert_eq!(rt; queue.least(), None);
+    same(&rt, queue.least(), None);
     for number in 0..300u32 {
         queue.reserve(rt.alloc(), 1)?;
-        assert!(rt; queue.spare() >= 1);
+        holds(&rt, queue.spare() >= 1);
         queue.add(prefix(number), number * 7 % 100);
     }
     queue.reserve(rt.alloc(), 2)?;
     queue.set_rank(prefix(5), 1_000);
     queue.set_rank(prefix(300), 1);
-    assert_eq!(rt; queue.rank(prefix(5)), Some(1_000));
-    assert!(rt; queue.is_queued(prefix(5)));
-    assert!(rt; !queue.is_queued(prefix(300)));
-    assert_eq!(rt; queue.len(), 300);
+    same(&rt, queue.rank(prefix(5)), Some(1_000));
+    holds(&rt, queue.is_queued(prefix(5)));
+    holds(&rt, !queue.is_queued(prefix(300)));
+    same(&rt, queue.len(), 300);
     let mut last = 0;
     for _ in 0..300u32 {
         let Some(next) = queue.least() else {
             panic!(rt; "nothing is queued");
         };
-        assert!(rt; last <= next.rank);
+        holds(&rt, last <= next.rank);
         last = next.rank;
         queue.remove(next.prefix);
     }
-    assert_eq!(rt; last, 1_000);
-    assert_eq!(rt; queue.len(), 0);
+    same(&rt, last, 1_000);
+    same(&rt, queue.len(), 0);
     Ok(())
 }
 
@@ -50,12 +51,13 @@ fn one_rank_is_taken_by_prefix(rt: HostRuntime) -> Result<(), Fail> {
     queue.remove(high);
     queue.add(high, 3);
     for one in [low, long, high] {
-        assert_eq!(rt;
+        same(
+            &rt,
             queue.least(),
             Some(Queued {
                 prefix: one,
-                rank: 3
-            })
+                rank: 3,
+            }),
         );
         queue.remove(one);
     }

@@ -1,3 +1,4 @@
+use crate::expect::same;
 use fib_reach::{Graph, Search, laws};
 use std::alloc::Global;
 use std::test::Fail;
@@ -46,7 +47,7 @@ fn walks_are_found(rt: HostRuntime) -> Result<(), Fail> {
         (6, 7),
     ];
     let mut graph = graph(rt.alloc(), 9, &edges)?;
-    assert_eq!(rt; graph.nodes(), 9);
+    same(&rt, graph.nodes(), 9);
     let rows = [
         (0, 0, false),
         (0, 7, true),
@@ -61,12 +62,12 @@ fn walks_are_found(rt: HostRuntime) -> Result<(), Fail> {
     ];
     for (from, to, reached) in &rows {
         if *from < graph.nodes() && *to < graph.nodes() {
-            assert_eq!(rt; graph.reaches(*from, *to), *reached);
+            same(&rt, graph.reaches(*from, *to), *reached);
         }
     }
-    assert_eq!(rt; graph.nodes(), 9);
+    same(&rt, graph.nodes(), 9);
     if 1 < graph.nodes() {
-        assert_eq!(rt; graph.targets(1), [3, 3].as_slice());
+        same(&rt, graph.targets(1), [3, 3].as_slice());
     }
     Ok(())
 }
@@ -76,11 +77,11 @@ fn walks_are_found(rt: HostRuntime) -> Result<(), Fail> {
 fn a_search_sees_each_node_once(rt: HostRuntime) -> Result<(), Fail> {
     let mut search = Search::new(rt.alloc(), 3)?;
     search.begin(2);
-    assert_eq!(rt; search.next(), Some(2));
+    same(&rt, search.next(), Some(2));
     search.note(1);
     search.note(2);
-    assert_eq!(rt; search.next(), Some(1));
-    assert_eq!(rt; search.next(), None);
+    same(&rt, search.next(), Some(1));
+    same(&rt, search.next(), None);
     Ok(())
 }
 

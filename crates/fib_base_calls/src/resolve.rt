@@ -1,4 +1,5 @@
 // What no clause says: that calls succeed with ample memory, and the order of listings.
+use crate::expect::{holds, same};
 use fib_addr::{Addr, Prefix};
 use fib_list::Duplicate;
 use fib_resolve::keys::{
@@ -44,14 +45,14 @@ fn paths_in_order(rt: HostRuntime) {
     ];
     for (first, second) in ordered.iter().zip(ordered.iter().skip(1)) {
         let (a, b) = (key_of(first), key_of(second));
-        assert_eq!(rt; compare_paths(first, second), Ordering::Less);
-        assert_eq!(rt; first.cmp(second), Ordering::Less);
-        assert!(rt; !is_same_path(first, second));
-        assert_eq!(rt; is_before(a, b), compare(a, b) == Ordering::Less);
-        assert_eq!(rt; is_same_key(a, b), compare(a, b) == Ordering::Equal);
+        same(&rt, compare_paths(first, second), Ordering::Less);
+        same(&rt, first.cmp(second), Ordering::Less);
+        holds(&rt, !is_same_path(first, second));
+        same(&rt, is_before(a, b), compare(a, b) == Ordering::Less);
+        same(&rt, is_same_key(a, b), compare(a, b) == Ordering::Equal);
     }
-    assert!(rt; !is_same_source(FibSource::Api, FibSource::Cli));
-    assert!(rt; FibSource::Api < FibSource::Cli);
+    holds(&rt, !is_same_source(FibSource::Api, FibSource::Cli));
+    holds(&rt, FibSource::Api < FibSource::Cli);
 }
 
 #[test]
@@ -70,12 +71,12 @@ fn copies_with_ample_memory(rt: HostRuntime) -> Result<(), Fail> {
         paths,
     })?;
     let copied = tables.duplicate(alloc)?;
-    assert_eq!(rt; copied.routes.len(), 1);
+    same(&rt, copied.routes.len(), 1);
     let [interface] = copied.interfaces.as_slice() else {
         return Err("one interface".into());
     };
-    assert!(rt; interface.name.is(&name(alloc, "eth0")?));
-    assert_eq!(rt; interface.name.as_bytes(), b"eth0".as_slice());
+    holds(&rt, interface.name.is(&name(alloc, "eth0")?));
+    same(&rt, interface.name.as_bytes(), b"eth0".as_slice());
     Ok(())
 }
 

@@ -1,4 +1,5 @@
 // The ends of each range.
+use crate::expect::holds;
 use fib_settings::Settings;
 
 #[test]
@@ -8,34 +9,38 @@ fn ranges(rt: HostRuntime) {
         objects: 64,
         walk: 0,
     };
-    assert!(rt; inside.is_in_range());
-    assert!(rt;
+    holds(&rt, inside.is_in_range());
+    holds(
+        &rt,
         Settings {
             workers: 8,
             objects: 131_072,
-            walk: 65_535
+            walk: 65_535,
         }
-        .is_in_range()
+        .is_in_range(),
     );
-    assert!(rt;
+    holds(
+        &rt,
         !Settings {
             workers: 9,
             ..inside
         }
-        .is_in_range()
+        .is_in_range(),
     );
-    assert!(rt;
+    holds(
+        &rt,
         !Settings {
             objects: 65,
             ..inside
         }
-        .is_in_range()
+        .is_in_range(),
     );
-    assert!(rt;
+    holds(
+        &rt,
         !Settings {
             walk: 65_536,
             ..inside
         }
-        .is_in_range()
+        .is_in_range(),
     );
 }

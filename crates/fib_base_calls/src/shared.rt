@@ -1,4 +1,5 @@
 // Each law, and a fresh plane over a plain board.
+use crate::expect::same;
 use fib_plainboard::PlainBoard;
 use fib_shared::{Shared, laws};
 use std::alloc::{AllocError, Global};
@@ -18,6 +19,6 @@ fn each_law() {
 fn the_root_alone_is_used(rt: HostRuntime) -> Result<(), Fail> {
     let shared = fresh(rt.alloc())?;
     shared.tells();
-    assert_eq!(rt; shared.used(), 1);
+    same(&rt, shared.used(), 1);
     Ok(())
 }

@@ -1,4 +1,5 @@
 // Scripts and flows of three seeds, against sums computed outside of this program.
+use crate::expect::same;
 use fib_addr::Addr;
 use fib_capture::Packet;
 use fib_soak::{laws, soak_flows, soak_script};
@@ -38,7 +39,7 @@ fn flows_of_three_seeds(rt: HostRuntime) -> Result<(), Fail> {
         (u32::MAX, 3_192_652_211),
     ] {
         let flows = soak_flows(rt.alloc(), seed)?;
-        assert_eq!(rt; flows.len(), 40_000);
+        same(&rt, flows.len(), 40_000);
         let mut found = 2_166_136_261;
         for flow in &flows {
             if let Packet::Flow {

@@ -1,4 +1,5 @@
 // Each public call once: a chain whose edges are replaced while a pass runs.
+use crate::expect::{holds, same};
 use fib_union::{Union, laws};
 use std::test::Fail;
 
@@ -6,22 +7,22 @@ use std::test::Fail;
 fn a_replaced_edge_stays_until_no_pass_can_stand_on_it(rt: HostRuntime) -> Result<(), Fail> {
     let mut union = Union::new(rt.alloc(), 4, 1)?;
     union.reserve(2)?;
-    assert!(rt; union.spare() >= 2);
-    assert_eq!(rt; union.set(0, 0, Some(1)), None);
-    assert_eq!(rt; union.set(1, 0, Some(2)), None);
-    assert!(rt; union.would_cycle(2, 0));
-    assert!(rt; union.spare() > 0);
-    assert_eq!(rt; union.set(1, 0, None), None);
-    assert_eq!(rt; union.retired(), 1);
-    assert!(rt; union.has_in(2));
-    assert!(rt; union.would_cycle(2, 1));
+    holds(&rt, union.spare() >= 2);
+    same(&rt, union.set(0, 0, Some(1)), None);
+    same(&rt, union.set(1, 0, Some(2)), None);
+    holds(&rt, union.would_cycle(2, 0));
+    holds(&rt, union.spare() > 0);
+    same(&rt, union.set(1, 0, None), None);
+    same(&rt, union.retired(), 1);
+    holds(&rt, union.has_in(2));
+    holds(&rt, union.would_cycle(2, 1));
     union.look(0, 1);
-    assert_eq!(rt; union.scan([1].as_slice()), 1);
-    assert_eq!(rt; union.scan([2].as_slice()), 0);
-    assert_eq!(rt; union.left(), Some(2));
-    assert_eq!(rt; union.left(), None);
-    assert!(rt; !union.has_in(2));
-    assert!(rt; !union.would_cycle(2, 1));
+    same(&rt, union.scan([1].as_slice()), 1);
+    same(&rt, union.scan([2].as_slice()), 0);
+    same(&rt, union.left(), Some(2));
+    same(&rt, union.left(), None);
+    holds(&rt, !union.has_in(2));
+    holds(&rt, !union.would_cycle(2, 1));
     Ok(())
 }
 

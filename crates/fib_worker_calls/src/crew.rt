@@ -2,6 +2,7 @@
 ghost use Rattle.std.specs.Prelude.{◌≡◌, ◌<◌, IfOk, length};
 ghost use Rattle.fib_crew.specs.Work.{MayWork};
 
+use crate::expect::{holds, same};
 use fib_addr::Addr;
 use fib_board::{Board, Crew};
 use fib_capture::{Capture, Packet};
@@ -66,7 +67,7 @@ fn a_worker_claims_two_frames(rt: HostRuntime) -> Result<(), Fail> {
     let packets = flows(rt.alloc(), 300)?;
     let (cells, seat) = Cells::new(rt.alloc(), 64, 1)?;
     let mut board = LiveBoard::new(&cells, seat);
-    assert_eq!(rt; ROUND.frames(), 2);
+    same(&rt, ROUND.frames(), 2);
     let worker = Worker::new(board.worker(0));
     let Worked {
         worker,
@@ -74,10 +75,10 @@ fn a_worker_claims_two_frames(rt: HostRuntime) -> Result<(), Fail> {
         done,
     } = through(rt.alloc(), &packets, worker);
     board.home(worker.into_seat());
-    assert!(rt; done);
-    assert_eq!(rt; frames.len(), 2);
-    assert_eq!(rt; board.gathered(), 3);
-    assert!(rt; is_dropped(&frames, 1, 43, 299)?);
+    holds(&rt, done);
+    same(&rt, frames.len(), 2);
+    same(&rt, board.gathered(), 3);
+    holds(&rt, is_dropped(&frames, 1, 43, 299)?);
     Ok(())
 }
 
@@ -90,7 +91,7 @@ fn results_of_a_span(rt: HostRuntime) -> Result<(), Fail> {
     let worker = Worker::new(board.worker(0));
     let worker = forward_span(worker, &packets, 5, 9, &mut results, &FreeGate);
     board.home(worker.into_seat());
-    assert_eq!(rt; results.list().len(), 4);
-    assert_eq!(rt; results.list()[0].0, 5);
+    holds(&rt, results.list().len() == 4);
+    same(&rt, results.list()[0].0, 5);
     Ok(())
 }

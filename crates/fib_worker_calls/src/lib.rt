@@ -8,6 +8,8 @@ mod cells;
 #[cfg(test)]
 mod crew;
 #[cfg(test)]
+mod expect;
+#[cfg(test)]
 mod plainboard;
 #[cfg(test)]
 mod standing;

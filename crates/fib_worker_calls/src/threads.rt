@@ -4,6 +4,7 @@ ghost use Rattle.fib_plainboard.specs.inner.Filling.{IsChanging};
 ghost use Rattle.fib_worker_calls.specs.declared.threads.Job.{Job as Work};
 ghost use Rattle.fib_worker_calls.specs.Homes.{IsOf, MayRun, SameBoard, SameSeat};
 
+use crate::expect::same;
 use crate::standing::filled_board;
 use fib_addr::Addr;
 use fib_board::{Board, Crew};
@@ -162,8 +163,8 @@ fn a_worker_beside_a_change(rt: HostRuntime) -> Result<(), Fail> {
     let worker = Worker::new(board.worker(0));
     let (worker, mut board) = beside(&rt, worker, board).ok_or("a wrong answer")?;
     board.home(worker.into_seat());
-    assert_eq!(rt; board.gathered(), PACKETS + 1);
-    assert_eq!(rt; board.scan(0), 2 * PACKETS);
+    same(&rt, board.gathered(), PACKETS + 1);
+    same(&rt, board.scan(0), 2 * PACKETS);
     board.settle_version();
     board.tells();
     Ok(())

@@ -6,6 +6,7 @@ ghost use Rattle.fib_cells.specs.Seats.{fresh_live, id_in};
 ghost use Rattle.fib_joined.specs.declared.put.Put.TheVariants as puts;
 ghost use Rattle.fib_plane.specs.Planes.{Holds};
 
+use crate::expect::{holds, same};
 use crate::standing::filled_board;
 use fib_addr::Addr;
 use fib_board::{Board, Crew};
@@ -62,14 +63,14 @@ fn a_pass_hop_by_hop(rt: HostRuntime) -> Result<(), Fail> {
     let (cells, seat) = Cells::new(rt.alloc(), 64, 2)?;
     let mut board = LiveBoard::new(&cells, seat);
     let worker = Worker::new(board.worker(1));
-    assert_eq!(rt; worker.number(), 1);
-    assert_eq!(rt; worker.knows(), Version::settled_at(0));
+    same(&rt, worker.number(), 1);
+    same(&rt, worker.knows(), Version::settled_at(0));
     let (hops, Finished { worker, result }) = two_hops(worker, Addr(7), 9);
-    assert_eq!(rt; hops, 1);
-    assert_eq!(rt; result, dropped(Addr(7), 9));
-    assert_eq!(rt; worker.passes_left(), 9_223_372_036_854_775_806);
+    same(&rt, hops, 1);
+    same(&rt, result, dropped(Addr(7), 9));
+    same(&rt, worker.passes_left(), 9_223_372_036_854_775_806);
     board.home(worker.into_seat());
-    assert_eq!(rt; board.scan(1), 2);
+    same(&rt, board.scan(1), 2);
     Ok(())
 }
 
@@ -87,16 +88,16 @@ fn one_of_eight_forwards(rt: HostRuntime) -> Result<(), Fail> {
         board.worker(6),
         board.worker(7),
     ];
-    assert_eq!(rt; worker.claim(), 0);
-    assert_eq!(rt; worker.claims_left(), 4_294_967_294);
+    same(&rt, worker.claim(), 0);
+    same(&rt, worker.claims_left(), 4_294_967_294);
     let Finished { worker, result } = worker.forward(Addr(0xFFFF_FFFF), 5);
-    assert_eq!(rt; result, dropped(Addr(0xFFFF_FFFF), 5));
-    assert_eq!(rt; board.scan(0), 2);
-    assert_eq!(rt; board.scan(7), 0);
+    same(&rt, result, dropped(Addr(0xFFFF_FFFF), 5));
+    same(&rt, board.scan(0), 2);
+    same(&rt, board.scan(7), 0);
     board.home(worker.into_seat());
-    assert_eq!(rt; board.gathered(), 1);
+    same(&rt, board.gathered(), 1);
     drop(resting);
-    assert!(rt; board.is_out(7));
+    holds(&rt, board.is_out(7));
     Ok(())
 }
 
@@ -140,16 +141,16 @@ fn a_worker_on_a_plane(rt: HostRuntime) -> Result<(), Fail> {
     let (cells, seat) = Cells::new(rt.alloc(), 64, 2)?;
     let mut plane = linked(rt.alloc(), &cells, seat)?;
     let seat = plane.worker(1);
-    assert!(rt; plane.is_out(1));
+    holds(&rt, plane.is_out(1));
     let note = plane.note();
     let worker = Worker::new(seat.told(note));
     let (hops, Finished { worker, result }) = two_hops(worker, Addr(7), 9);
-    assert_eq!(rt; hops, 2);
-    assert_eq!(rt; result, dropped(Addr(7), 9));
+    same(&rt, hops, 2);
+    same(&rt, result, dropped(Addr(7), 9));
     plane.home(worker.into_seat());
-    assert!(rt; !plane.is_out(1));
-    assert_eq!(rt; plane.gathered(), 0);
-    assert_eq!(rt; plane.passes_left(1), 9_223_372_036_854_775_806);
+    holds(&rt, !plane.is_out(1));
+    same(&rt, plane.gathered(), 0);
+    same(&rt, plane.passes_left(1), 9_223_372_036_854_775_806);
     plane.tells();
     Ok(())
 }
@@ -194,14 +195,14 @@ fn beneath(board: &mut LiveBoard<'_>)
 fn a_change_beneath_held_passes(rt: HostRuntime) -> Result<(), Fail> {
     let (cells, seat) = Cells::new(rt.alloc(), 64, 1)?;
     let mut board = filled_board(&cells, seat);
-    assert_eq!(rt; board.load(0, 0), Word::ToPly(1));
+    same(&rt, board.load(0, 0), Word::ToPly(1));
     let tables = Tables::fresh(rt.alloc());
     board.begin_version(&tables);
     let version = Version {
         settled: 0,
         applied: 1,
     };
-    assert_eq!(rt; board.version(), version);
+    same(&rt, board.version(), version);
     let mut worker = Worker::new(board.worker(0));
     for held in 0..4 {
         if worker.passes_left() == 0 {
@@ -212,14 +213,14 @@ fn a_change_beneath_held_passes(rt: HostRuntime) -> Result<(), Fail> {
             result,
         } = held_beneath_a_change(&mut board, worker, held);
         worker = after;
-        assert_eq!(rt; (result.lo, result.hi), (version, version));
-        assert_eq!(rt; result.end, End::Drop);
+        same(&rt, (result.lo, result.hi), (version, version));
+        same(&rt, result.end, End::Drop);
     }
     board.home(worker.into_seat());
-    assert_eq!(rt; board.load(20, 0), Word::Drop);
-    assert_eq!(rt; board.scan(0), 8);
+    same(&rt, board.load(20, 0), Word::Drop);
+    same(&rt, board.scan(0), 8);
     board.settle_version();
-    assert_eq!(rt; board.version(), Version::settled_at(1));
+    same(&rt, board.version(), Version::settled_at(1));
     board.tells();
     Ok(())
 }
