@@ -126,6 +126,10 @@ impl Queue {
         ensures ranks { (d : PrefixValue) → rank_in self.new.members d ≡ (if same_prefix prefix d then Some rank else rank_in self.old.members d) }
         ensures spare { self.old.spare ≤ self.new.spare + 1 }
     {
+        // What is woken is often queued already.
+        if self.rank(prefix) == Some(rank) {
+            return;
+        }
         self.remove(prefix);
         self.enter(prefix, rank);
     }
