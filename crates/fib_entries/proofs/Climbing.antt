@@ -35,10 +35,10 @@ leads_no rows asc e t r ms ls b at marks loops is off q c own =
 pub leads_none : (rows : List Row) → IsAscending (map prefix_of rows) → (e : Prefix) → None ≡ row_of rows e → (q : Row) → Contains rows q → q.prefix ≡ e → ⊥
 leads_none rows asc e none q c own = none_some q (none ∙ row_by rows asc e q c (sym own))
 
-same_self : (e : Prefix) → same_prefix e e ≡ true
+pub same_self : (e : Prefix) → same_prefix e e ≡ true
 same_self e = (same_prefix-Decides e e).1 refl
 
-same_not : (d e : Prefix) → d ≢ e → same_prefix d e ≡ false
+pub same_not : (d e : Prefix) → d ≢ e → same_prefix d e ≡ false
 same_not d e off = elim (either (same_prefix d e)) [ inl is ↦ absurd (off ((same_prefix-Decides d e).0 is)) | inr isnt ↦ isnt ]
 
 same_cases : (d e : Prefix) → (d ≡ e) ⊎ (d ≢ e)

@@ -43,7 +43,7 @@ use Rattle.fib_entries.proofs.Replacing.{maps_same}
 pub record AreAlike (U V : Tables) (e : Prefix) : Type 0 where
   pub pairs_are : SamePairs U V e
   pub chosen_are : chosen U e ≡ chosen V e
-  pub looped_are : (a : ℕ) → looped U e a ≡ looped V e a
+  pub looped_are : (q : Path) (a : ℕ) → Contains (chosen U e) q → q.kind ≡ kinds.Recursive a → looped U e a ≡ looped V e a
   pub met_are : (need : Need) (a : ℕ) → is_met U need a ≡ is_met V need a
   pub flags : (i : ℕ) → is_up U i ≡ is_up V i
   pub macs : (i a : ℕ) → mac_of U i a ≡ mac_of V i a
@@ -55,7 +55,7 @@ module _ (U V T : Tables) (e : Prefix) (h : AreAlike U V e) where
   kinds_alike q c kinds.Local is = refl
   kinds_alike q c (kinds.Attached i) is = ap (λ b. differ b (is_up T i) || ((e.len == 32) && other_mac U T i e.bits)) (h.flags i) ∙ ap (λ o. other_flag V T i || ((e.len == 32) && not (same_mac o (mac_of T i e.bits)))) (h.macs i e.bits)
   kinds_alike q c (kinds.Hop a i) is = ap (λ b. differ b (is_up T i) || other_mac U T i a) (h.flags i) ∙ ap (λ o. other_flag V T i || not (same_mac o (mac_of T i a))) (h.macs i a)
-  kinds_alike q c (kinds.Recursive a) is = ap (λ b. differ b (looped T e a) || differ (is_met U q.need a) (is_met T q.need a)) (h.looped_are a) ∙ ap (λ b. differ (looped V e a) (looped T e a) || differ b (is_met T q.need a)) (h.met_are q.need a)
+  kinds_alike q c (kinds.Recursive a) is = ap (λ b. differ b (looped T e a) || differ (is_met U q.need a) (is_met T q.need a)) (h.looped_are q a c is) ∙ ap (λ b. differ (looped V e a) (looped T e a) || differ b (is_met T q.need a)) (h.met_are q.need a)
   kinds_alike q c kinds.Cover is = ap (λ z. not (same_prefix z (cover T e.bits))) (h.cover_is q c is)
 
   -- what isn't touched after the one isn't after the other
@@ -83,7 +83,7 @@ alike_back : (U V : Tables) (e : Prefix) → AreAlike U V e → AreAlike V U e
 alike_back U V e h = record {
   pairs_are = λ x at. (let s = h.pairs_are x at in (s.1, s.0));
   chosen_are = sym h.chosen_are;
-  looped_are = λ a. sym (h.looped_are a);
+  looped_are = λ q a c is. sym (h.looped_are q a (subst (λ l. Contains l q) (sym h.chosen_are) c) is);
   met_are = λ need a. sym (h.met_are need a);
   flags = λ i. sym (h.flags i);
   macs = λ i a. sym (h.macs i a);
@@ -106,7 +106,7 @@ module _ (X U V : Tables) (e : Prefix) (h : AreAlike U V e) where
   kinds_alike_to q c kinds.Local is = refl
   kinds_alike_to q c (kinds.Attached i) is = ap (λ b. differ (is_up X i) b || ((e.len == 32) && other_mac X U i e.bits)) (h.flags i) ∙ ap (λ o. other_flag X V i || ((e.len == 32) && not (same_mac (mac_of X i e.bits) o))) (h.macs i e.bits)
   kinds_alike_to q c (kinds.Hop a i) is = ap (λ b. differ (is_up X i) b || other_mac X U i a) (h.flags i) ∙ ap (λ o. other_flag X V i || not (same_mac (mac_of X i a) o)) (h.macs i a)
-  kinds_alike_to q c (kinds.Recursive a) is = ap (λ b. differ (looped X e a) b || differ (is_met X q.need a) (is_met U q.need a)) (h.looped_are a) ∙ ap (λ b. differ (looped X e a) (looped V e a) || differ (is_met X q.need a) b) (h.met_are q.need a)
+  kinds_alike_to q c (kinds.Recursive a) is = ap (λ b. differ (looped X e a) b || differ (is_met X q.need a) (is_met U q.need a)) (h.looped_are q a c is) ∙ ap (λ b. differ (looped X e a) (looped V e a) || differ (is_met X q.need a) b) (h.met_are q.need a)
   kinds_alike_to q c kinds.Cover is = ap (λ z. not (same_prefix (cover X e.bits) z)) (h.cover_is q c is)
 
   -- what isn't touched on the way to the one isn't on the way to the other
@@ -153,7 +153,7 @@ module _ (U : Tables) (p : Prefix) (source : FibSource) (list : List Path) (b : 
   alike e off = record {
     pairs_are = over_pairs U p source list b e off;
     chosen_are = same_chosen U V e (over_sound U p source list b) (over_pairs U p source list b e off);
-    looped_are = over_looped U p source list b plain_list e;
+    looped_are = λ q a c is. over_looped U p source list b plain_list e a;
     met_are = λ need a. led_met U V p source [] (over_edit U p source list b) need a (Contains-nil a);
     flags = λ i. refl;
     macs = λ i a. refl;

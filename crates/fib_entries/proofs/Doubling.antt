@@ -80,7 +80,7 @@ local_not e = (cc)
 attached_not : (i : ℕ) → kinds.Attached i ≡ kinds.Cover → ⊥
 attached_not i e = (cc)
 
-drop_sound : (n : ℕ) → IsSoundList n (plain kinds.Drop ∷ []) × (0 < length (plain kinds.Drop ∷ []))
+pub drop_sound : (n : ℕ) → IsSoundList n (plain kinds.Drop ∷ []) × (0 < length (plain kinds.Drop ∷ []))
 drop_sound n = kind_sound n kinds.Drop tt drop_not refl
 
 -- the list of a prefix shorter than a host could be a route's

@@ -102,3 +102,17 @@ pub mod Overlaying
 pub mod Overtaking
 pub mod Uncovering
 pub mod Baring
+pub mod Aimings
+pub mod AdoptLaws
+pub mod AdoptEdges
+pub mod AdoptSizes
+pub mod Kinship
+pub mod Opening
+pub mod Opened
+pub mod Turnover
+pub mod Adopted
+pub mod AdoptRows
+pub mod ReleaseRows
+pub mod Releases
+pub mod Vacated
+pub mod Released

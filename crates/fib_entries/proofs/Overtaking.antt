@@ -60,7 +60,7 @@ use Rattle.fib_entries.proofs.Sharing.{each_true}
 use Rattle.fib_entries.proofs.Telling.{kept_some}
 use Rattle.fib_entries.proofs.Using.{counted_taken, once, recounted, taken_stays}
 
-heads_same : {X : Type 0} (x y : X) (xs ys : List X) → x ∷ xs ≡ y ∷ ys → x ≡ y
+pub heads_same : {X : Type 0} (x y : X) (xs ys : List X) → x ∷ xs ≡ y ∷ ys → x ≡ y
 heads_same x y xs ys is = (cc)
 
 -- the rows with that list once more

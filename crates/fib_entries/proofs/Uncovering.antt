@@ -71,12 +71,12 @@ module _ (S T : Tables) (p : Prefix) (source : FibSource) (differ : Differ (chan
       let e = ap length (sym (list_of_route T after p source r c it) ∙ none) in
       omega (arith, some, e)
 
-  none_own : (x : Pair) → Contains (pairs T) x → p ≡ x.prefix → x.source ≢ source
+  pub none_own : (x : Pair) → Contains (pairs T) x → p ≡ x.prefix → x.source ≢ source
   none_own x c at is = (let r = written_route T x c (subst (λ t. (source_rank t ≡ 2) ⊎ (source_rank t ≡ 3)) (sym is) written) in
       no_route r.0 r.1 (is_it p source r.0 (ap (λ z. z.prefix) r.2 ∙ sym at) (ap (λ z. z.source) r.2 ∙ is)))
 
   -- the prefix had the pairs that it has
-  had : (x : Pair) → Contains (pairs T) x → p ≡ x.prefix → Contains (pairs S) x
+  pub had : (x : Pair) → Contains (pairs T) x → p ≡ x.prefix → Contains (pairs S) x
   had x c at = by (origin T x c)
     where
       by : Origin T x → Contains (pairs S) x
@@ -102,7 +102,7 @@ module _ (S T : Tables) (p : Prefix) (source : FibSource) (differ : Differ (chan
   host_real : (a : ℕ) → a < 2 ^ 32 → IsPrefix (host a)
   host_real a small = record { short = omega arith; fits = small; cleared = omega arith }
 
-  real_after : ((q : Prefix) → Contains (entries S) q → IsPrefix q) → ((n : Neighbor) → Contains T.neighbors n → n.addr < 2 ^ 32) → (q : Prefix) → Contains (entries T) q → IsPrefix q
+  pub real_after : ((q : Prefix) → Contains (entries S) q → IsPrefix q) → ((n : Neighbor) → Contains T.neighbors n → n.addr < 2 ^ 32) → (q : Prefix) → Contains (entries T) q → IsPrefix q
   real_after real far q c = (let x = pair_at T q c in subst IsPrefix x.2 (by x.0 (origin T x.0 x.1)))
     where
       by : (x : Pair) → Origin T x → IsPrefix x.prefix

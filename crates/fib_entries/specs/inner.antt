@@ -24,3 +24,6 @@ pub mod Hop
 pub mod Clear
 pub mod Above
 pub mod Under
+pub mod Adopting
+pub mod Best
+pub mod Releasing

@@ -65,7 +65,7 @@ fn worse_list(r: &Row, source: FibSource) -> Option<PathListId>
 }
 
 /// Whether the list has several users.
-fn is_shared(lists: &PathLists, id: PathListId) -> bool
+pub fn is_shared(lists: &PathLists, id: PathListId) -> bool
     requires { IsSome (kept_of lists.now id) }
     ensures { IsTrue result → (1 < users_of lists.now id) × (users_of lists.now id < 2 ^ 32) }
 {
@@ -159,7 +159,7 @@ fn is_turned(turned: &Turned) -> bool
 }
 
 /// What comes of the change of the prefix's best list. None where that isn't found soon, or a host comes or goes with it.
-fn plan(
+pub fn plan(
     alloc: Global,
     rows: &Blocks<Row>,
     lists: &PathLists,

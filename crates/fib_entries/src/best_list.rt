@@ -1,5 +1,5 @@
 // The list of a prefix's best route, replaced whatever leads to the prefix.
-ghost use Rattle.std.specs.Prelude.{◌∷◌, ◌-◌, ◌^◌, Contains, IfNone, OnErr, OnOk, ◌≡◌, ◌<◌, ◌≤◌, IfOk, IfSome, [], map, nat_lt, true, List as Items};
+ghost use Rattle.std.specs.Prelude.{◌∷◌, ◌-◌, ◌^◌, ◌++◌, ℕ, Contains, IfNone, OnErr, OnOk, ◌≡◌, ◌<◌, ◌≤◌, IfOk, IfSome, [], map, nat_lt, true, List as Items};
 ghost use Rattle.std.specs.List.{list_all};
 ghost use Rattle.fib_resolve.specs.Edits.{paths_at, with_routes};
 ghost use Rattle.fib_resolve.specs.Tables.{IsSound};
@@ -8,9 +8,11 @@ ghost use Rattle.fib_entries.specs.Known.{StandsFor, prefix_of};
 ghost use Rattle.fib_resolve.specs.declared.types.Path.{Path as PathValue};
 ghost use Rattle.fib_resolve.specs.declared.types.Route.{Route as RouteValue};
 ghost use Rattle.fib_paths.specs.PathLists.{IsUsedLess};
+ghost use Rattle.fib_entries.specs.inner.Best.{IsPlan};
 ghost use Rattle.fib_entries.specs.inner.Course.{IsCourse};
 ghost use Rattle.fib_entries.specs.inner.Led.{IsReaching};
-ghost use Rattle.fib_entries.specs.inner.Reaching.{HasReached};
+ghost use Rattle.fib_entries.specs.inner.Raising.{moved_from};
+ghost use Rattle.fib_entries.specs.inner.Reaching.{HasReached, gone_moved, late_moved, turned_hosts};
 ghost use Rattle.fib_entries.specs.inner.Leaf.{IsFollowed, is_plain};
 ghost use Rattle.fib_changes.specs.Differ.{Differ};
 ghost use Rattle.fib_changes.specs.declared.change.Change.TheVariants as changes;
@@ -26,6 +28,16 @@ use crate::reaching::{Course, Spot, reaching, turn_reached};
 use fib_addr::Prefix;
 use fib_resolve::{FibSource, Path, Tables};
 use std::alloc::AllocError;
+
+/// How a best list is replaced: where, with what comes of it, and how many objects there are before a host that goes has left.
+#[derive(Drop)]
+pub struct Plan {
+    pub spot: Spot,
+    /// The rank of the prefix's row.
+    pub rank: u32,
+    pub objects: u32,
+    pub course: Course,
+}
 
 impl Entries {
     /// Follows the change of the prefix's best list, whatever leads to it: in its own row, in those of which a path is looped then that
@@ -75,18 +87,30 @@ impl Entries {
             new,
             rank: 0,
         };
+        let Some(plan) = self.plan_best(&to, most)? else {
+            return Ok(None);
+        };
+        let followed = self.carry_out(&to, plan)?;
+        Ok(Some(followed))
+    }
+
+    /// How the prefix's best list is replaced by that one, whatever rank is given. None where rows and neighbors don't tell what is touched, that
+    /// isn't found soon, or there are more objects then than that.
+    pub(crate) fn plan_best(&self, to: &Target<'_>, most: u32) -> Result<Option<Plan>, AllocError>
+        ensures plan { IfOk result (λ o. IfSome o (λ m. IsPlan self.now.rows self.now.lists (map prefix_of self.now.rows) self.now.objects to.now.tables.now to.now.prefix to.now.source to.now.new.now most m)) }
+    {
         let found = reaching(
             self.alloc,
             &self.rows,
             &self.lists,
             &self.order,
             &self.index,
-            &to,
+            to,
         )?;
         let Some(spot) = found else {
             return Ok(None);
         };
-        if !is_other(&self.lists, spot.id, new) {
+        if !is_other(&self.lists, spot.id, to.new) {
             return Ok(None);
         }
         let made = made_by(&self.rows, &spot.turned.late);
@@ -97,14 +121,51 @@ impl Entries {
             return Ok(None);
         }
         let rank = self.rows[spot.place].rank();
-        let to = Target { rank, ..to };
+        let here = Target {
+            tables: to.tables,
+            prefix: to.prefix,
+            source: to.source,
+            new: to.new,
+            rank,
+        };
         let old = self.lists.content(spot.id);
-        let Some(course) = course(self.alloc, &self.rows, &to, old, spot.turned)? else {
+        let Some(course) = course(self.alloc, &self.rows, &here, old, spot.turned)? else {
             return Ok(None);
         };
-        let (followed, left) = self.turn(&spot, &to, course)?;
+        Ok(Some(Plan {
+            spot,
+            rank,
+            objects,
+            course,
+        }))
+    }
+
+    /// Replaces the list as planned, whatever rank is given beside it, and tells what comes of it. After want of memory all is as before.
+    pub(crate) fn carry_out(&mut self, to: &Target<'_>, plan: Plan) -> Result<Followed, AllocError>
+        requires plan { (most : ℕ) × (most < 2 ^ 32 - 1) × IsPlan self.old.rows self.old.lists (map prefix_of self.old.rows) self.old.objects to.now.tables.now to.now.prefix to.now.source to.now.new.now most plan }
+        ensures followed { IfOk result (λ f. (most : ℕ) → most < 2 ^ 32 - 1 → IsPlan self.old.rows self.old.lists (map prefix_of self.old.rows) self.old.objects to.now.tables.now to.now.prefix to.now.source to.now.new.now most plan
+            → (S : TablesValue) (routes : Items RouteValue) → StandsFor self.old S → IsSound (with_routes to.now.tables.now routes) → to.now.new.now ≡ paths_at to.now.prefix to.now.source routes
+            → Differ (changes.Route to.now.prefix to.now.source ∷ []) S (with_routes to.now.tables.now routes) → IsFollowed self.old self.new S (with_routes to.now.tables.now routes) most f) }
+        ensures touched { IfOk result (λ f. f.touched ≡ to.now.prefix ∷ turned_hosts plan.spot.turned.late plan.spot.turned.gone ++ plan.course.again) }
+        ensures moved { IfOk result (λ f. f.moved ≡ (late_moved plan.spot.turned.late ++ gone_moved self.old.rows plan.spot.turned.gone) ++ map (moved_from self.old.rows) plan.course.raised) }
+        ensures err { OnErr result (self.new ≡ self.old) }
+    {
+        let Plan {
+            spot,
+            rank,
+            objects,
+            course,
+        } = plan;
+        let here = Target {
+            tables: to.tables,
+            prefix: to.prefix,
+            source: to.source,
+            new: to.new,
+            rank,
+        };
+        let (followed, left) = self.turn(&spot, &here, course)?;
         self.objects = objects - left;
-        Ok(Some(followed))
+        Ok(followed)
     }
 
     /// The list at that spot is replaced by the new one, with all that comes of it. Tells it, and how many objects went with the host that

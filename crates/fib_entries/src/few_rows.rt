@@ -71,9 +71,15 @@ impl Entries {
         if let Some(followed) = self.follow_reached(tables, prefix, source, new, most)? {
             return Ok(Some(followed));
         }
-        match self.follow_above(tables, prefix, source, new, most)? {
+        if let Some(followed) = self.follow_above(tables, prefix, source, new, most)? {
+            return Ok(Some(followed));
+        }
+        if let Some(followed) = self.follow_adopting(tables, prefix, source, new, most)? {
+            return Ok(Some(followed));
+        }
+        match self.follow_under(tables, prefix, source, new, most)? {
             Some(followed) => Ok(Some(followed)),
-            None => self.follow_under(tables, prefix, source, new, most),
+            None => self.follow_releasing(tables, prefix, source, new, most),
         }
     }
 

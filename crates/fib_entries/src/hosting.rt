@@ -146,7 +146,7 @@ pub fn is_loose_list(paths: &[Path]) -> bool
 }
 
 /// Whether that is so of the row's chosen list.
-fn is_loose(lists: &PathLists, r: &Row) -> bool
+pub fn is_loose(lists: &PathLists, r: &Row) -> bool
     requires { AreKept lists.now r.now.pairs }
     ensures { IsTrue result → IsLoose lists.now r.now }
 {

@@ -5,6 +5,7 @@
 #![tactic(auto)]
 
 mod above;
+mod adopting;
 mod apply;
 mod best_list;
 mod build;
@@ -14,6 +15,7 @@ mod clear;
 mod coming;
 mod compare;
 mod course;
+mod cover_of;
 mod dependants;
 mod edges;
 mod ends;
@@ -41,9 +43,11 @@ mod plies;
 mod raising;
 mod ranks;
 mod reaching;
+mod releasing;
 mod relooping;
 mod replace;
 mod rows;
+mod shifting;
 mod sizes;
 mod under;
 mod waking;

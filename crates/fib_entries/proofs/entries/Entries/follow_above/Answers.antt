@@ -1,4 +1,4 @@
-use Rattle.std.proofs.Common.{◌≡◌, List, ◌∷◌, [], Option, map, refl, sym, ap, ◌∙◌, subst}
+use Rattle.std.proofs.Common.{List, ◌∷◌, [], Option, map, refl, subst}
 use Rattle.std.specs.Prelude.{IfSome}
 use Rattle.fib_addr.specs.Prefixes.{Prefix}
 use Rattle.fib_resolve.specs.declared.types.Tables.{Tables}
@@ -6,7 +6,6 @@ use Rattle.fib_changes.specs.Differ.{Differ}
 use Rattle.fib_changes.specs.declared.change.Change.TheVariants as changes
 use Rattle.fib_entries.specs.Known.{Known, StandsFor, prefix_of}
 use Rattle.fib_entries.specs.inner.Above.{IsAbove, IsOver}
-use Rattle.fib_entries.specs.inner.Fields.{AreFields, Index}
 use Rattle.fib_entries.specs.inner.Leaf.{IsFollowed}
 use Rattle.fib_entries.specs.Rows.{Row}
 use Rattle.fib_entries.specs.declared.above.Above.{Above}

@@ -1,4 +1,4 @@
-use Rattle.std.proofs.Common.{◌≡◌, ◌≢◌, List, [], None, Some, map, refl, sym, ap, ◌∙◌, subst}
+use Rattle.std.proofs.Common.{◌≢◌, List, [], None, Some, map, refl, sym, subst}
 use Rattle.fib_addr.specs.Prefixes.{Prefix}
 use Rattle.fib_entries.specs.Known.{Known, content_of, prefix_of}
 use Rattle.fib_entries.specs.inner.Above.{IsAbove, IsOver}

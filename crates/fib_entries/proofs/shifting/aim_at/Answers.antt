@@ -1,0 +1,17 @@
+use Rattle.std.proofs.Common.{length, refl, sym, ◌∙◌, ap}
+use Rattle.std.specs.Prelude.{slice_set}
+use Rattle.std.proofs.lemmas.Option.{slice_get_read}
+use Rattle.fib_entries.proofs.Climbing.{leads_none}
+use Rattle.fib_entries.proofs.Aimings.{none_aimed, row_aimed}
+use Rattle.fib_entries.proofs.Standing.{row_there}
+use Rattle.fib_entries.proofs.shifting.aim_at.Goals as goal
+
+pub returns-in-Some : goal.returns-in-Some
+returns-in-Some c =
+    let rows = c.args.rows.now in
+    let read = slice_get_read rows (length rows) c.in-Some.place c.index_mut.result.now refl c.in-Some.ensures.inside c.index_mut.ensures.value in
+    let t = row_there rows c.args.prefix c.index_mut.result.now (sym c.in-Some.ensures.value ∙ read) in
+    ap (slice_set rows c.in-Some.place) c.aim_row.ensures ∙ row_aimed c.args.prefix c.args.to rows c.requires c.in-Some.place c.index_mut.result.now read (sym t.1)
+
+pub returns-in-None : goal.returns-in-None
+returns-in-None c = sym (none_aimed c.args.prefix c.args.to c.args.rows.now (λ q k same. leads_none c.args.rows.now c.requires c.args.prefix c.in-None.ensures.value q k same))
