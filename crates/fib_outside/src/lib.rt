@@ -7,17 +7,22 @@
 mod faults;
 mod files;
 mod gate;
+mod hold;
 mod honest;
+mod kept;
 mod meet;
 mod part;
 mod real;
 mod shelf;
 mod sink;
+mod waiting;
 
 pub use gate::{FreeGate, Gate};
+pub use hold::HoldGate;
 pub use honest::{HonestShelf, HonestSink};
+pub use kept::{KeptGate, Told};
 pub use meet::MeetGate;
 pub use part::{Failed, Part};
-pub use real::{FileShelf, StandardOut};
+pub use real::{FileShelf, StandardError, StandardOut};
 pub use shelf::{MemoryShelf, Shelf};
 pub use sink::{MemorySink, Sink};

@@ -1,9 +1,7 @@
 // A gate at which a change and a packet meet.
 use crate::Gate;
+use crate::waiting::is_set_within;
 use std::sync::atomic::{AtomicBool, Ordering};
-
-/// How many loads of the flag that is waited for one yield is.
-const LOADS: u32 = 1000;
 
 /// A gate that holds one change back until one packet has come, and that packet until the change was made. Each of the two
 /// gives up after so many yields, so no call waits for good, and none needs a runtime. All other calls return at once.
@@ -41,23 +39,10 @@ impl MeetGate {
 
     // Yields until the flag is set, or gives up.
     fn wait_for(&self, flag: &AtomicBool) {
-        for _ in 0..self.turns {
-            if is_set_soon(flag) {
-                return;
-            }
-        }
-        self.gave_up.store(true, Ordering::SeqCst);
-    }
-}
-
-// One yield: loads the flag until it is set, at most so many times.
-fn is_set_soon(flag: &AtomicBool) -> bool {
-    for _ in 0..LOADS {
-        if flag.load(Ordering::SeqCst) {
-            return true;
+        if !is_set_within(flag, self.turns) {
+            self.gave_up.store(true, Ordering::SeqCst);
         }
     }
-    false
 }
 
 impl Gate for MeetGate {

@@ -130,3 +130,30 @@ impl<R: Print + Drop> Sink for StandardOut<R> {
         }
     }
 }
+
+/// The standard error.
+#[derive(Drop)]
+pub struct StandardError<R: Print + Drop> {
+    out: StandardOut<R>,
+}
+
+impl<R: Print + Drop> StandardError<R> {
+    /// The standard error, as a runtime's `stderr` gives it.
+    pub fn new(stderr: R) -> Self
+        ensures { ⟦<StandardError<R> as Sink>⟧.faults result ≡ 0 }
+    {
+        StandardError {
+            out: StandardOut::new(stderr),
+        }
+    }
+}
+
+impl<R: Print + Drop> Sink for StandardError<R> {
+    ghost written = { λ s. None };
+
+    ghost faults = { λ s. ⟦<StandardOut<R> as Sink>⟧.faults s.out };
+
+    fn write(&mut self, bytes: &[u8]) -> Result<usize, Failed> {
+        self.out.write(bytes)
+    }
+}

@@ -1,8 +1,8 @@
 // Where a run's files come from.
-ghost use Rattle.std.specs.Prelude.{◌≡◌, ◌≢◌, ◌++◌, ◌<◌, ◌≤◌, [], ℕ, List, Option, Some, None, true, false, length, take, drop, min, if◌then◌else◌, IfOk, OnOk, OnErr, IsSome, IsOkAnd, is_ok};
+ghost use Rattle.std.specs.Prelude.{◌≡◌, ◌≢◌, ◌++◌, ◌<◌, ◌≤◌, [], ℕ, List, Option, Some, None, true, false, length, take, drop, min, if◌then◌else◌, IfOk, OnOk, OnErr, IsSome, is_ok, is_err};
 ghost use Rattle.fib_outside.specs.Outside.{HasRisen, Consumes, IsAtEnd};
 ghost use Rattle.fib_outside.specs.FaultCounts.{no_faults};
-ghost use Rattle.fib_outside.specs.Memory.{files_in, fetch_fails, after_refusal, after_fetch};
+ghost use Rattle.fib_outside.specs.Memory.{files_in, fetch_fails, after_refusal, after_fetch, read_fails, after_read, after_read_fault, is_read_listed, new_shelf};
 
 use crate::faults::Faults;
 use crate::files::Files;
@@ -50,13 +50,17 @@ pub trait Shelf {
         ensures same { (file : List ℕ) → holds self.new file ≡ holds self.old file };
 }
 
-/// Files in memory, whose fetches fail where they are told to. Contracts see it as a record of the files, the numbers of the
-/// fetches that fail, the fetches so far, the part that is open, what is left of its file, and the faults so far.
+/// Files in memory, whose fetches and reads fail where they are told to. Contracts see it as a record of the files, the numbers of the
+/// fetches and of the reads that fail, the fetches so far, the reads since the last of them, the part that is open, what is left of its
+/// file, and the faults so far.
 #[derive(Drop)]
 pub struct MemoryShelf {
     files: Files,
     failing: Vec<u32>,
+    failing_reads: Vec<(u32, u32)>,
     fetches: u64,
+    last: u64,
+    reads: u64,
     fetched: Option<Part>,
     faults: Faults,
 }
@@ -66,23 +70,58 @@ impl Model for MemoryShelf {
 
     ghost Value = { ShelfState };
 
-    ghost view = { λ s. record { files = s.files.files; failing = s.failing.items; fetches = s.fetches; fetched = s.fetched; left = s.files.left; faults = s.faults } };
+    ghost view = { λ s. record {
+      files = s.files.files;
+      failing = s.failing.items;
+      failing_reads = s.failing_reads.items;
+      fetches = s.fetches;
+      last = s.last;
+      reads = s.reads;
+      fetched = s.fetched;
+      left = s.files.left;
+      faults = s.faults;
+    } };
 }
 
 impl MemoryShelf {
     /// A shelf of these files; of two of one name the first counts. The fetches of the given numbers fail, counted from 0,
-    /// and those of a name that no file has.
+    /// and those of a name that no file has. No read fails.
     pub fn new(files: Vec<(String, Vec<u8>)>, failing: Vec<u32>) -> MemoryShelf
-        ensures { result ≡ record { files = files_in files.items; failing = failing.items; fetches = 0; fetched = None; left = []; faults = no_faults } }
+        ensures { result ≡ new_shelf (files_in files.items) failing.items [] }
+    {
+        let none = Vec::new(*failing.allocator());
+        MemoryShelf::failing_reads(files, failing, none)
+    }
+
+    /// The same, whose reads fail too, exactly where they are listed: at `(f, r)` the read of number `r` since the fetch of number `f`,
+    /// both counted from 0. A read that fails takes no byte, and counts a fault of the open part.
+    pub fn failing_reads(
+        files: Vec<(String, Vec<u8>)>,
+        failing: Vec<u32>,
+        reads: Vec<(u32, u32)>,
+    ) -> MemoryShelf
+        ensures { result ≡ new_shelf (files_in files.items) failing.items reads.items }
     {
         MemoryShelf {
             files: Files::new(files),
             failing,
+            failing_reads: reads,
             fetches: 0,
+            last: 0,
+            reads: 0,
             fetched: None,
             faults: Faults::new(),
         }
     }
+}
+
+// Whether the read of that number since the fetch of that one is listed. None of more than 32 bits is.
+fn is_read_listed(reads: &[(u32, u32)], fetch: u64, read: u64) -> bool
+    ensures { result ≡ is_read_listed reads.now fetch read }
+{
+    reads
+        .iter()
+        .any(|r| u64::from(r.0) == fetch && u64::from(r.1) == read)
 }
 
 impl Shelf for MemoryShelf {
@@ -105,6 +144,8 @@ impl Shelf for MemoryShelf {
     {
         let number = self.fetches;
         self.fetches = number.saturating_add(1);
+        self.last = number;
+        self.reads = 0;
         if is_listed(&self.failing, number) || !self.files.open(name) {
             self.files.close();
             self.fetched = None;
@@ -115,12 +156,23 @@ impl Shelf for MemoryShelf {
         Ok(())
     }
 
-    /// Never fails, and takes no memory.
+    /// Takes no memory.
     fn read(&mut self, into: &mut [u8]) -> Result<usize, Failed>
-        ensures ok { IsOkAnd result (λ n. n ≡ min (length into.old) (length self.old.left)) }
+        ensures failing { is_err result ≡ read_fails self.old }
+        ensures len { IfOk result (λ n. n ≡ min (length into.old) (length self.old.left)) }
         ensures bytes { IfOk result (λ n. into.new ≡ take n self.old.left ++ drop n into.old) }
-        ensures after { IfOk result (λ n. self.new ≡ record self.old { left = drop n self.old.left }) }
+        ensures after { IfOk result (λ n. self.new ≡ after_read self.old n) }
+        ensures unread { OnErr result (into.new ≡ into.old) }
+        ensures fault { OnErr result (self.new ≡ after_read_fault self.old) }
     {
+        let number = self.reads;
+        self.reads = number.saturating_add(1);
+        if is_read_listed(&self.failing_reads, self.last, number) {
+            if let Some(part) = self.fetched {
+                self.faults.raise(part);
+            }
+            return Err(Failed);
+        }
         Ok(self.files.read(into))
     }
 }
