@@ -7,14 +7,16 @@ use Rattle.clap.specs.Words.{Row, Text, first_of}
 use Rattle.fib_addr.specs.Texts.{number_of}
 use Rattle.fib_words.specs.declared.types.Asked.{Asked}
 use Rattle.fib_settings.specs.declared.sizes.Settings.{Settings}
-use Rattle.fib_words.specs.Words.{asked, asked_by, settings_of, source_of, number_or, objects_or, is_taken, asked_in, origin_in, Origin, AcceptedAreInRange}
+use Rattle.fib_words.specs.Parts.{number_or, objects_or}
+use Rattle.fib_words.specs.Words.{asked, asked_by, settings_of, source_of, is_taken, asked_in, origin_in, Origin, AcceptedAreInRange}
 use Rattle.fib_settings.specs.Ranges.{InRange}
 
 number_of-le : (width greatest : ℕ) (text : Text) (n : ℕ) → number_of width greatest text ≡ Some n → n ≤ greatest
 unfolding number_of
 number_of-le width greatest text n e = grind (arith, nat_tests)
 
-number_or-within : (default least most : ℕ) (text : Option Text) (n : ℕ) → least ≤ default → default ≤ most → number_or default least most text ≡ Some n → (least ≤ n) × (n ≤ most)
+-- a number that is read lies within its range, if the default does
+pub number_or-within : (default least most : ℕ) (text : Option Text) (n : ℕ) → least ≤ default → default ≤ most → number_or default least most text ≡ Some n → (least ≤ n) × (n ≤ most)
 unfolding number_or
 number_or-within default least most None n low high e = let is = same_Some default n e in (omega (arith, is, low), omega (arith, is, high))
 number_or-within default least most (Some text) n low high e =
@@ -24,7 +26,8 @@ number_or-within default least most (Some text) n low high e =
     let no_more = number_of-le 10 most text m read in
     (grind (arith, nat_tests), omega (arith, tested.1, no_more)))
 
-objects_or-within : (text : Option Text) (n : ℕ) → objects_or text ≡ Some n → (64 ≤ n) × (n ≤ 131072) × (n % 2 ≡ 0)
+-- the number of objects is even, and within its range
+pub objects_or-within : (text : Option Text) (n : ℕ) → objects_or text ≡ Some n → (64 ≤ n) × (n ≤ 131072) × (n % 2 ≡ 0)
 unfolding objects_or
 objects_or-within text n e =
     option_and_then_some _ (number_or 16384 64 131072 text) n e (λ m read rest.
@@ -63,7 +66,7 @@ asked_by_in_range rows s o e =
     rw (← (some_pair_parts settings s source o last).0) (settings_in_range rows settings settings_read)))
 
 -- a test that gives a value passes on what stands behind it
-behind : {A : Type 0} (b : Bool) (o : Option A) (a : A) → (if b then o else None) ≡ Some a → o ≡ Some a
+pub behind : {A : Type 0} (b : Bool) (o : Option A) (a : A) → (if b then o else None) ≡ Some a → o ≡ Some a
 behind true o a e = e
 behind false o a e = absurd (none-some a e)
 

@@ -1,48 +1,24 @@
 -- The command line: which words are accepted, and what they ask for. A word is the list of its bytes.
-use Rattle.std.specs.Prelude.{ℕ, ◌≡◌, ◌≤◌, ◌%◌, ◌==◌, List, Bool, Option, Some, None, nat_le, if◌then◌else◌, codes, option_map, is_some, true}
+use Rattle.std.specs.Prelude.{ℕ, ◌≡◌, List, Bool, Option, Some, None, if◌then◌else◌, codes, option_map, is_some}
 use Rattle.fib_addr.specs.Texts.{◌>>=◌, number_of}
-use Rattle.clap.specs.Words.{App, Row, Rule, Text, first_of, matches_of, new_app, new_rule, with_rule, fault_of}
-use Rattle.clap.specs.Simple.{on_top}
-use Rattle.clap.specs.Walk.{is_empty}
-use Rattle.clap.specs.declared.builder.action.ArgAction.TheVariants.{Set}
+use Rattle.clap.specs.Words.{App, Row, Text, first_of, matches_of, with_rule}
 use Rattle.fib_settings.specs.Ranges.{InRange}
 use Rattle.fib_settings.specs.declared.sizes.Settings.{Settings}
+use Rattle.fib_words.specs.Parts.{bare_command, is_taken_by, name_rule, number_or, objects_or, option_rule}
 use Rattle.fib_words.specs.declared.types.Asked.{Asked}
 use Rattle.fib_words.specs.declared.types.Source.{Source}
 use Rattle.fib_words.specs.declared.types.Source.TheVariants.{Soak, Files}
 
--- an option that takes one value
-abbrev pub option_rule : Text → Rule
-option_rule name = record (new_rule name) { long = Some name; action = Some Set }
-
--- a name that stands by itself, and may be left out
-abbrev pub name_rule : Text → Rule
-name_rule name = record (new_rule name) { action = Some Set }
-
 -- the command: four options and two names; no flag for help, and none for a version
 unfoldable pub fib_command : App
 fib_command =
-    let bare = on_top (λ s. record s { no_binary_name = true; disable_help_flag = true }) (new_app (codes "fib_tool")) in
-    let sized = with_rule (with_rule bare (option_rule (codes "workers"))) (option_rule (codes "objects")) in
+    let sized = with_rule (with_rule (bare_command (codes "fib_tool")) (option_rule (codes "workers"))) (option_rule (codes "objects")) in
     let whole = with_rule (with_rule sized (option_rule (codes "walk"))) (option_rule (codes "soak")) in
     with_rule (with_rule whole (name_rule (codes "commands"))) (name_rule (codes "capture"))
 
 -- whether the command takes the words
 abbrev pub is_taken : List Text → Bool
-is_taken words = is_empty (fault_of fib_command words)
-
--- the number of an option, from least to most; the default where the option isn't there
-unfoldable pub number_or : ℕ → ℕ → ℕ → Option Text → Option ℕ
-number_or default least most None = Some default
-number_or default least most (Some text) = do
-  n ← number_of 10 most text
-  if nat_le least n then Some n else None
-
--- the number of objects, which is even
-unfoldable pub objects_or : Option Text → Option ℕ
-objects_or text = do
-  n ← number_or 16384 64 131072 text
-  if n % 2 == 0 then Some n else None
+is_taken words = is_taken_by fib_command words
 
 -- the sizes of the run, by the values of the options
 unfoldable pub settings_of : List Row → Option Settings

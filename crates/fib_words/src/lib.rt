@@ -18,6 +18,7 @@
 
 mod command;
 pub mod laws;
+pub mod parts;
 mod types;
 mod values;
 mod words;

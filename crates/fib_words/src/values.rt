@@ -1,48 +1,13 @@
 // What the matches of the words say.
-ghost use Rattle.std.specs.Prelude.{◌≡◌, option_map};
 ghost use Rattle.fib_addr.specs.Texts.{Reads};
-ghost use Rattle.clap.specs.Words.{found_of, first_of, rows_of};
-ghost use Rattle.fib_words.specs.Words.{number_or, objects_or, source_of, settings_of, asked_by, origin_in, asked_in};
+ghost use Rattle.clap.specs.Words.{found_of, rows_of};
+ghost use Rattle.fib_words.specs.Words.{source_of, settings_of, asked_by, origin_in, asked_in};
 
+use crate::parts::{given, number_or, objects_or};
 use crate::{Asked, Source};
 use clap::ArgMatches;
 use fib_addr::{BadText, read_number};
 use fib_settings::Settings;
-
-/// The value of this option or name.
-fn given<'a>(matches: &ArgMatches<'a>, id: &str) -> Option<&'a str>
-    ensures { option_map (λ s. s.now) result ≡ first_of id.now (rows_of (found_of matches.now)) }
-{
-    matches.get_str(id)
-}
-
-/// The number of an option, from `least` to `most`; `default` where the option is not there.
-#[tactic(auto, unfolding(crate::specs::Words::number_or))]
-fn number_or(default: u32, least: u32, most: u32, text: Option<&str>) -> Result<u32, BadText>
-    ensures { Reads (λ n. n) result (number_or default least most (option_map (λ s. s.now) text.entry)) }
-{
-    let Some(text) = text else {
-        return Ok(default);
-    };
-    let number = read_number(text, most)?;
-    if number < least {
-        return Err(BadText);
-    }
-    Ok(number)
-}
-
-/// The number of objects, which is even.
-#[tactic(auto, unfolding(crate::specs::Words::objects_or))]
-fn objects_or(text: Option<&str>) -> Result<u32, BadText>
-    ensures { Reads (λ n. n) result (objects_or (option_map (λ s. s.now) text.entry)) }
-{
-    let number = number_or(16_384, 64, 131_072, text)?;
-    if number % 2 == 0 {
-        Ok(number)
-    } else {
-        Err(BadText)
-    }
-}
 
 #[tactic(auto, unfolding(crate::specs::Words::settings_of))]
 fn settings(matches: &ArgMatches<'_>) -> Result<Settings, BadText>

@@ -4,7 +4,8 @@ ghost use Rattle.fib_words.specs.Words.{asked, asked_in, accepts};
 ghost use Rattle.fib_settings.specs.Ranges.{InRange};
 
 use crate::Asked;
-use crate::command::matches_in;
+use crate::command::fib_command;
+use crate::parts::matches_in;
 use crate::values::asked;
 use std::alloc::{AllocError, Global};
 
@@ -17,7 +18,7 @@ pub fn read_words<'a>(alloc: Global, words: &'a [String]) -> Result<Option<Asked
     ensures accepted { IfOk result (λ found. is_some found ≡ accepts (map string_bytes words.entry.now)) }
     ensures ranges { IfOk result (λ found. IfSome found (λ a. InRange a.settings)) }
 {
-    let Some(matches) = matches_in(alloc, words)? else {
+    let Some(matches) = matches_in(fib_command(alloc)?, words)? else {
         return Ok(None);
     };
     Ok(asked(&matches).ok())

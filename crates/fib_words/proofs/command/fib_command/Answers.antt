@@ -1,12 +1,12 @@
 use Rattle.std.proofs.lemmas.Result.{IfOk-weaker}
 use Rattle.fib_words.specs.Words.{fib_command}
-use Rattle.fib_words.proofs.Commands.{flagged, added}
+use Rattle.fib_words.proofs.Commands.{added}
 use Rattle.fib_words.proofs.command.fib_command.Goals as goal
 
 pub returns : goal.returns
 unfolding fib_command
 returns c =
-    let bare = flagged _ _ _ _ c.new.ensures.app c.no_binary_name.ensures c.disable_help_flag.ensures in
+    let bare = c.bare_command.ensures in
     let one = added _ _ _ _ _ c.in_ok-arg.ensures c.option.ensures.local bare c.option.ensures.rule in
     let two = added _ _ _ _ _ c.in_ok-arg-2.ensures c.option-2.ensures.local one c.option-2.ensures.rule in
     let three = added _ _ _ _ _ c.in_ok-arg-3.ensures c.option-3.ensures.local two c.option-3.ensures.rule in
