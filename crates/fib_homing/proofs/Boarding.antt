@@ -1,12 +1,13 @@
 -- Controls that differ by their boards alone, and boards whose workers leave.
 use Rattle.std.proofs.Common.{◌≡◌, ◌<◌, ◌≤◌, ◌+◌, ◌^◌, ◌++◌, ◌∷◌, [], ℕ, List, Some, true, false, length, arith, ap, ◌∙◌, sym, subst}
 use Rattle.std.specs.Prelude.{slice_index_or}
-use Rattle.std.proofs.lemmas.List.{get_or-set_other}
+use Rattle.std.proofs.lemmas.List.{append_assoc, get_or-set_other}
+use Rattle.fib_core.specs.Trails.{Trail}
 use Rattle.fib_board.specs.Boards.{Board}
-use Rattle.fib_board.specs.Crews.{MaySend, board_sent, new_seat}
+use Rattle.fib_board.specs.Crews.{MaySend, Seated, board_sent, new_seat}
 use Rattle.fib_control.specs.Controls.{Control, with_board}
 use Rattle.fib_homing.specs.Homes.{but_out}
-use Rattle.fib_homing.specs.Stations.{IsCrew, IsMustered}
+use Rattle.fib_homing.specs.Stations.{IsCrew, IsMustered, past_of, pasts_of}
 use Rattle.fib_homing.specs.declared.station.Station.{Station}
 use Rattle.fib_homing.proofs.Mustering.{crew_more}
 
@@ -34,3 +35,7 @@ pub crew_longer : (a b : Board) (n : ℕ) (old new : List Station) (s : Station)
 crew_longer a b n old new s sent crew long is items =
     let at : n ≡ 0 + length old = omega (arith, long) in
     subst (IsCrew a 0) (sym items) (crew_more a 0 old s crew (subst (λ m. IsMustered a m s) at (is ∙ ap (λ (x : Board). Some (new_seat x n)) sent)))
+
+-- one worker's past is brought home
+pub pasts_more : (old : List Trail) (s : Station) (rest : List Station) (w : Seated) → s.worker ≡ Some w → (old ++ w.worker.past) ++ pasts_of rest ≡ old ++ pasts_of (s ∷ rest)
+pasts_more old s rest w is = append_assoc old w.worker.past (pasts_of rest) ∙ ap (λ o. old ++ (past_of o ++ pasts_of rest)) (sym is)

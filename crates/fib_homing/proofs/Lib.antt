@@ -3,3 +3,4 @@ pub mod Placing
 pub mod Gathering
 pub mod Arriving
 pub mod Boarding
+pub mod Drawing

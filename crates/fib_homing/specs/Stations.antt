@@ -1,6 +1,7 @@
 -- The workers of a round at their stations: as they leave, and after their work.
-use Rattle.std.specs.Prelude.{ℕ, ◌≡◌, ◌+◌, ◌∷◌, [], true, false, List, Option, Some, None, slice_index}
+use Rattle.std.specs.Prelude.{ℕ, ◌≡◌, ◌+◌, ◌++◌, ◌∷◌, [], true, false, List, Option, Some, None, slice_index}
 use Rattle.fib_capture.specs.declared.packet.Packet.{Packet}
+use Rattle.fib_core.specs.Trails.{Trail}
 use Rattle.fib_board.specs.Boards.{Board}
 use Rattle.fib_board.specs.Crews.{Seated, new_seat}
 use Rattle.fib_crew.specs.Frames.{frames}
@@ -59,3 +60,12 @@ abbrev pub AreBack : List ℕ → List ℕ → ℕ → ℕ → ℕ → ℕ → L
 AreBack words rests k first base at taken [] = Unit {0}
 AreBack words rests k first base at taken (t ∷ crew) =
     IsBack words rests k first base at taken t × AreBack words rests k first base (at + 1) taken crew
+
+-- the trails that the workers at their stations have behind them, one worker after the other
+abbrev pub past_of : Option Seated → List Trail
+past_of None = []
+past_of (Some w) = w.worker.past
+
+abbrev pub pasts_of : List Station → List Trail
+pasts_of [] = []
+pasts_of (s ∷ crew) = past_of s.worker ++ pasts_of crew

@@ -1,5 +1,5 @@
 // The workers come home.
-ghost use Rattle.std.specs.Prelude.{◌≡◌, ◌<◌, ◌≤◌, ◌+◌, ◌*◌, [], ℕ, length, true, false, slice_index, slice_index_or, slice_set, Some};
+ghost use Rattle.std.specs.Prelude.{◌≡◌, ◌<◌, ◌≤◌, ◌+◌, ◌*◌, ◌++◌, [], ℕ, length, true, false, slice_index, slice_index_or, slice_set, Some};
 ghost use Rattle.std.specs.List.{AllByRecursion};
 ghost use Rattle.fib_lawful.specs.State.{left_of};
 ghost use Rattle.fib_board.specs.Crews.{Seated, board_joined};
@@ -10,7 +10,7 @@ ghost use Rattle.fib_crew.specs.Frames.{frames};
 ghost use Rattle.fib_crew.specs.declared.claims.Frame.{Frame as FrameValue};
 ghost use Rattle.fib_homing.specs.Homes.{IsHome, NoneOut, but_crew};
 ghost use Rattle.fib_homing.specs.Places.{placed};
-ghost use Rattle.fib_homing.specs.Stations.{AreBack};
+ghost use Rattle.fib_homing.specs.Stations.{AreBack, pasts_of};
 ghost use Rattle.fib_homing.specs.inner.Coming.{IsComing, IsOf};
 
 use crate::station::Station;
@@ -84,6 +84,7 @@ fn come_home<'a>(
     requires others { (n : ℕ) → length crew.items ≤ n → slice_index_or control.old.plane.board.out n false ≡ false }
     requires places { length places.old ≡ frames (span packets.now.packets taken.first taken.to) }
     ensures same { control.new ≡ with_board control.old control.new.plane.board }
+    ensures trails { control.new.plane.board.trails ≡ control.old.plane.board.trails ++ pasts_of crew.entry.items }
     ensures come { IsComing taken.opened taken.first taken.base (length crew.entry.items) (span packets.now.packets taken.first taken.to) control.old.plane.board control.new.plane.board places.old places.new result [] }
 {
     let _packets = packets;
@@ -99,7 +100,7 @@ fn come_home<'a>(
 /// The workers of a round come home in their numbers' order, and the results of their frames are put into their places. Answers whether each came to the
 /// round's end.
 ///
-/// There is a place a frame. Nobody else may be out. Where each came to its end and all claims before the round were drawn once, the places have the results
+/// There is a place a frame. Nobody else may be out. The board gains the trails that the workers have behind them, in their numbers' order. Where each came to its end and all claims before the round were drawn once, the places have the results
 /// of all flows, each once and in packet order, right and steady over the history as it is.
 pub fn bring_home<'a>(
     control: &mut Control<LiveBoard<'a>>,
@@ -117,6 +118,7 @@ pub fn bring_home<'a>(
     requires drawn { IsDrawnOnce control.old.plane.board.gathered }
     ensures same { control.new ≡ with_board control.old control.new.plane.board }
     ensures keeps { but_crew control.new.plane.board ≡ but_crew control.old.plane.board }
+    ensures trails { control.new.plane.board.trails ≡ control.old.plane.board.trails ++ pasts_of crew.entry.items }
     ensures none { NoneOut control.new.plane.board }
     ensures drawn { IsDrawnOnce control.new.plane.board.gathered }
     ensures home { result ≡ true → IsHome taken.opened taken.first taken.base (length crew.entry.items) (span packets.now.packets taken.first taken.to) control.old.plane.board control.new.plane.board places.new }

@@ -8,4 +8,4 @@ mod home;
 mod station;
 
 pub use home::bring_home;
-pub use station::{Station, forward_all, send_out};
+pub use station::{Station, forward_all, send_out, work_at};

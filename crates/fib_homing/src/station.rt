@@ -29,8 +29,8 @@ pub struct Station<'a> {
     pub done: bool,
 }
 
-// A station's worker works.
-fn work_at<'a, G: Gate>(
+/// A station's worker works: it claims frames of the round and forwards them. The station must have a worker that may work at the round.
+pub fn work_at<'a, G: Gate>(
     alloc: Global,
     packets: &Capture,
     taken: Taken,

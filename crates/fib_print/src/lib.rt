@@ -9,8 +9,8 @@ mod packets;
 mod paths;
 mod text;
 
-pub use ends::put_end;
+pub use ends::{name_at, put_end};
 pub use lines::{BatchFault, put_batch, put_message, put_refusal};
 pub use packets::{put_bad_header, put_cut, put_not_ipv4, put_packet};
 pub use paths::put_path;
-pub use text::put_number;
+pub use text::{put_number, put_text};

@@ -16,6 +16,7 @@ mod summary;
 mod task;
 
 pub use fault::RunFault;
-pub use put::put_all;
+pub use put::{put_all, put_last};
+pub use round::settle_home;
 pub use rounds::{run, run_on};
 pub use summary::Summary;

@@ -248,8 +248,8 @@ fn run_beside<'a, R: Threads + Wait + Sync, G: Gate>(
     forward_round(task, control, reading, round)
 }
 
-// Settles where all workers are home.
-fn settle_home(control: &mut Control<LiveBoard<'_>>) -> Result<(), AllocError>
+/// Settles where all workers are home: nobody waits. After want of memory the turns that were done stand.
+pub fn settle_home(control: &mut Control<LiveBoard<'_>>) -> Result<(), AllocError>
     requires { NoneOut control.old.plane.board }
     ensures stays { Stays control.old control.new }
     ensures keeps { KeepsCrew control.old control.new }

@@ -8,34 +8,11 @@
 #![tactic(auto)]
 
 use fib_outside::{FileShelf, FreeGate, StandardOut};
-use fib_run::fib_main;
-use std::alloc::Global;
-use std::env;
+use fib_run::{fib_main, given_words};
 use std::process::ExitCode;
-use std::rt::Env;
-
-/// The status where the words cannot be had.
-const USAGE: u8 = 1;
-
-/// The status where memory is wanted.
-const MEMORY: u8 = 6;
-
-// The words after the program's name, or the status to end with.
-fn words_of<R: Env + Alloc<A = Global>>(rt: &R) -> Result<Vec<String>, u8> {
-    let Ok(all) = env::args(rt) else {
-        return Err(USAGE);
-    };
-    let mut words = Vec::new(rt.alloc());
-    for word in all.skip(1) {
-        if words.push(word).is_err() {
-            return Err(MEMORY);
-        }
-    }
-    Ok(words)
-}
 
 fn main(rt: HostRuntime) -> ExitCode {
-    let words = match words_of(&rt) {
+    let words = match given_words(&rt) {
         Ok(words) => words,
         Err(status) => return ExitCode::from(status),
     };

@@ -105,3 +105,20 @@ left_turn r (Some b) = refusal_turn b.begun r (batch_text faults.NotCommitted)
 
 unfoldable pub end_turn : Router → Turn
 end_turn r = left_turn r r.batch
+
+-- a line of a program that knows changes alone: any other line of the grammar is refused with this text
+abbrev pub change_line : List ℕ → ℕ → Router → Option Line → Turn
+change_line text n r None = refusal_turn n r (codes "syntax")
+change_line text n r (Some lines.Nothing) = (r, [])
+change_line text n r (Some (lines.Change edit)) = change_turn n r edit
+change_line text n r (Some (lines.Lookup a h)) = refusal_turn n r text
+change_line text n r (Some lines.ShowFib) = refusal_turn n r text
+change_line text n r (Some lines.ShowPathLists) = refusal_turn n r text
+change_line text n r (Some lines.ShowAdj) = refusal_turn n r text
+change_line text n r (Some (lines.Forward k)) = refusal_turn n r text
+change_line text n r (Some lines.Begin) = refusal_turn n r text
+change_line text n r (Some lines.Commit) = refusal_turn n r text
+
+-- what line n does there
+unfoldable pub change_turn_of : List ℕ → ℕ → Router → List ℕ → Turn
+change_turn_of text n r line = change_line text n r (line_of line)

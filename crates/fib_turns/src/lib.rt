@@ -5,10 +5,12 @@
 
 mod batches;
 mod changes;
+mod changes_alone;
 mod means;
 mod progress;
 mod turn;
 
+pub use changes_alone::{pass_line, refuse_line, run_change_line};
 pub use means::Means;
 pub use progress::Progress;
 pub use turn::{finish, run_line};

@@ -27,9 +27,9 @@ use fib_resolve::{Edit, End, Tables};
 use std::alloc::{AllocError, Global};
 use std::sync::Wait;
 
-// A change outside a batch.
+/// A change outside a batch.
 #[tactic(auto, unfolding(crate::specs::Turns::change_turn))]
-fn change<R: Wait, G: Gate, B: Board>(
+pub fn change<R: Wait, G: Gate, B: Board>(
     means: &Means<'_, R, G>,
     control: &mut Control<B>,
     progress: &mut Progress,
@@ -186,8 +186,8 @@ fn alone<R: Wait, G: Gate, B: Board>(
     Ok(None)
 }
 
-// What a line says, or None where it is no line of the grammar.
-fn said(alloc: Global, line: &[u8]) -> Result<Option<Line>, AllocError>
+/// What a line says, or None where it is no line of the grammar.
+pub fn said(alloc: Global, line: &[u8]) -> Result<Option<Line>, AllocError>
     ensures value { IfOk result (λ said. said ≡ line_of line.now) }
     ensures written { IfOk result (λ said. IfSome said IsWrittenLine) }
 {

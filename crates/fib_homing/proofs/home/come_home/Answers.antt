@@ -1,8 +1,9 @@
-use Rattle.std.proofs.Common.{ap, length, refl}
+use Rattle.std.proofs.Common.{◌++◌, ◌∙◌, ap, length, refl}
 use Rattle.fib_control.specs.Controls.{Control}
 use Rattle.fib_crew.specs.Packets.{span}
 use Rattle.fib_homing.proofs.Arriving.{coming_more, coming_none, may_come}
-use Rattle.fib_homing.proofs.Boarding.{with_step}
+use Rattle.fib_homing.specs.Stations.{pasts_of}
+use Rattle.fib_homing.proofs.Boarding.{pasts_more, with_step}
 use Rattle.fib_homing.proofs.home.come_home.Goals as goal
 
 pub loop-station-preserved : goal.loop-station-preserved
@@ -21,6 +22,8 @@ loop-station-preserved c =
           c.come_one-came.new.places c.loop-station.done c.both-done.result c.in-Some.station c.next.new.self.rest.items back.worker coming back.has (ap (λ (x : Control). x.plane.board) home)
           (λ yes. (let two = c.both-done.ensures yes in (two.0, c.come_one-came.ensures.ended two.1, c.come_one-came.ensures.places two.1)))
           c.come_one-came.ensures.long;
+      trails = ap (λ (x : Control). x.plane.board.trails ++ pasts_of c.next.new.self.rest.items) home
+          ∙ (pasts_more b.plane.board.trails c.in-Some.station c.next.new.self.rest.items back.worker back.has ∙ rw c.in-Some.ensures.steps.0 at i.trails);
       places = i.places;
     }
 
@@ -46,5 +49,9 @@ loop-station-init c =
       same = refl;
       coming = rw c.into_iter-station-iterator.ensures.into_iter_gives.0
           (coming_none t.opened t.first t.base (length c.args.crew.items) taken c.args.control.now.plane.board c.args.places.now c.args.crew.items c.requires.back refl c.requires.others);
+      trails = rw c.into_iter-station-iterator.ensures.into_iter_gives.0 refl;
       places = c.requires.places;
     }
+
+pub returns-clause-trails : goal.returns-clause-trails
+returns-clause-trails c = let i = c.loop-station.invariant in rw c.in-None.ensures.steps.0 at i.trails
