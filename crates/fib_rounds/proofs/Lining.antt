@@ -16,7 +16,7 @@ use Rattle.fib_rounds.specs.Output.{Prints, ByAsked, Closes}
 use Rattle.fib_rounds.specs.Summaries.{counted, with_round}
 use Rattle.fib_rounds.specs.Runs.{stage_after, rounds_from}
 use Rattle.fib_rounds.specs.Rounds.{StopsAt, GoesOn, is_still_quiet, lines_run, stage_of}
-use Rattle.fib_rounds.proofs.Turning.{asked_stays, turn_steps}
+use Rattle.fib_rounds.proofs.Turning.{Steps, asked_stays, turn_steps}
 use Rattle.fib_rounds.proofs.Histories.{grown_is}
 use Rattle.fib_crew.proofs.Spans.{drop_at}
 
@@ -38,6 +38,11 @@ pub history_line : (n : ℕ) (c d : Control) (p q : Progress) (line : List ℕ) 
     → IsHistory (stage_of c p) → IsHistory (stage_of d q)
 history_line n c d p q line more is h =
     subst IsHistory (sym (stage_line n c d p q line more is)) (grown_is (stage_of c p) (turn_of n (router_of c p) line).0 (turn_steps n (router_of c p) line) h)
+
+-- and after any call that makes a change or none
+pub history_by : (c d : Control) (p q : Progress) (s : Router) → HasGrown c d → router_of d q ≡ s → Steps (router_of c p) s → IsHistory (stage_of c p) → IsHistory (stage_of d q)
+history_by c d p q s more is steps h =
+    subst IsHistory (sym (ap (stage_with (router_of d q)) more ∙ ap (λ (r : Router). stage_with r (grown (history_in c) (router_of c p) r)) is)) (grown_is (stage_of c p) s steps h)
 
 -- ---- going on
 

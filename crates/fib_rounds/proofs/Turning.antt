@@ -10,7 +10,7 @@ use Rattle.fib_commands.specs.declared.types.Line.{Line}
 use Rattle.fib_commands.specs.declared.types.Line.TheVariants as lines
 use Rattle.fib_turns.specs.declared.progress.Batch.{Batch}
 use Rattle.fib_turns.specs.Routers.{Router, with_batch}
-use Rattle.fib_turns.specs.Turns.{Turn, by_refusal, change_turn, alone, by_first_refused, commit_turn, within, turn_in, turn_of, asks_in, asks, left_turn, end_turn, refusal_turn}
+use Rattle.fib_turns.specs.Turns.{Turn, by_refusal, change_turn, alone, by_first_refused, commit_turn, within, turn_in, turn_of, asks_in, asks, left_turn, end_turn, refusal_turn, change_line, change_turn_of}
 use Rattle.fib_print.specs.Lines.{batch_text}
 use Rattle.fib_print.specs.declared.lines.BatchFault.TheVariants as faults
 
@@ -72,6 +72,23 @@ in_steps (Some b) n r said = within_steps n (with_batch r None) b said
 pub turn_steps : (n : ℕ) (r : Router) (line : List ℕ) → Steps r (turn_of n r line).0
 unfolding turn_of
 turn_steps n r line = in_steps r.batch n r (line_of line)
+
+change_line_steps : (text : List ℕ) (n : ℕ) (r : Router) (said : Option Line) → Steps r (change_line text n r said).0
+change_line_steps text n r None = inl (refl, refl)
+change_line_steps text n r (Some lines.Nothing) = inl (refl, refl)
+change_line_steps text n r (Some (lines.Change edit)) = change_steps n r edit
+change_line_steps text n r (Some (lines.Lookup a h)) = inl (refl, refl)
+change_line_steps text n r (Some lines.ShowFib) = inl (refl, refl)
+change_line_steps text n r (Some lines.ShowPathLists) = inl (refl, refl)
+change_line_steps text n r (Some lines.ShowAdj) = inl (refl, refl)
+change_line_steps text n r (Some (lines.Forward k)) = inl (refl, refl)
+change_line_steps text n r (Some lines.Begin) = inl (refl, refl)
+change_line_steps text n r (Some lines.Commit) = inl (refl, refl)
+
+-- in a program that knows changes alone too
+pub change_turn_steps : (text : List ℕ) (n : ℕ) (r : Router) (line : List ℕ) → Steps r (change_turn_of text n r line).0
+unfolding change_turn_of
+change_turn_steps text n r line = change_line_steps text n r (line_of line)
 
 none_is : (k : ℕ) (o : Option ℕ) → o ≡ None → o ≡ Some k → ⊥
 none_is k o a b = cc
