@@ -3,3 +3,4 @@ pub mod Records
 pub mod Spanning
 pub mod WrittenFiles
 pub mod Pointing
+pub mod Inside

@@ -1,5 +1,6 @@
 -- Where the packets of a capture stand in its file.
-use Rattle.std.specs.Prelude.{◌≡◌, ℕ, ◌+◌, ◌-◌, List, [], ◌∷◌, Option, Some, None, Result, Ok, Err, length, take, drop, slice_get}
+use Rattle.std.specs.Prelude.{◌≡◌, ◌≤◌, ℕ, ◌+◌, ◌-◌, List, [], ◌∷◌, Option, Some, None, Result, Ok, Err, length, take, drop, slice_get}
+use Rattle.std.specs.List.{AllByRecursion}
 use Rattle.fib_capture.specs.Captures.{Capture, packet_of, ipv4_packet_of, frames_of, header_of, capture_of}
 use Rattle.fib_capture.specs.declared.packet.Packet.{Packet}
 use Rattle.fib_capture.specs.declared.packet.Packet.TheVariants as packets
@@ -44,3 +45,12 @@ abbrev pub SpansPointToFlows : Type 0
 SpansPointToFlows =
     (bytes : List ℕ) (spans : List Span) (c : Capture) → spans_of bytes ≡ Ok spans → capture_of bytes ≡ Ok c →
     (k at n : ℕ) → slice_get spans k ≡ Some (Some (at, n)) → slice_get c.packets k ≡ Some (ipv4_packet_of (take n (drop at bytes)))
+
+-- a span lies among that many bytes, and has room for an IPv4 header
+abbrev pub IsInside : ℕ → Span → Type 0
+IsInside size None = Unit {0}
+IsInside size (Some s) = (s.0 + s.1 ≤ size) × (20 ≤ s.1)
+
+-- the spans of a file's packets lie in the file
+abbrev pub SpansLieInFile : Type 0
+SpansLieInFile = (bytes : List ℕ) (spans : List Span) → spans_of bytes ≡ Ok spans → AllByRecursion (IsInside (length bytes)) spans

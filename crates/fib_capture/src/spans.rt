@@ -1,5 +1,5 @@
 // Where the packets of a capture stand in its file.
-ghost use Rattle.std.specs.Prelude.{◌≡◌, ◌+◌, ◌≤◌, ◌<◌, ◌^◌, Some, length, slice_get, vec_len, IfOk};
+ghost use Rattle.std.specs.Prelude.{◌≡◌, ◌+◌, ◌≤◌, ◌<◌, ◌^◌, [], Some, length, slice_get, vec_len, IfOk};
 ghost use Rattle.fib_capture.specs.Captures.{frames_of, Gives};
 ghost use Rattle.fib_capture.specs.Spans.{link_length, span_of, spans_from, spans_of};
 
@@ -38,6 +38,15 @@ impl Spans {
     {
         let (order, link) = read_header(bytes)?;
         Ok(read_spans(alloc, order, link, &bytes[FILE_HEADER..])?)
+    }
+
+    /// The spans of no file: of no packet. Takes no memory.
+    pub fn none(alloc: Global) -> Spans
+        ensures { result ≡ [] }
+    {
+        Spans {
+            spans: Vec::new(alloc),
+        }
     }
 
     /// The number of packets, without one that the file's end cuts.
