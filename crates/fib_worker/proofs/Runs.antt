@@ -73,7 +73,7 @@ few_visited v sound = at_most v.objects (visited v.trail) sound.apart sound.belo
 pub few_hops : (a h : ℕ) (v : Worker) (s : Stage) (lo : Version) (hops : ℕ) → IsOnItsWay a h v s lo hops → hops < v.objects
 few_hops a h v s lo hops p = (let most = few_visited v p.running.sound in let count = p.count in omega arith)
 
-one_more : (v w : Worker) (s : Stage) → IsOn s → Nears v w s → length (visited w.trail) ≡ suc (length (visited v.trail))
+pub one_more : (v w : Worker) (s : Stage) → IsOn s → Nears v w s → length (visited w.trail) ≡ suc (length (visited v.trail))
 one_more v w (stages.Ended e) on near = absurd on
 one_more v w (stages.Ply o d) on near = near
 one_more v w (stages.Balance o left) on near = near
