@@ -17,6 +17,7 @@ mod task;
 
 pub use fault::RunFault;
 pub use put::{put_all, put_last};
-pub use round::settle_home;
+pub use round::{places_for, settle_home};
 pub use rounds::{run, run_on};
 pub use summary::Summary;
+pub use task::Task;

@@ -96,8 +96,8 @@ fn beside<'a, 'b, R: Threads + Wait + Sync, G: Gate>(
     stop
 }
 
-// A place for each of so many frames.
-fn places_for(alloc: Global, count: u32) -> Result<Vec<Option<Results>>, AllocError>
+/// A place for the results of each of so many frames, all of them empty.
+pub fn places_for(alloc: Global, count: u32) -> Result<Vec<Option<Results>>, AllocError>
     ensures { IfOk result (λ v. length v.items ≡ count) }
 {
     let mut places = Vec::with_capacity(alloc, count as usize)?;
