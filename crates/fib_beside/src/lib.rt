@@ -14,3 +14,5 @@ mod judge;
 mod live;
 #[cfg(test)]
 mod pace;
+#[cfg(test)]
+mod restacks;

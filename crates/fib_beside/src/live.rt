@@ -5,7 +5,9 @@ ghost use Rattle.fib_board.specs.Told.{IsWithinLimits};
 use fib_cells::{Cells, LiveBoard};
 use fib_control::Control;
 use fib_core::Version;
-use fib_live::alone::{Held, Told, fresh, hold_beneath_a_change, tell_of_a_change};
+use fib_live::alone::{
+    Heard, Held, Told, fresh, hear_of_a_fourth_change, hold_beneath_a_change, tell_of_a_change,
+};
 use fib_live::crowded::{First, crowd_at};
 use fib_live::held::hold_at;
 use fib_resolve::End;
@@ -16,7 +18,7 @@ use std::alloc::Global;
 use std::test::Fail;
 
 // What is tried over cells of its own with four workers.
-trait Trial {
+pub trait Trial {
     type Found;
 
     fn find(&self, alloc: Global, control: &mut Control<LiveBoard<'_>>) -> Option<Self::Found>
@@ -26,7 +28,7 @@ trait Trial {
 // What is found over that many objects. None where memory is wanted.
 //
 // The one owner of a control here, with one way out after it is made: each way out of an owner takes long to prove.
-fn over_cells<T: Trial>(alloc: Global, objects: u32, trial: &T) -> Option<T::Found>
+pub fn over_cells<T: Trial>(alloc: Global, objects: u32, trial: &T) -> Option<T::Found>
     requires { IsWithinLimits objects 4 }
 {
     let (cells, seat) = Cells::new(alloc, objects, 4).ok()?;
@@ -90,6 +92,38 @@ fn tells(alloc: Global) -> bool {
 #[test]
 fn a_worker_goes_by_what_is_settled(rt: HostRuntime) -> Result<(), Fail> {
     assert!(rt; tells(rt.alloc()));
+    Ok(())
+}
+
+#[derive(Clone, Copy)]
+struct Hearing;
+
+impl Trial for Hearing {
+    type Found = Heard;
+
+    fn find(&self, alloc: Global, control: &mut Control<LiveBoard<'_>>) -> Option<Heard> {
+        hear_of_a_fourth_change(alloc, control)
+    }
+}
+
+// The pass begins no earlier than the note, and the worker knows what it saw at its end.
+fn is_heard(found: &Heard) -> bool {
+    found.after.lo.settled >= 3
+        && found.after.lo.applied >= 4
+        && found.knows.settled >= found.after.hi.settled
+        && found.knows.applied >= found.after.hi.applied
+}
+
+fn hears(alloc: Global) -> bool {
+    match over_cells(alloc, 1024, &Hearing) {
+        Some(found) => is_heard(&found),
+        None => false,
+    }
+}
+
+#[test]
+fn a_worker_hears_of_a_fourth_change(rt: HostRuntime) -> Result<(), Fail> {
+    assert!(rt; hears(rt.alloc()));
     Ok(())
 }
 

@@ -5,11 +5,11 @@ ghost use Rattle.fib_lawful.specs.State.{left_of};
 ghost use Rattle.fib_cells.specs.Seats.{id_in};
 ghost use Rattle.fib_live.specs.Crewed.{IsHome, IsManned, SameCrew};
 
-use crate::live::{change_by, edit_of, live, pass, restack, settle_home};
+use crate::live::{change, change_by, edit_of, live, pass, restack, settle_home};
 use fib_addr::Addr;
 use fib_cells::{Cells, ControlSeat, LiveBoard};
 use fib_control::Control;
-use fib_core::Record;
+use fib_core::{Record, Version};
 use fib_resolve::Edit;
 use fib_worker::{Finished, Pass, Step, Worker};
 use std::alloc::Global;
@@ -73,6 +73,44 @@ pub fn tell_of_a_change<'a>(alloc: Global, control: &mut Control<LiveBoard<'a>>)
     settle_home(control)?;
     let edit = edit_of(alloc, "ip route del 50.0.0.0/8")?;
     tell(control, &edit)
+}
+
+/// What a worker answers that left before a change and was told of it by a note, while no turn came yet; and what it knows then.
+#[derive(Clone, Copy, Debug, PartialEq, Eq)]
+pub struct Heard {
+    pub after: Record,
+    pub knows: Version,
+}
+
+// The worker leaves and rests during the edit, is told, forwards and comes home.
+fn hear<'a>(control: &mut Control<LiveBoard<'a>>, edit: &Edit) -> Option<Heard>
+    requires written { IsWritten edit.now }
+    requires manned { IsManned 4 control.old.plane.board }
+{
+    let worker = Worker::new(control.worker(NUMBER));
+    let made = change(control, edit);
+    let note = control.note();
+    let worker = Worker::new(worker.into_seat().told(note));
+    let (worker, after) = pass(worker, REMOTE, 5)?;
+    let knows = worker.knows();
+    control.home(worker.into_seat());
+    made?;
+    Some(Heard { after, knows })
+}
+
+/// Gives eth0 10.0.0.1/24 and settles that as version 3; then a worker leaves and hears of a fourth change. None where memory is wanted.
+pub fn hear_of_a_fourth_change<'a>(
+    alloc: Global,
+    control: &mut Control<LiveBoard<'a>>,
+) -> Option<Heard>
+    requires { IsManned 4 control.old.plane.board }
+{
+    change_by(alloc, control, "create interface eth0")?;
+    change_by(alloc, control, "set interface state eth0 up")?;
+    change_by(alloc, control, "set interface ip address eth0 10.0.0.1/24")?;
+    settle_home(control)?;
+    let edit = edit_of(alloc, "ip route add 50.0.0.0/8 via 10.0.0.7")?;
+    hear(control, &edit)
 }
 
 /// The rest of a pass.

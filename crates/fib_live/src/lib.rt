@@ -7,3 +7,4 @@ pub mod alone;
 pub mod crowded;
 pub mod held;
 pub mod live;
+pub mod restacks;

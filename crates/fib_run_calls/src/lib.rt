@@ -4,4 +4,12 @@
 #![tactic(auto)]
 
 #[cfg(test)]
+mod gates;
+#[cfg(test)]
+mod hostile;
+#[cfg(test)]
+mod outcomes;
+#[cfg(test)]
 mod runs;
+#[cfg(test)]
+mod uplinks;

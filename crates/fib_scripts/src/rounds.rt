@@ -4,12 +4,11 @@ ghost use Rattle.std.specs.Prelude.{◌≡◌, ◌<◌, IfOk, length};
 use fib_addr::Addr;
 use fib_capture::{Capture, Packet};
 use fib_commands::Script;
-use fib_outside::{FreeGate, Gate, MemorySink};
+use fib_outside::{FreeGate, Gate, HoldGate, MemorySink};
 use fib_rounds::{Summary, laws, run};
 use fib_settings::Settings;
 use std::alloc::{AllocError, Global};
 use std::sync::Wait;
-use std::sync::atomic::{AtomicBool, Ordering};
 use std::test::Fail;
 use std::thread::Threads;
 
@@ -29,87 +28,6 @@ const SCRIPT: &[u8] =
 const OUTPUT: &[u8] =
     b"packet 0 10.0.0.9 7 1.1-1.1 receive\npacket 1 not ipv4\npacket 2 bad header\n\
     packet 3 10.0.0.9 8 2.2-2.2 drop\nline 7: syntax\n";
-
-// How many loads of the flag that is waited for one yield is.
-const LOADS: u32 = 1000;
-
-// A gate that holds the worker of one packet back until another packet has come, and gives up after so many yields.
-#[derive(Drop)]
-struct HoldGate {
-    packet: u32,
-    until: u32,
-    turns: u64,
-    held: AtomicBool,
-    came: AtomicBool,
-    gave_up: AtomicBool,
-    first: AtomicBool,
-    second: AtomicBool,
-}
-
-impl HoldGate {
-    fn new(packet: u32, until: u32, turns: u64) -> HoldGate {
-        HoldGate {
-            packet,
-            until,
-            turns,
-            held: AtomicBool::new(false),
-            came: AtomicBool::new(false),
-            gave_up: AtomicBool::new(false),
-            first: AtomicBool::new(false),
-            second: AtomicBool::new(false),
-        }
-    }
-
-    // Whether the packet was held until the other one came.
-    fn has_held(&self) -> bool {
-        self.held.load(Ordering::SeqCst) && !self.gave_up.load(Ordering::SeqCst)
-    }
-
-    // Whether both workers forwarded.
-    fn saw_both(&self) -> bool {
-        self.first.load(Ordering::SeqCst) && self.second.load(Ordering::SeqCst)
-    }
-
-    fn wait(&self) {
-        for _ in 0..self.turns {
-            if is_set_soon(&self.came) {
-                return;
-            }
-        }
-        self.gave_up.store(true, Ordering::SeqCst);
-    }
-}
-
-// One yield: loads the flag until it is set, at most so many times.
-fn is_set_soon(flag: &AtomicBool) -> bool {
-    for _ in 0..LOADS {
-        if flag.load(Ordering::SeqCst) {
-            return true;
-        }
-    }
-    false
-}
-
-impl Gate for HoldGate {
-    fn changing(&self, _change: u32) {}
-
-    fn applied(&self, _change: u32) {}
-
-    fn before(&self, worker: u32, packet: u32) {
-        match worker {
-            0 => self.first.store(true, Ordering::SeqCst),
-            1 => self.second.store(true, Ordering::SeqCst),
-            _ => {}
-        }
-        if packet == self.until {
-            self.came.store(true, Ordering::SeqCst);
-        }
-        if packet == self.packet {
-            self.held.store(true, Ordering::SeqCst);
-            self.wait();
-        }
-    }
-}
 
 // The counts of a script that is run over packets.
 fn counts_of<R: Threads + Wait + Sync, G: Gate>(
@@ -189,15 +107,16 @@ fn four_rounds_on_two_workers(rt: HostRuntime) -> Result<(), Fail> {
     Ok(())
 }
 
+// Where packets were cut in two, or one worker had them all, packet 300 would stand behind packet 0.
 #[test]
-fn the_other_worker_goes_on(rt: HostRuntime) -> Result<(), Fail> {
+fn frames_are_claimed(rt: HostRuntime) -> Result<(), Fail> {
     let script = b"ip route add 10.0.0.0/8 via local\nforward 768\n".as_slice();
     let packets = flows(rt.alloc(), 768)?;
     let want = received(rt.alloc(), 768)?;
     let mut out = MemorySink::new(rt.alloc(), 100_000, Vec::new(rt.alloc()))?;
-    let gate = HoldGate::new(0, 512, 1_000_000);
+    let gate = HoldGate::new(0, 300, 1_000_000);
     let counts = counts_of(&rt, rt.alloc(), script, &packets, &mut out, &gate);
-    let right = counts.is_some() && gate.has_held() && gate.saw_both();
+    let right = counts.is_some() && gate.met();
     assert!(rt; right && out.bytes() == want.as_slice());
     Ok(())
 }
