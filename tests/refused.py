@@ -3,10 +3,10 @@
 
     tests/refused.py PROGRAM [--workers N] [--pairs N] [--on]
 
-PROGRAM is one of the built programs, by whose name the runs are chosen: fib_tool, fib_frames, fib_tracer, fib_checker or fib_counter. A small C
-library is compiled with `cc` and loaded beside it, which refuses the call of the given number among the program's calls of `malloc` and
-`realloc`, and every other one passes; with --pairs so many times two calls of one run, and with --on that call and every later one. For fib_tool
-three runs are gone through, each with as many refusals as it makes calls: a few routes (the first path), an interface with a neighbor and a
+PROGRAM is one of the built programs, by whose name the runs are chosen: fib_tool, fib_frames, fib_tracer, fib_checker or fib_counter; or
+trial_refused, which makes each call that wants memory once more. A small C library is compiled with `cc` and loaded beside it, which refuses the
+call of the given number among the program's calls of `malloc` and `realloc`, and every other one passes; with --pairs so many times two calls of
+one run, and with --on that call and every later one. For fib_tool three runs are gone through, each with as many refusals as it makes calls: a few routes (the first path), an interface with a neighbor and a
 capture of one packet, and 200 routes over two uplinks whose packets are forwarded in three rounds, one of which takes an uplink down (the
 realistic script).
 
@@ -102,6 +102,7 @@ RUNS = {
     "fib_tracer": {"two uplinks": (UPLINKS[:40] + ["trace"], 16)},
     "fib_checker": {"a link goes": (CHECKS, None)},
     "fib_counter": {"two uplinks": (CHANGES[:40], 192)},
+    "trial_refused": {"a held pass, by calls": ([], None)},
 }
 
 # The programs that take a number of workers.
@@ -110,7 +111,7 @@ CREWED = ["fib_tool", "fib_frames", "fib_counter"]
 
 def run(asked, library, files, refused, counted):
     """Runs with these refusals: the call's number, and that of a second one, 0 where there is none."""
-    words = [asked.program] + (["--workers", str(asked.workers)] if asked.kind in CREWED else []) + files
+    words = [asked.program] + (["--workers", str(asked.workers)] if asked.kind in CREWED else []) + (files if asked.kind != "trial_refused" else [])
     told = {"REFUSED": str(refused[0]), "REFUSED_TOO": str(refused[1]), "REFUSED_ON": str(int(asked.on))}
     kept = {**os.environ, "LD_PRELOAD": library, "COUNTED": str(counted), **told}
     counted.write_bytes(bytes(8))

@@ -10,6 +10,7 @@ pub mod crowded;
 pub mod held;
 pub mod prefixes;
 pub mod records;
+pub mod refused;
 pub mod sets;
 pub mod steps;
 mod trial;
