@@ -6,7 +6,7 @@
 
 pub mod laws;
 mod lines;
-mod names;
+pub mod names;
 mod options;
 mod paths;
 mod read;

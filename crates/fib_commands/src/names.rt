@@ -1,4 +1,4 @@
-// Words of a line, and names of interfaces.
+//! Words of a line, and names of interfaces.
 ghost use Rattle.fib_addr.specs.Texts.{Reads};
 ghost use Rattle.fib_commands.specs.Names.{Gives, word, keyword, finished, name_of};
 
@@ -8,7 +8,7 @@ use fib_lines::Words;
 use fib_resolve::{List, Name};
 use std::alloc::Global;
 
-/// The next word, and the words after it.
+/// The next word of a line, and the words after it. Errs where none is left.
 pub fn word<'a>(words: &Words<'a>) -> Result<(&'a [u8], Words<'a>), BadText>
     ensures { Reads (λ x. (x.0.now, x.1)) result (word words.now) }
 {
@@ -18,7 +18,7 @@ pub fn word<'a>(words: &Words<'a>) -> Result<(&'a [u8], Words<'a>), BadText>
     }
 }
 
-/// The words after this one.
+/// The words after this one. Errs where it isn't the next.
 #[tactic(auto, unfolding(crate::specs::Names::keyword))]
 pub fn keyword<'a>(text: &str, words: &Words<'a>) -> Result<Words<'a>, BadText>
     ensures { Reads (λ x. x) result (keyword text.now words.now) }
@@ -31,7 +31,7 @@ pub fn keyword<'a>(text: &str, words: &Words<'a>) -> Result<Words<'a>, BadText>
     }
 }
 
-/// Nothing, where no word is left.
+/// Nothing, where no word is left. Errs where one is.
 pub fn finished(words: &Words<'_>) -> Result<(), BadText>
     ensures { Reads (λ x. x) result (finished words.now) }
 {
@@ -41,7 +41,7 @@ pub fn finished(words: &Words<'_>) -> Result<(), BadText>
     }
 }
 
-/// The name that a word is.
+/// The name of an interface that a word is. Syntax where it is none; Memory where there is none for it.
 #[tactic(auto, unfolding(crate::specs::Names::name_of))]
 pub fn name(alloc: Global, text: &[u8]) -> Result<Name, LineError>
     ensures { Gives (λ x. x) result (name_of text.now) }

@@ -41,7 +41,8 @@ use Rattle.fib_stack.proofs.Ordering.{begun_in_order}
 use Rattle.fib_quiet.specs.Rest.{IsBeginning}
 use Rattle.fib_quiet.proofs.Early.{same_stands}
 use Rattle.fib_quiet.proofs.Fresh.{begins_joined}
-use Rattle.fib_control.specs.Controls.{Control, is_among, parts_in, promise_in, state_now, view_in}
+use Rattle.fib_woken.specs.Waking.{is_among}
+use Rattle.fib_control.specs.Controls.{Control, parts_in, promise_in, state_now, view_in}
 use Rattle.fib_control.specs.inner.Standing.{IsStanding}
 use Rattle.fib_control.specs.inner.Starting.{IsStarted}
 

@@ -12,18 +12,14 @@ use Rattle.fib_resolve.specs.declared.types.Tables.{Tables}
 use Rattle.fib_changes.proofs.CauseLaws.{any_from}
 use Rattle.fib_changes.proofs.Edits.{any_in}
 use Rattle.fib_changes.proofs.SamePairs.{map_from}
-use Rattle.fib_stack.proofs.Woken.{rank_next, queued_next}
 use Rattle.fib_serving.specs.Stack.{is_some}
 use Rattle.fib_entries.specs.Known.{rank_of}
 use Rattle.fib_entries.specs.Changes.{AreMoved, AreTouched, prefix_moved}
 use Rattle.fib_entries.specs.declared.changes.Moved.{Moved}
 use Rattle.fib_entries.specs.declared.rows.Row.{Row}
-use Rattle.fib_control.specs.Controls.{is_among, is_moved}
+use Rattle.fib_control.specs.Controls.{is_moved}
 
--- one more prefix of a list
-pub among_next : (ds : List Prefix) (i : ℕ) (x d : Prefix) → i < length ds → get_or ds i x ≡ x → is_among (take (i + 1) ds) d ≡ is_among (take i ds) d || same_prefix x d
-among_next ds i x d lt is = list_any_more (λ y. same_prefix y d) ds i x lt ∙ ap (λ (y : Prefix). is_among (take i ds) d || same_prefix y d) is
-
+-- one more of a list
 moved_next : (ms : List Moved) (i : ℕ) (m : Moved) (d : Prefix) → i < length ms → get_or ms i m ≡ m → is_moved (take (i + 1) ms) d ≡ is_moved (take i ms) d || same_prefix m.prefix d
 moved_next ms i m d lt is = list_any_more (λ y. same_prefix y.prefix d) ms i m lt ∙ ap (λ (y : Moved). is_moved (take i ms) d || same_prefix y.prefix d) is
 
@@ -70,18 +66,6 @@ ranked_anew old new ms d r first are before h = ⊎_elim
     (λ (a : r ≡ rank_of new d). a)
     (λ (b : (first ≡ Some r) × (is_moved ms d ≡ false)). before r b.0 ∙ sym (unmoved old new ms d are b.1))
     h
-
--- the listed prefixes are those that are touched
-pub among_touched : (S T : Tables) (ds : List Prefix) (d : Prefix) → AreTouched S T ds → is_among ds d ≡ is_touched S T d
-among_touched S T ds d are = elim (either (is_touched S T d)) [
-  | inl is ↦ any_in (λ y. same_prefix y d) ds d ((are.touched d).1 is) ((same_prefix-Decides d d).1 refl) ∙ sym is
-  | inr none ↦ elim (either (is_among ds d)) [
-    | inl is ↦ absurd (let r = any_from (λ y. same_prefix y d) ds is in
-        let same : r.0 ≡ d = (same_prefix-Decides r.0 d).0 r.2 in
-        true≢false (sym ((are.touched d).0 (subst (λ (x : Prefix). Contains ds x) same r.1)) ∙ none))
-    | inr absent ↦ absent ∙ sym none
-  ]
-]
 
 pub swapped : (a b : Prefix) → same_prefix a b ≡ same_prefix b a
 swapped a b = elim (either (same_prefix a b)) [

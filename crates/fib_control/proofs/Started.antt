@@ -22,7 +22,7 @@ use Rattle.fib_shared.specs.Shares.{IsBare}
 use Rattle.fib_quiet.specs.Early.{IsEarly, IsTried}
 use Rattle.fib_quiet.proofs.Early.{still_early}
 use Rattle.fib_control.proofs.Queued.{swapped}
-use Rattle.fib_control.specs.Controls.{is_among}
+use Rattle.fib_woken.specs.Waking.{is_among}
 use Rattle.fib_control.specs.inner.Starting.{IsStarted}
 
 named_more : (named : List Prefix) (x e : Prefix) → is_among (named ++ x ∷ []) e ≡ is_among named e || same_prefix x e

@@ -1,5 +1,5 @@
 -- Why an edit that is made at first is taken back.
-use Rattle.std.proofs.Common.{◌≡◌, List, ◌∷◌, [], ℕ, ◌+◌, ◌<◌, ◌≤◌, ap, ◌∙◌, subst, sym, refl, arith}
+use Rattle.std.proofs.Common.{◌≡◌, List, ◌∷◌, [], ℕ, ◌+◌, ◌-◌, ◌^◌, ◌<◌, ◌≤◌, min, ap, ◌∙◌, subst, sym, refl, arith}
 use Rattle.std.specs.Prelude.{Option, Some, None, Result, Ok, Err}
 use Rattle.fib_resolve.specs.Edits.{edited}
 use Rattle.fib_resolve.specs.Refusals.{FirstRefused, edited_from, edited_in_turn, first_reason, reasons, refused, unless_refused}
@@ -7,13 +7,11 @@ use Rattle.fib_resolve.specs.Sizes.{size}
 use Rattle.fib_resolve.specs.declared.types.Edit.{Edit}
 use Rattle.fib_resolve.specs.declared.types.Refusal.{Refusal}
 use Rattle.fib_resolve.specs.declared.types.Tables.{Tables}
-use Rattle.fib_resolve.specs.Tables.{IsSound}
-use Rattle.fib_changes.specs.Differ.{Differ, change_of}
-use Rattle.fib_changes.specs.declared.change.Change.{Change}
-use Rattle.fib_changes.proofs.Differing.{edit_differs}
 use Rattle.fib_config.proofs.Made.{made_fits, made_large}
 use Rattle.fib_resolve.specs.declared.types.Refusal.TheVariants as refusals
 use Rattle.fib_resolve.proofs.Refused.{none_own, refused_size}
+use Rattle.fib_following.specs.Following.{IsAbove, TellsChange}
+use Rattle.fib_following.specs.declared.errors.ChangeError.TheVariants as changes
 use Rattle.fib_control.specs.Controls.{IsBatchNotCrowded, IsNotCrowded, IsTooMuch, TellsBatch, TellsEdit, WantsMore}
 use Rattle.fib_control.specs.declared.errors.ApplyError.{ApplyError}
 use Rattle.fib_control.specs.declared.errors.ApplyError.TheVariants as errors
@@ -32,17 +30,37 @@ tells_too_much S T l e (errors.Refused r) is none h = made_large S T l.room e is
 tells_too_much S T l e (errors.Crowded free wanted) is none h = (made_fits S T l.room e is h.0 none, h.1, h.2 ∙ ap size is, (let a = h.2 in let b = h.3 in omega (arith, a, b)))
 tells_too_much S T l e errors.Memory is none h = tt
 
--- the tables of before and after differ where the edit says
-pub differs : (S T : Tables) (e : Edit) (x : Change) → IsSound S → x ≡ change_of S e → T ≡ edited S e → Differ (x ∷ []) S T
-differs S T e x sound at is = subst (λ (y : Change). Differ (y ∷ []) S T) (sym at) (subst (λ (V : Tables). Differ (change_of S e ∷ []) S V) (sym is) (edit_differs S e sound))
-
--- an edit that isn't refused fits the room, so it is crowded only where fewer objects are free than the room takes
+-- an edit that isn't refused fits the room
 pub fits_room : (S : Tables) (room : ℕ) (e : Edit) → refused S room e ≡ None → size (edited S e) ≤ room
 fits_room S room e none = grind (arith, by_size)
   where
     by_size : room < size (edited S e) → ⊥
     by_size lt = absurd (let bad : None ≡ Some refusals.TooLarge = sym none ∙ refused_size S room e (none_own S room e none) lt in cc)
 
+-- a size that fits the room is told as it is
+size_told : (l : Limits) (size told : ℕ) (x : ApplyError) → l.room < 2 ^ 32 - 1 → told ≡ min size (2 ^ 32 - 1) → IsTooMuch l told x → IsTooMuch l size x
+size_told l size told (errors.Refused r) room is h = (h.0, (let more = h.1 in omega (arith, more, is)))
+size_told l size told (errors.Crowded free wanted) room is h =
+    let fits = h.0 in
+    let same : told ≡ size = omega (arith, fits, is, room) in
+    subst (λ (n : ℕ). IsTooMuch l n (errors.Crowded free wanted)) same h
+size_told l size told errors.Memory room is h = tt
+
+pub tells_size : (S : Tables) (l : Limits) (e : Edit) (told : ℕ) (x : ApplyError) → l.room < 2 ^ 32 - 1 → TellsChange S (min l.room l.free) e (changes.TooMany told)
+    → (min l.room l.free < told → IsTooMuch l told x) → TellsEdit S l e x
+tells_size S l e told x room h much =
+    let above = h.1.above in
+    let is = h.1.told in
+    let more : min l.room l.free < told = omega (arith, above, is, room) in
+    tells_too_much S (edited S e) l e x refl h.0 (size_told l (size (edited S e)) told x room is (much more))
+
+-- tables that fit what is free fit the room
+pub accepted : (S : Tables) (l : Limits) (e : Edit) → refused S (min l.room l.free) e ≡ None → refused S l.room e ≡ None
+accepted S l e none =
+    let fits = fits_room S (min l.room l.free) e none in
+    made_fits S (edited S e) l.room e refl (omega (arith, fits)) (none_own S (min l.room l.free) e none)
+
+-- so it is crowded only where fewer objects are free than the room takes
 pub not_crowded : (S : Tables) (l : Limits) (e : Edit) (x : ApplyError) → TellsEdit S l e x → ((n : ℕ) → n ≤ l.room → l.free < n → ⊥) → IsNotCrowded x
 not_crowded S l e (errors.Refused r) h never = tt
 not_crowded S l e (errors.Crowded free wanted) h never = never wanted (let f = fits_room S l.room e h.0 in let w = h.2 in omega (arith, f, w)) (let a = h.1 in let b = h.3 in omega (arith, a, b))

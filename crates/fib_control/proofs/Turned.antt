@@ -36,7 +36,8 @@ use Rattle.fib_stack.specs.declared.turn.Turn.{Turn}
 use Rattle.fib_stack.specs.declared.turn.Turn.TheVariants as turns
 use Rattle.fib_stack.proofs.Ordering.{removed_in_order, restacked_in_order, was_not_done}
 use Rattle.fib_control.proofs.Queued.{swapped}
-use Rattle.fib_control.specs.Controls.{Control, IsBeneath, IsDoneAfter, had_turn, is_among, is_queued, noted, parts_in, promise_in, rank_by, state_now, tables_in, view_in}
+use Rattle.fib_woken.specs.Waking.{is_among}
+use Rattle.fib_control.specs.Controls.{Control, IsBeneath, IsDoneAfter, had_turn, is_queued, noted, parts_in, promise_in, rank_by, state_now, tables_in, view_in}
 use Rattle.fib_control.specs.inner.Standing.{IsStanding}
 
 -- a turn that was noted also

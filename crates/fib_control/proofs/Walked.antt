@@ -27,7 +27,8 @@ use Rattle.fib_stack.specs.Turns.{IsRestacked}
 use Rattle.fib_stack.specs.declared.turn.Turn.{Turn}
 use Rattle.fib_stack.specs.declared.turn.Turn.TheVariants as turns
 use Rattle.fib_stack.proofs.Ordering.{who_is_queued}
-use Rattle.fib_control.specs.Controls.{Control, IsBeneath, IsDoneAfter, is_among, is_queued, tables_in}
+use Rattle.fib_woken.specs.Waking.{is_among}
+use Rattle.fib_control.specs.Controls.{Control, IsBeneath, IsDoneAfter, is_queued, tables_in}
 use Rattle.fib_control.proofs.Turned.{also_among}
 
 -- all that can have a turn before the next change

@@ -29,6 +29,7 @@ use Rattle.fib_stack.specs.Joined.{Parts, queued_in, state_in}
 use Rattle.fib_stack.specs.States.{State}
 use Rattle.fib_stack.specs.declared.turn.Turn.{Turn}
 use Rattle.fib_stack.specs.declared.turn.Turn.TheVariants as turns
+use Rattle.fib_woken.specs.Waking.{is_among}
 use Rattle.fib_control.specs.declared.errors.ApplyError.{ApplyError}
 use Rattle.fib_control.specs.declared.errors.ApplyError.TheVariants as errors
 use Rattle.fib_control.specs.declared.errors.BatchApplyError.{BatchApplyError}
@@ -75,9 +76,6 @@ state_now c = state_in (view_in c) (parts_in c)
 abbrev pub is_queued : Control → Prefix → Bool
 is_queued c d = queued_in (parts_in c) d
 
-abbrev pub is_among : List Prefix → Prefix → Bool
-is_among ds d = list_any (λ x. same_prefix x d) ds
-
 abbrev pub is_moved : List Moved → Prefix → Bool
 is_moved ms d = list_any (λ m. same_prefix m.prefix d) ms
 
@@ -100,10 +98,6 @@ pub record IsChanged (c d : Control) (T : Tables) : Type 0 where
   pub late : d.late ≡ c.late
   pub queue : (e : Prefix) → is_queued d e ≡ is_queued c e || is_touched (tables_in c) T e
   pub done : d.done ≡ []
-
--- each queued prefix has its rank
-abbrev pub AreRanked : List Row → List Queued → Type 0
-AreRanked rows queue = (d : Prefix) (r : ℕ) → rank_in queue d ≡ Some r → r ≡ rank_of rows d
 
 -- a fault of an edit says why: the first reason; or that fewer objects are free than the edited tables take, with both numbers
 abbrev pub TellsEdit : Tables → Limits → Edit → ApplyError → Type 0

@@ -9,11 +9,12 @@ ghost use Rattle.fib_resolve.specs.Touched.{is_touched};
 ghost use Rattle.fib_resolve.specs.declared.types.Edit.{Edit as EditValue};
 ghost use Rattle.fib_resolve.specs.declared.types.Tables.{Tables as TablesValue};
 ghost use Rattle.fib_config.specs.Config.{TellsFirstRefused};
-ghost use Rattle.fib_entries.specs.Known.{StandsFor};
+ghost use Rattle.fib_entries.specs.Known.{StandsFor, rank_of};
 ghost use Rattle.fib_queue.specs.Queues.{rank_in};
 ghost use Rattle.fib_serving.specs.Stack.{is_some};
 ghost use Rattle.fib_control.specs.declared.following.Limits.{Limits as LimitsValue};
-ghost use Rattle.fib_control.specs.Controls.{AreRanked, IsTooMuch, TellsBatch, WantsMore};
+ghost use Rattle.fib_woken.specs.Waking.{AreRanked};
+ghost use Rattle.fib_control.specs.Controls.{IsTooMuch, TellsBatch, WantsMore};
 
 use crate::errors::{ApplyError, BatchApplyError};
 use crate::following::{Limits, follow_all};
@@ -68,7 +69,7 @@ pub fn change_all(
     ensures room { config.new.room ≡ config.old.room }
     ensures stands { OnOk result (StandsFor entries.new config.new.tables) }
     ensures queued { OnOk result ((d : PrefixValue) → is_some (rank_in queue.new.members d) ≡ is_some (rank_in queue.old.members d) || is_touched config.old.tables config.new.tables d) }
-    ensures ranks { OnOk result (AreRanked entries.old.rows queue.old.members → AreRanked entries.new.rows queue.new.members) }
+    ensures ranks { OnOk result (AreRanked (rank_of entries.old.rows) queue.old.members → AreRanked (rank_of entries.new.rows) queue.new.members) }
     ensures fits { OnOk result ((size config.new.tables ≤ limits.room) × (size config.new.tables ≤ limits.free)) }
     ensures why { IfErr result (TellsBatch config.old.tables limits edits.now) }
     ensures config { OnErr result (config.new ≡ config.old) }

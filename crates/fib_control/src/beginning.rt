@@ -9,7 +9,7 @@ ghost use Rattle.fib_pool.specs.declared.object.Kind.TheVariants as kinds;
 ghost use Rattle.fib_ply.specs.Tables.{Stands, object_in};
 ghost use Rattle.fib_quiet.specs.Early.{IsTried};
 ghost use Rattle.fib_shared.specs.Shares.{IsBare};
-ghost use Rattle.fib_control.specs.Controls.{is_among};
+ghost use Rattle.fib_woken.specs.Waking.{is_among};
 ghost use Rattle.fib_control.specs.inner.Starting.{IsStarted};
 
 use fib_addr::Prefix;

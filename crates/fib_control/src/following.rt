@@ -3,25 +3,26 @@ ghost use Rattle.std.specs.Prelude.{◌≡◌, ◌∷◌, ◌*◌, ◌+◌, ◌<
 ghost use Rattle.fib_addr.specs.Prefixes.{Prefix as PrefixValue};
 ghost use Rattle.fib_resolve.specs.Edits.{edited};
 ghost use Rattle.fib_resolve.specs.Reachable.{IsWritten};
-ghost use Rattle.fib_resolve.specs.Refusals.{first_reason, reasons, refused};
+ghost use Rattle.fib_resolve.specs.Refusals.{refused};
 ghost use Rattle.fib_resolve.specs.declared.types.Edit.{Edit as EditValue};
-ghost use Rattle.fib_config.specs.Config.{TellsRefusal};
-ghost use Rattle.fib_control.specs.declared.following.Limits.{Limits as LimitsValue};
+ghost use Rattle.fib_following.specs.Following.{TellsChange};
 ghost use Rattle.fib_resolve.specs.Sizes.{size};
 ghost use Rattle.fib_resolve.specs.Touched.{is_touched};
 ghost use Rattle.fib_resolve.specs.declared.types.Tables.{Tables as TablesValue};
 ghost use Rattle.fib_changes.specs.Differ.{Differ};
 ghost use Rattle.fib_entries.specs.Changes.{AreMoved, AreTouched};
-ghost use Rattle.fib_entries.specs.Known.{StandsFor};
+ghost use Rattle.fib_entries.specs.Known.{StandsFor, rank_of};
 ghost use Rattle.fib_queue.specs.Queues.{rank_in};
 ghost use Rattle.fib_serving.specs.Stack.{is_some};
-ghost use Rattle.fib_control.specs.Controls.{AreRanked, IsTooMuch, TellsEdit};
+ghost use Rattle.fib_woken.specs.Waking.{AreRanked};
+ghost use Rattle.fib_control.specs.Controls.{IsTooMuch, TellsEdit};
 
 use crate::errors::ApplyError;
 use crate::queueing::queue_all;
 use fib_changes::Change;
-use fib_config::{Config, EditError, Edited, Undo};
+use fib_config::Config;
 use fib_entries::{Entries, FollowError, Followed};
+use fib_following::{ChangeError, change_tables};
 use fib_queue::Queue;
 use fib_resolve::{Edit, Refusal};
 use std::alloc::Global;
@@ -33,6 +34,17 @@ pub struct Limits {
     pub room: u32,
     /// How many are free.
     pub free: u32,
+}
+
+// The most that the tables may take now.
+fn least_of(limits: Limits) -> u32
+    ensures { result ≡ min limits.room limits.free }
+{
+    if limits.room < limits.free {
+        limits.room
+    } else {
+        limits.free
+    }
 }
 
 // What the size of tables is refused for, where it is above one of the limits.
@@ -63,12 +75,7 @@ fn follow_within(
     ensures why { IfErr result (λ e. (S : TablesValue) → StandsFor entries.old S → Differ changes.now S config.now.tables → IsTooMuch limits (size config.now.tables) e) }
     ensures err { OnErr result (entries.new ≡ entries.old) }
 {
-    let most = if limits.room < limits.free {
-        limits.room
-    } else {
-        limits.free
-    };
-    match entries.follow_changes(config, changes, most) {
+    match entries.follow_changes(config, changes, least_of(limits)) {
         Ok(followed) => Ok(followed),
         Err(FollowError::TooMany(size)) => Err(too_many(limits, size)),
         Err(FollowError::Memory) => Err(ApplyError::Memory),
@@ -115,7 +122,7 @@ pub fn follow_all(
     requires before { (S : TablesValue) × StandsFor entries.old S × Differ changes.now S config.now.tables × (size S ≤ limits.room) }
     ensures stands { OnOk result (StandsFor entries.new config.now.tables) }
     ensures queued { OnOk result ((S : TablesValue) → StandsFor entries.old S → Differ changes.now S config.now.tables → (d : PrefixValue) → is_some (rank_in queue.new.members d) ≡ is_some (rank_in queue.old.members d) || is_touched S config.now.tables d) }
-    ensures ranks { OnOk result (AreRanked entries.old.rows queue.old.members → AreRanked entries.new.rows queue.new.members) }
+    ensures ranks { OnOk result (AreRanked (rank_of entries.old.rows) queue.old.members → AreRanked (rank_of entries.new.rows) queue.new.members) }
     ensures fits { OnOk result ((size config.now.tables ≤ limits.room) × (size config.now.tables ≤ limits.free)) }
     ensures why { IfErr result (IsTooMuch limits (size config.now.tables)) }
     ensures queue { OnErr result (queue.new.members ≡ queue.old.members) }
@@ -126,18 +133,17 @@ pub fn follow_all(
     Ok(())
 }
 
-// Why an edit that is refused, whatever room it takes, makes no change.
-fn fault_of(error: EditError) -> ApplyError
-    ensures { (S : TablesValue) (l : LimitsValue) (e : EditValue) → TellsRefusal (first_reason (reasons S e)) error → TellsEdit S l e result }
+// Why an edit makes no change.
+fn fault_of(limits: Limits, error: ChangeError) -> ApplyError
+    requires room { limits.room < 2 ^ 32 - 1 }
+    ensures { (S : TablesValue) (e : EditValue) → TellsChange S (min limits.room limits.free) e error → TellsEdit S limits e result }
 {
     match error {
-        EditError::Refused(refusal) => ApplyError::Refused(refusal),
-        EditError::Memory => ApplyError::Memory,
+        ChangeError::Refused(refusal) => ApplyError::Refused(refusal),
+        ChangeError::TooMany(size) => too_many(limits, size),
+        ChangeError::Memory => ApplyError::Memory,
     }
 }
-
-// What takes an edit back isn't wanted any more.
-fn forget(_undo: Undo) {}
 
 /// Makes an edit of the tables, has the entries follow it, and queues what it touches, where the edited tables are within the limits. After a fault
 /// all but the queue's room is as before.
@@ -157,25 +163,21 @@ pub fn change(
     ensures edited { OnOk result (config.new ≡ record config.old { tables = edited config.old.tables edit.now }) }
     ensures stands { OnOk result (StandsFor entries.new config.new.tables) }
     ensures queued { OnOk result ((d : PrefixValue) → is_some (rank_in queue.new.members d) ≡ is_some (rank_in queue.old.members d) || is_touched config.old.tables config.new.tables d) }
-    ensures ranks { OnOk result (AreRanked entries.old.rows queue.old.members → AreRanked entries.new.rows queue.new.members) }
+    ensures ranks { OnOk result (AreRanked (rank_of entries.old.rows) queue.old.members → AreRanked (rank_of entries.new.rows) queue.new.members) }
     ensures fits { OnOk result ((size config.new.tables ≤ limits.room) × (size config.new.tables ≤ limits.free)) }
     ensures why { IfErr result (TellsEdit config.old.tables limits edit.now) }
     ensures config { OnErr result (config.new ≡ config.old) }
     ensures queue { OnErr result (queue.new.members ≡ queue.old.members) }
     ensures entries { OnErr result (entries.new ≡ entries.old) }
 {
-    let Edited { change, undo } = match config.change(edit) {
-        Ok(edited) => edited,
-        Err(error) => return Err(fault_of(error)),
+    let Ok(()) = queue.reserve(alloc, 4 * limits.room as usize) else {
+        return Err(ApplyError::Memory);
     };
-    match follow_all(alloc, config, entries, queue, &[change], limits) {
-        Ok(()) => {
-            forget(undo);
+    match change_tables(config, entries, edit, least_of(limits)) {
+        Ok(followed) => {
+            queue_all(queue, entries, &followed);
             Ok(())
         }
-        Err(error) => {
-            config.undo(undo);
-            Err(error)
-        }
+        Err(error) => Err(fault_of(limits, error)),
     }
 }

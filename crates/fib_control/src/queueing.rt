@@ -6,11 +6,12 @@ ghost use Rattle.fib_serving.specs.Stack.{is_some};
 ghost use Rattle.fib_entries.specs.Known.{rank_of};
 ghost use Rattle.fib_entries.specs.Changes.{AreMoved};
 ghost use Rattle.fib_entries.specs.declared.rows.Row.{Row};
-ghost use Rattle.fib_control.specs.Controls.{is_among, is_moved};
+ghost use Rattle.fib_woken.specs.Waking.{is_among};
+ghost use Rattle.fib_control.specs.Controls.{is_moved};
 
-use fib_addr::Prefix;
 use fib_entries::{Entries, Followed, Moved};
 use fib_queue::Queue;
+use fib_woken::enqueue;
 
 // Keys queued prefixes anew that have another rank than before. There must be room.
 fn rekey(queue: &mut Queue, entries: &Entries, moved: &[Moved])
@@ -21,17 +22,6 @@ fn rekey(queue: &mut Queue, entries: &Entries, moved: &[Moved])
 {
     for one in moved {
         queue.set_rank(one.prefix, entries.rank(one.prefix));
-    }
-}
-
-// Queues the prefixes, each under its rank. There must be room.
-fn enqueue(queue: &mut Queue, entries: &Entries, touched: &[Prefix])
-    requires room { length touched.now ≤ queue.old.spare }
-    ensures queued { (d : PrefixValue) → is_some (rank_in queue.new.members d) ≡ is_some (rank_in queue.old.members d) || is_among touched.now d }
-    ensures ranks { (d : PrefixValue) (r : ℕ) → rank_in queue.new.members d ≡ Some r → (rank_in queue.old.members d ≡ Some r) ⊎ (r ≡ rank_of entries.now.rows d) }
-{
-    for prefix in touched {
-        queue.add(*prefix, entries.rank(*prefix));
     }
 }
 

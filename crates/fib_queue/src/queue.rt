@@ -1,5 +1,5 @@
 // Queued prefixes.
-ghost use Rattle.std.specs.Prelude.{◌≡◌, ℕ, ◌+◌, ◌<◌, ◌≤◌, ◌↔◌, None, Some, [], IfSome, IsSome, IsTrue, OnOk, if◌then◌else◌, length, option_map};
+ghost use Rattle.std.specs.Prelude.{◌≡◌, ℕ, ◌+◌, ◌<◌, ◌≤◌, ◌↔◌, None, Some, [], IfSome, IsSome, IsTrue, OnOk, if◌then◌else◌, length, option_map, slice_get};
 ghost use Rattle.std.specs.List.{remove};
 ghost use Rattle.std.specs.VecDeque.{deque_capacity};
 ghost use Rattle.fib_addr.specs.Prefixes.{Prefix as PrefixValue, same_prefix};
@@ -91,6 +91,14 @@ impl Queue {
         ensures { result ≡ length self.now.members }
     {
         self.order.len()
+    }
+
+    /// The prefix that stands at that place of the order in which they are taken, with its rank. Places are counted from 0.
+    pub fn at(&self, place: usize) -> Queued
+        requires { place < length self.now.members }
+        ensures { slice_get self.now.members place ≡ Some result }
+    {
+        self.order[place]
     }
 
     /// The rank under which the prefix is queued; None exactly where it isn't.

@@ -19,14 +19,8 @@ use Rattle.fib_resolve.specs.declared.types.Tables.{Tables}
 use Rattle.fib_changes.specs.Ranks.{leads_on, is_usable_mark, is_aimed_at, counts_on, IsRanked}
 use Rattle.fib_changes.specs.Wanted.{least_mark, of_least_mark, spread_marks, aim_of, aim_by}
 use Rattle.fib_serving.specs.Kept.{same_end}
+use Rattle.fib_woken.proofs.Woken.{and_join, self_same}
 use Rattle.fib_stack.specs.States.{ends_there, has_hop, forwards_by}
-
-pub and_join : (a b : Bool) → a ≡ true → b ≡ true → a && b ≡ true
-and_join true b e h = h
-and_join false b e h = e
-
-pub self_same : (t : Prefix) → same_prefix t t ≡ true
-self_same t = (same_prefix-Decides t t).1 refl
 
 leads_agree : (f g : Prefix → Bool) (b : Bool) (m : Aim) → ((t : Prefix) → b && is_aimed_at t m ≡ true → f t ≡ g t) → b && leads_on f m ≡ b && leads_on g m
 leads_agree f g false m h = refl

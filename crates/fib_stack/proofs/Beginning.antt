@@ -17,7 +17,7 @@ use Rattle.fib_stack.specs.Joined.{Parts, balance_in, was_by}
 use Rattle.fib_stack.specs.Records.{TookAll, records_for}
 use Rattle.fib_stack.specs.States.{forwards_by}
 use Rattle.fib_stack.specs.Turns.{GotObject, IsReadied, IsTurnOf, IsUnderway}
-use Rattle.fib_stack.specs.Waking.{are_among, have_ranks}
+use Rattle.fib_woken.specs.Waking.{are_among, have_ranks}
 use Rattle.fib_stack.specs.declared.stack.Plan.{Plan}
 use Rattle.fib_stack.proofs.Leaving.{quiet_then}
 use Rattle.fib_stack.proofs.Listing.{objects_kept}

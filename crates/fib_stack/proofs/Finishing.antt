@@ -21,7 +21,7 @@ use Rattle.fib_serving.specs.Matches.{FitsVersions, added, removed}
 use Rattle.fib_serving.specs.Stack.{is_some}
 use Rattle.fib_stack.specs.Joined.{IsLaid, Joined, Parts, balance_in, in_change, state_in, table_of}
 use Rattle.fib_stack.specs.Steps.{IsLeast, Removed, Restacked}
-use Rattle.fib_stack.proofs.Aiming.{self_same}
+use Rattle.fib_woken.proofs.Woken.{self_same}
 use Rattle.fib_stack.proofs.Clearing.{let_go_serves}
 use Rattle.fib_stack.proofs.Joining.{begun_of, table_names, table_quiet, to_change, to_now}
 use Rattle.fib_stack.proofs.Keeping.{ne_prefix, prefix_discrete, removed_keeps, restacked_keeps}

@@ -21,7 +21,8 @@ use Rattle.fib_changes.proofs.MarkLaws.{aim_is, untouched_marked, untouched_stay
 use Rattle.fib_serving.specs.Stack.{Objects, aim_word, to_adjacency, to_balance, is_some}
 use Rattle.fib_stack.specs.States.{State, Fits, IsDone, IsPlaced, Kept, IsQuiet, forwards_by, has_hop}
 use Rattle.fib_stack.specs.Steps.{IsLeast, Restacked, Removed, Applied, StillOrStored, Retried, StandsFor}
-use Rattle.fib_stack.proofs.Aiming.{and_join, forwards_agree, aim_agree, settled_below, bucket_on, bucket_hop}
+use Rattle.fib_woken.proofs.Woken.{and_join}
+use Rattle.fib_stack.proofs.Aiming.{forwards_agree, aim_agree, settled_below, bucket_on, bucket_hop}
 
 pub eq_prefix : (d e : Prefix) → d ≡ e → same_prefix d e ≡ true
 eq_prefix d e h = (same_prefix-Decides d e).1 h

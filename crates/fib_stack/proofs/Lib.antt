@@ -12,7 +12,6 @@ pub mod Spreading
 pub mod Filled
 pub mod Assembled
 pub mod Taking
-pub mod Woken
 pub mod Readying
 pub mod Ending
 pub mod Joining

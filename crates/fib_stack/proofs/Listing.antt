@@ -12,7 +12,7 @@ use Rattle.fib_ledger.specs.declared.ledger.Use.{Use}
 use Rattle.fib_ledger.specs.Ledgers.{same_record, record_used, times}
 use Rattle.fib_joined.specs.View.{View, IsPlane, IsSwept, TookRecord, GaveRecord}
 use Rattle.fib_stack.specs.Records.{record_for, AreObjects, SameBalances, TookAll, GaveAll, SamePlane, TookFor}
-use Rattle.fib_stack.proofs.Aiming.{and_join}
+use Rattle.fib_woken.proofs.Woken.{and_join}
 
 same_mac_is : (m k : Option ℕ) → same_mac m k ≡ true → m ≡ k
 same_mac_is None None e = refl

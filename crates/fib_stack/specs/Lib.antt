@@ -5,7 +5,6 @@ pub mod Orders
 pub mod Buckets
 pub mod Records
 pub mod Runs
-pub mod Waking
 pub mod Joined
 pub mod Turns
 pub mod Done

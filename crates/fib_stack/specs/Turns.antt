@@ -8,7 +8,7 @@ use Rattle.fib_ordered.specs.Sets.{Order}
 use Rattle.fib_ply.specs.Tables.{Table}
 use Rattle.fib_queue.specs.declared.order.Queued.{Queued}
 use Rattle.fib_serving.specs.Kept.{same_end}
-use Rattle.fib_stack.specs.Waking.{are_among, have_ranks}
+use Rattle.fib_woken.specs.Waking.{are_among, have_ranks}
 use Rattle.fib_stack.specs.declared.stack.Plan.{Plan}
 use Rattle.fib_stack.specs.declared.stack.Stack.{Stack}
 use Rattle.fib_resolve.specs.Aims.{aim, marked_list}

@@ -12,7 +12,6 @@ ghost use Rattle.fib_stack.specs.Joined.{Joined, state_in};
 ghost use Rattle.fib_stack.specs.Turns.{HasRoomFor, IsRestacked, IsUnderway, parts_of};
 
 use crate::defer::defer;
-use crate::queueing::wake_all;
 use crate::records::give_old;
 use crate::sixteen::fill;
 use crate::stack::{Plan, Stack};
@@ -23,6 +22,7 @@ use fib_ledger::Known;
 use fib_list::List;
 use fib_ply::PrefixTable;
 use fib_queue::Queue;
+use fib_woken::wake_all;
 
 /// Enters the prefix at the balance, unless it is there.
 fn place<P: Objects>(on: &mut P, table: &mut PrefixTable, entry: Prefix, object: u32)

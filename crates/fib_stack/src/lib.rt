@@ -14,7 +14,6 @@ mod defer;
 mod finish;
 pub mod laws;
 mod leave;
-mod queueing;
 mod ready;
 mod records;
 mod retry;
@@ -22,7 +21,6 @@ mod sixteen;
 mod stack;
 pub mod stores;
 mod turn;
-mod waking;
 mod wanted;
 mod words;
 

@@ -16,11 +16,9 @@ ghost use Rattle.fib_stack.specs.Joined.{Joined, state_in};
 ghost use Rattle.fib_stack.specs.Records.{SamePlane};
 ghost use Rattle.fib_stack.specs.Steps.{IsLeast};
 ghost use Rattle.fib_stack.specs.Turns.{GotObject, HasRoomFor, IsRead, IsUnderway, balances_for, parts_of};
-ghost use Rattle.fib_stack.specs.Waking.{are_among, have_ranks};
 
 use crate::records::{Want, give_all, take_all};
 use crate::stack::{Plan, Stack};
-use crate::waking::woken_by;
 use crate::wanted::{forwards, wanted};
 use fib_addr::Prefix;
 use fib_entries::Entries;
@@ -28,25 +26,9 @@ use fib_joined::Objects;
 use fib_ledger::Ledger;
 use fib_ply::PrefixTable;
 use fib_pool::Kind;
-use fib_queue::{Queue, Queued};
+use fib_queue::Queue;
+use fib_woken::woken_where;
 use std::alloc::{AllocError, Global};
-
-/// Those that are woken, if the entry forwards otherwise than before.
-fn woken_where(
-    alloc: Global,
-    entries: &Entries,
-    entry: Prefix,
-    changed: bool,
-) -> Result<Vec<Queued>, AllocError>
-    ensures ranks { IfOk result (λ v. have_ranks (rank_of entries.now.rows) v.items) }
-    ensures among { (S : TablesValue) (d : PrefixValue) → StandsFor entries.now S → IfOk result (λ v. are_among v.items d ≡ changed && wakes S d entry) }
-{
-    if changed {
-        woken_by(alloc, entries, entry)
-    } else {
-        Ok(Vec::new(alloc))
-    }
-}
 
 fn differs(left: bool, right: bool) -> bool
     ensures { result ≡ differ left right }

@@ -8,7 +8,7 @@ use Rattle.fib_joined.specs.View.{IsBalance, View}
 use Rattle.fib_ply.specs.Tables.{Table, object_in}
 use Rattle.fib_serving.specs.Stack.{is_some}
 use Rattle.fib_quiet.specs.Early.{IsTried}
-use Rattle.fib_control.specs.Controls.{is_among}
+use Rattle.fib_woken.specs.Waking.{is_among}
 
 pub record IsStarted (p : Promise) (t : Table) (u : View) (named : List Prefix) : Type 0 where
   pub tried : IsTried p t u

@@ -1,24 +1,46 @@
-use Rattle.fib_config.proofs.Made.{made_fits}
-use Rattle.fib_control.proofs.Telling.{differs, tells_too_much}
+use Rattle.std.proofs.Common.{ap, ◌≡◌, ◌∙◌, ◌||◌, ◌≤◌, ℕ, None, arith, min, subst, sym, List}
+use Rattle.fib_resolve.specs.Refusals.{refused}
+use Rattle.fib_resolve.specs.Sizes.{size}
+use Rattle.fib_serving.specs.Stack.{is_some}
+use Rattle.fib_queue.specs.Queues.{rank_in}
+use Rattle.fib_queue.specs.declared.order.Queued.{Queued}
+use Rattle.fib_woken.specs.Waking.{is_among}
+use Rattle.fib_woken.proofs.Woken.{among_touched}
+use Rattle.fib_following.specs.Following.{TellsChange}
+use Rattle.fib_control.proofs.Few.{moved_few, touched_few}
+use Rattle.fib_control.proofs.Telling.{accepted}
 use Rattle.fib_control.proofs.following.change.Goals as goal
 
+pub queue_all-requires : goal.queue_all-requires
+queue_all-requires c =
+    let S = c.args.config.now.tables in
+    let T = c.change_tables.new.config.tables in
+    let e = c.in-Ok-change_tables.ensures in
+    let least = c.least_of.ensures in
+    let small = e.fits in
+    let fits : size T ≤ c.args.limits.room = omega (arith, least, small) in
+    let t = touched_few S T c.args.limits.room c.in-Ok-change_tables.followed.touched c.requires.fits fits e.touched in
+    let m = moved_few c.args.entries.now c.change_tables.new.entries S T c.args.limits.room c.in-Ok-change_tables.followed.moved c.requires.fits fits c.requires.stands e.stands e.moved in
+    let room = c.in-Ok.ensures.room in
+    record { room = omega (arith, t, m, room) }
+
+pub returns-in-Ok-change_tables-clause-accepted : goal.returns-in-Ok-change_tables-clause-accepted
+returns-in-Ok-change_tables-clause-accepted c =
+    accepted c.args.config.now.tables c.args.limits c.args.edit.now
+    (subst (λ (n : ℕ). refused c.args.config.now.tables n c.args.edit.now ≡ None) c.least_of.ensures c.in-Ok-change_tables.ensures.accepted)
+
+pub returns-in-Ok-change_tables-clause-queued : goal.returns-in-Ok-change_tables-clause-queued
+returns-in-Ok-change_tables-clause-queued c = λ d.
+    c.queue_all.ensures.queued d
+    ∙ ap (λ b. b || is_among c.in-Ok-change_tables.followed.touched d) (ap (λ (q : List Queued). is_some (rank_in q d)) c.reserve.ensures.members)
+    ∙ ap (λ b. is_some (rank_in c.args.queue.now.members d) || b)
+    (among_touched c.args.config.now.tables c.change_tables.new.config.tables c.in-Ok-change_tables.followed.touched d c.in-Ok-change_tables.ensures.touched)
+
+pub returns-in-Ok-change_tables-clause-ranks : goal.returns-in-Ok-change_tables-clause-ranks
+returns-in-Ok-change_tables-clause-ranks c = λ ranked.
+    c.queue_all.ensures.ranks c.args.entries.now.rows c.in-Ok-change_tables.ensures.moved
+    (λ d r at. ranked d r (ap (λ (q : List Queued). rank_in q d) (sym c.reserve.ensures.members) ∙ at))
+
 pub returns-in-Err-clause-why : goal.returns-in-Err-clause-why
-returns-in-Err-clause-why c = c.fault_of.ensures c.args.config.now.tables c.args.limits c.args.edit.now c.in-Err.ensures.refused
-
-pub follow_all-requires-clause-before : goal.follow_all-requires-clause-before
-follow_all-requires-clause-before c =
-    let S = c.args.config.now.tables in
-    let e = c.in-Ok.ensures in
-    (S, c.requires.stands, differs S c.change.new.self.tables c.args.edit.now c.in-Ok.edited.change c.requires.stands.sound e.place e.edited, c.requires.fits)
-
-pub returns-in-Ok-follow_all-clause-accepted : goal.returns-in-Ok-follow_all-clause-accepted
-returns-in-Ok-follow_all-clause-accepted c = made_fits c.args.config.now.tables c.change.new.self.tables c.args.limits.room c.args.edit.now c.in-Ok.ensures.edited c.in-Ok-follow_all.ensures.fits.0 c.in-Ok.ensures.accepted
-
-pub returns-in-Ok-follow_all-clause-queued : goal.returns-in-Ok-follow_all-clause-queued
-returns-in-Ok-follow_all-clause-queued c =
-    let S = c.args.config.now.tables in
-    let e = c.in-Ok.ensures in
-    c.in-Ok-follow_all.ensures.queued S c.requires.stands (differs S c.change.new.self.tables c.args.edit.now c.in-Ok.edited.change c.requires.stands.sound e.place e.edited)
-
-pub returns-in-Err-follow_all-clause-why : goal.returns-in-Err-follow_all-clause-why
-returns-in-Err-follow_all-clause-why c = tells_too_much c.args.config.now.tables c.change.new.self.tables c.args.limits c.args.edit.now c.in-Err-follow_all.error c.in-Ok.ensures.edited c.in-Ok.ensures.accepted c.in-Err-follow_all.ensures.why
+returns-in-Err-clause-why c = c.fault_of.ensures c.args.config.now.tables c.args.edit.now
+    (subst (λ (n : ℕ). TellsChange c.args.config.now.tables n c.args.edit.now c.in-Err.error) c.least_of.ensures c.in-Err.ensures.why)

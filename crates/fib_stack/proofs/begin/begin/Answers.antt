@@ -19,7 +19,7 @@ use Rattle.fib_stack.specs.Records.{Freed, GaveAll, IsAlone, TookNew, records_fo
 use Rattle.fib_stack.specs.States.{forwards_by}
 use Rattle.fib_stack.specs.declared.records.Want.TheVariants as wants
 use Rattle.fib_stack.specs.Turns.{GotObject, IsTurnOf, IsUnderway, balances_for, parts_of}
-use Rattle.fib_stack.specs.Waking.{are_among}
+use Rattle.fib_woken.specs.Waking.{are_among}
 use Rattle.fib_stack.specs.declared.stack.Plan.{Plan}
 use Rattle.fib_stack.proofs.Beginning.{underway}
 use Rattle.fib_stack.proofs.Finishing.{waits_of}

@@ -19,7 +19,7 @@ use Rattle.fib_queue.specs.Queues.{rank_in}
 use Rattle.fib_stack.specs.Records.{AreObjects, GaveAll}
 use Rattle.fib_stack.specs.Runs.{AreReady, word_in}
 use Rattle.fib_stack.specs.Turns.{IsFinished, IsUnderway, found_in, names_for, parts_of}
-use Rattle.fib_stack.specs.Waking.{are_among, have_ranks}
+use Rattle.fib_woken.specs.Waking.{are_among, have_ranks}
 use Rattle.fib_stack.proofs.Assembled.{is_restacked, laid_after, restacked}
 use Rattle.fib_stack.proofs.Filled.{filled_by}
 use Rattle.fib_stack.proofs.Finishing.{entry_there, joined_restacked, queue_removed, rank_left}

@@ -6,7 +6,8 @@ use Rattle.fib_stack.specs.Done.{TurnDone}
 use Rattle.fib_stack.specs.Joined.{Parts}
 use Rattle.fib_queue.specs.Queues.{rank_in}
 use Rattle.fib_serving.specs.Stack.{is_some}
-use Rattle.fib_control.specs.Controls.{Control, IsDoneAfter, had_turn, is_among, noted, parts_in, rank_by, state_now, tables_in}
+use Rattle.fib_woken.specs.Waking.{is_among}
+use Rattle.fib_control.specs.Controls.{Control, IsDoneAfter, had_turn, noted, parts_in, rank_by, state_now, tables_in}
 use Rattle.fib_control.proofs.Resting.{is_ranked}
 use Rattle.fib_control.proofs.Turned.{beneath, busy_waits, noted_after, order_same, turned_once, turned_order}
 use Rattle.fib_control.proofs.control.Control.turn.Goals as goal

@@ -1,6 +1,7 @@
 use Rattle.std.proofs.Common.{◌≡◌, true, ◌-◌, length}
 use Rattle.fib_addr.specs.Prefixes.{Prefix}
-use Rattle.fib_control.specs.Controls.{IsBeneath, is_among, is_queued}
+use Rattle.fib_woken.specs.Waking.{is_among}
+use Rattle.fib_control.specs.Controls.{IsBeneath, is_queued}
 use Rattle.fib_control.proofs.Walked.{may_turn}
 use Rattle.fib_control.proofs.control.Control.walk.Given as goal
 

@@ -2,9 +2,9 @@ use Rattle.std.proofs.Common.{◌≡◌, take}
 use Rattle.fib_addr.specs.Prefixes.{Prefix}
 use Rattle.fib_resolve.specs.declared.types.Tables.{Tables}
 use Rattle.fib_entries.specs.Known.{StandsFor, rank_of}
-use Rattle.fib_stack.specs.Waking.{are_among, have_ranks}
-use Rattle.fib_stack.proofs.Woken.{woken_of}
-use Rattle.fib_stack.proofs.waking.woken_by.Given as goal
+use Rattle.fib_woken.specs.Waking.{are_among, have_ranks}
+use Rattle.fib_woken.proofs.Woken.{woken_of}
+use Rattle.fib_woken.proofs.waking.woken_by.Given as goal
 
 abbrev pub invariant-loop-entry : goal.invariant-loop-entry
 invariant-loop-entry l = record {

@@ -2,9 +2,9 @@ use Rattle.std.proofs.Common.{◌≡◌, ◌≤◌, ◌+◌, ◌||◌, ℕ, leng
 use Rattle.std.specs.Prelude.{Some, ◌⊎◌}
 use Rattle.fib_addr.specs.Prefixes.{Prefix}
 use Rattle.fib_queue.specs.Queues.{rank_in}
-use Rattle.fib_serving.specs.Stack.{is_some}
-use Rattle.fib_stack.specs.Waking.{are_among, have_ranks}
-use Rattle.fib_stack.proofs.queueing.wake_all.Given as goal
+use Rattle.std.specs.Prelude.{is_some}
+use Rattle.fib_woken.specs.Waking.{are_among, have_ranks}
+use Rattle.fib_woken.proofs.queueing.wake_all.Given as goal
 
 abbrev pub invariant-loop-next : goal.invariant-loop-next
 invariant-loop-next l = record {

@@ -1,8 +1,8 @@
 use Rattle.std.proofs.Common.{◌∙◌, ◌||◌, ◌&&◌, ◌≤◌, List, length, take, ap, sym, arith}
 use Rattle.fib_addr.specs.Prefixes.{Prefix, same_prefix}
 use Rattle.fib_changes.specs.Ranks.{wakes}
-use Rattle.fib_stack.proofs.Woken.{same_woken, take_whole, woken_all, woken_next, woken_of}
-use Rattle.fib_stack.proofs.waking.woken_by.Goals as goal
+use Rattle.fib_woken.proofs.Woken.{same_woken, take_whole, woken_all, woken_next, woken_of}
+use Rattle.fib_woken.proofs.waking.woken_by.Goals as goal
 
 pub loop-entry-preserved : goal.loop-entry-preserved
 loop-entry-preserved c = record {

@@ -1,4 +1,4 @@
--- Who is woken stands among the dependants.
+-- Who is woken stands among the dependants; prefixes are queued one by one.
 use Rattle.std.proofs.Common.{inr, zero, suc, ◌≡◌, ℕ, ◌+◌, ◌<◌, ◌≤◌, Bool, true, false, ◌&&◌, ◌||◌, List, [], ◌∷◌, ◌++◌, length, take, get_or, refl, sym, ap, ◌∙◌, subst, arith}
 use Rattle.std.specs.Prelude.{Contains, Option, Some, if◌then◌else◌, ◌↔◌, ◌⊎◌}
 use Rattle.std.specs.List.{list_any}
@@ -15,9 +15,17 @@ use Rattle.fib_changes.proofs.Ranking.{wake_edge}
 use Rattle.fib_changes.proofs.CauseLaws.{any_from}
 use Rattle.fib_changes.proofs.Edits.{any_in}
 use Rattle.fib_queue.specs.declared.order.Queued.{Queued}
-use Rattle.fib_serving.specs.Stack.{is_some}
-use Rattle.fib_stack.specs.Waking.{are_among, have_ranks}
-use Rattle.fib_stack.proofs.Aiming.{and_join, self_same}
+use Rattle.std.specs.Prelude.{is_some}
+use Rattle.fib_entries.specs.Changes.{AreTouched}
+use Rattle.fib_resolve.specs.Touched.{is_touched}
+use Rattle.fib_woken.specs.Waking.{are_among, have_ranks, is_among}
+
+pub and_join : (a b : Bool) → a ≡ true → b ≡ true → a && b ≡ true
+and_join true b e h = h
+and_join false b e h = e
+
+pub self_same : (t : Prefix) → same_prefix t t ≡ true
+self_same t = (same_prefix-Decides t t).1 refl
 
 wakes_target : (S : Tables) (d e : Prefix) → wakes S d e ≡ true → Contains (targets S d) e
 unfolding targets
@@ -64,6 +72,16 @@ pushed_ranks rank (x ∷ qs) q e h = (h.0, pushed_ranks rank qs q e h.1)
 -- queued one by one
 pub among_next : (qs : List Queued) (i : ℕ) (q : Queued) (d : Prefix) → i < length qs → get_or qs i q ≡ q → are_among (take (i + 1) qs) d ≡ are_among (take i qs) d || same_prefix q.prefix d
 among_next qs i q d lt is = list_any_more (λ x. same_prefix x.prefix d) qs i q lt ∙ ap (λ (x : Queued). are_among (take i qs) d || same_prefix x.prefix d) is
+
+pub named_next : (ds : List Prefix) (i : ℕ) (x d : Prefix) → i < length ds → get_or ds i x ≡ x → is_among (take (i + 1) ds) d ≡ is_among (take i ds) d || same_prefix x d
+named_next ds i x d lt is = list_any_more (λ y. same_prefix y d) ds i x lt ∙ ap (λ (y : Prefix). is_among (take i ds) d || same_prefix y d) is
+
+-- the listed prefixes are those that are touched
+pub among_touched : (S T : Tables) (ds : List Prefix) (d : Prefix) → AreTouched S T ds → is_among ds d ≡ is_touched S T d
+among_touched S T ds d are = by_both (is_among ds d) (is_touched S T d)
+    (λ is. let r = any_from (λ y. same_prefix y d) ds is in
+    (are.touched d).0 (subst (λ (x : Prefix). Contains ds x) ((same_prefix-Decides r.0 d).0 r.2) r.1))
+    (λ is. any_in (λ y. same_prefix y d) ds d ((are.touched d).1 is) (self_same d))
 
 pub rank_at : (rank : Prefix → ℕ) (qs : List Queued) (i : ℕ) (q : Queued) → i < length qs → get_or qs i q ≡ q → have_ranks rank qs → q.rank ≡ rank q.prefix
 rank_at rank qs i q lt is h = subst (λ (x : Queued). x.rank ≡ rank x.prefix) is (at_index qs i lt h)

@@ -1,6 +1,6 @@
 use Rattle.std.proofs.Common.{arith, sym}
-use Rattle.fib_stack.proofs.Woken.{among_next, queued_next, rank_at, rank_next}
-use Rattle.fib_stack.proofs.queueing.wake_all.Goals as goal
+use Rattle.fib_woken.proofs.Woken.{among_next, queued_next, rank_at, rank_next}
+use Rattle.fib_woken.proofs.queueing.wake_all.Goals as goal
 
 pub loop-next-preserved : goal.loop-next-preserved
 loop-next-preserved c =
