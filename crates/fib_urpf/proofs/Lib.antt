@@ -1,0 +1,11 @@
+pub mod Rounds
+pub mod Marked
+pub mod Ranges
+pub mod Keeping
+pub mod Bits
+pub mod Gathered
+pub mod Members
+pub mod Requeued
+pub mod Turning
+pub mod Following
+pub mod Checking
