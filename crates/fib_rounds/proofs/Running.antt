@@ -126,7 +126,7 @@ counts_end packets script at None c accepted refused whole none is changes lines
 abbrev stage_by : Setup → Version → List Tables → Progress → Stage
 stage_by S v H p = record { router = record { config = S; changes = v.applied; refused = p.refused; batch = p.batch }; history = H }
 
-stage_fresh : (workers room : ℕ) (c : Control) (p : Progress) → IsNew workers room c → p ≡ new_progress → stage_of c p ≡ start room
+pub stage_fresh : (workers room : ℕ) (c : Control) (p : Progress) → IsNew workers room c → p ≡ new_progress → stage_of c p ≡ start room
 stage_fresh workers room c p f is =
     ap (λ (S : Setup). stage_by S c.plane.board.log.version (history_in c) p) f.setup
     ∙ (ap (λ (v : Version). stage_by (record { tables = fresh; room = room }) v (history_in c) p) f.version
