@@ -26,7 +26,7 @@ const SIXTY: Addr = Addr(0x3c01_0101);
 #[derive(Clone, Copy, Debug, PartialEq, Eq)]
 struct Seen {
     version: Version,
-    waiting: (u32, u32),
+    waiting: (usize, u32),
     used: u32,
     entries: (usize, u32),
     ends: (End, End),
