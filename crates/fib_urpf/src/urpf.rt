@@ -70,7 +70,8 @@ fn is_entry(entries: &Entries, prefix: Prefix) -> bool
 /// Knows whether the prefix is an entry.
 fn know(members: &mut PrefixSet, prefix: Prefix, is_entry: bool) -> Result<(), AllocError>
     ensures here { OnOk result (is_member same_prefix members.new prefix ≡ is_entry) }
-    ensures others { OnOk result ((d : PrefixValue) → (d ≡ prefix → ⊥) → is_member same_prefix members.new d ≡ is_member same_prefix members.old d) }
+    ensures others { OnOk result ((d : PrefixValue) → (d ≡ prefix → ⊥)
+        → is_member same_prefix members.new d ≡ is_member same_prefix members.old d) }
     ensures err { OnErr result (members.new ≡ members.old) }
 {
     if is_entry {
@@ -103,7 +104,8 @@ fn make_room(
 
 /// The longest member that contains the address; the default prefix where none does.
 fn best_of(members: &PrefixSet, addr: Addr) -> Prefix
-    ensures { (S : TablesValue) → ((q : PrefixValue) → Contains members.now q ↔ Contains (entries S) q) → result ≡ best S addr }
+    ensures { (S : TablesValue) → ((q : PrefixValue) → Contains members.now q ↔ Contains (entries S) q)
+        → result ≡ best S addr }
 {
     // Read so that the proof knows the address's range, and that members are prefixes.
     let _number = addr.0;
@@ -193,7 +195,8 @@ impl Urpf {
         requires before { IsFor self.old tables.now (rank_of entries.now.rows) }
         ensures none { IfOk result (λ r. r ≡ None ↔ self.old.queue ≡ []) }
         ensures idle { IfOk result (λ r. r ≡ None → self.new ≡ self.old) }
-        ensures some { IfOk result (λ r. IfSome r (λ e. Turned tables.now (rank_of entries.now.rows) e (state_of self.old) (state_of self.new))) }
+        ensures some { IfOk result (λ r. IfSome r (λ e.
+            Turned tables.now (rank_of entries.now.rows) e (state_of self.old) (state_of self.new))) }
         ensures once { IfOk result (λ r. IfSome r (λ e. Contains self.old.done e → ⊥)) }
         ensures stands { IsFor self.new tables.now (rank_of entries.now.rows) }
         ensures err { OnErr result (IsSame self.old self.new) }
@@ -210,9 +213,11 @@ impl Urpf {
     /// Takes a queued prefix of the least rank.
     fn take(&mut self, next: Queued, entries: &Entries) -> Result<(), AllocError>
         requires { IsLeast self.old.queue next }
-        ensures turned { OnOk result ((S : TablesValue) → StandsFor entries.now S → AreRanked (rank_of entries.now.rows) self.old.queue →
-            Turned S (rank_of entries.now.rows) next.prefix (state_of self.old) (state_of self.new)) }
-        ensures ranked { OnOk result (AreRanked (rank_of entries.now.rows) self.old.queue → AreRanked (rank_of entries.now.rows) self.new.queue) }
+        ensures turned { OnOk result ((S : TablesValue) → StandsFor entries.now S
+            → AreRanked (rank_of entries.now.rows) self.old.queue
+            → Turned S (rank_of entries.now.rows) next.prefix (state_of self.old) (state_of self.new)) }
+        ensures ranked { OnOk result (AreRanked (rank_of entries.now.rows) self.old.queue
+            → AreRanked (rank_of entries.now.rows) self.new.queue) }
         ensures err { OnErr result (IsSame self.old self.new) }
     {
         let entry = next.prefix;
@@ -237,7 +242,8 @@ impl Urpf {
     /// What is kept of the longest member that contains the address.
     fn checked(&self, addr: Addr) -> Interfaces
         requires { self.now.queue ≡ [] }
-        ensures { (S : TablesValue) (rank : PrefixValue → ℕ) → IsFor self.now S rank → (i : ℕ) → i < 256 → has result i ≡ strict S addr i }
+        ensures { (S : TablesValue) (rank : PrefixValue → ℕ) → IsFor self.now S rank
+            → (i : ℕ) → i < 256 → has result i ≡ strict S addr i }
     {
         self.sets.of(best_of(&self.members, addr))
     }

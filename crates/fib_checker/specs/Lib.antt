@@ -1,0 +1,5 @@
+pub mod Checks
+pub mod Ready
+pub mod Output
+pub mod Words
+pub mod Runs
