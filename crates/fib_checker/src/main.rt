@@ -10,6 +10,8 @@
 mod checker;
 mod checks;
 mod run;
+#[cfg(test)]
+mod tests;
 mod top;
 mod words;
 
