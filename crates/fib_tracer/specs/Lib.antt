@@ -1,0 +1,5 @@
+pub mod Words
+pub mod Lines
+pub mod Passes
+pub mod TraceOutput
+pub mod inner

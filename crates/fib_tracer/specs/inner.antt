@@ -1,0 +1,4 @@
+pub mod Going
+pub mod Printing
+pub mod Standing
+pub mod Tracing
