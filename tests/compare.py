@@ -1,14 +1,15 @@
 #!/usr/bin/env python3
 """Judges the program's output by a reference oracle on generated command files and captures.
 
-    tests/compare.py PROGRAM ORACLE [--scripts N] [--lines N] [--packets N] [--first SEED]
+    tests/compare.py PROGRAM ORACLE [--frames] [--scripts N] [--lines N] [--packets N] [--first SEED]
 
-PROGRAM is the built fib_tool. ORACLE is the reference oracle: a Python model of the program that shares nothing with this repository
-and is no part of it. It is a command line that knows
+PROGRAM is the built fib_tool, or with --frames the built fib_frames. ORACLE is the reference oracle: a Python model of the programs that
+shares nothing with this repository and is no part of it. It is a command line that knows
 
     gen SEED --profile P --lines N --packets N -o DIR   writes a command file and a capture
     expect COMMANDS CAPTURE                             ends with the status that is due
     check COMMANDS CAPTURE OUTPUT                       says whether a run may print OUTPUT (- for standard input)
+    frames COMMANDS CAPTURE TEXT                        the same of fib_frames, and writes the frames that belong to that text
 
 N command files of each of the five profiles are generated, so `--scripts 200` makes 1,000 of them; each is run with 1, 3 and 8
 workers, and each output is judged. The first one that isn't allowed is shown and ends the run.
@@ -40,6 +41,8 @@ def failure(asked, files):
     if runs[0].returncode != 0:
         wanted = subprocess.run([sys.executable, asked.oracle, "expect", *files], capture_output=True).returncode
         return None if wanted == runs[0].returncode and not runs[0].stdout else f"status {runs[0].returncode}, and not {wanted}"
+    if asked.frames:
+        return next(filter(None, (frames_failure(asked, files, run) for run in runs)), None)
     for text in {run.stdout for run in runs}:
         judged = subprocess.run([sys.executable, asked.oracle, "check", *files, "-"], input=text, capture_output=True)
         if judged.returncode != 0:
@@ -47,10 +50,19 @@ def failure(asked, files):
     return None
 
 
+def frames_failure(asked, files, run):
+    """Why a run may not write its text to standard error and its frames to standard output, or None."""
+    judged = subprocess.run([sys.executable, asked.oracle, "frames", *files, "-"], input=run.stderr, capture_output=True)
+    if judged.returncode != 0:
+        return (judged.stdout + judged.stderr).decode(errors="replace")
+    return None if judged.stdout == run.stdout else "the frames are not those of the text"
+
+
 def main():
     parser = argparse.ArgumentParser()
     parser.add_argument("program")
     parser.add_argument("oracle")
+    parser.add_argument("--frames", action="store_true")
     parser.add_argument("--scripts", type=int, default=200)
     parser.add_argument("--lines", type=int, default=40)
     parser.add_argument("--packets", type=int, default=40)

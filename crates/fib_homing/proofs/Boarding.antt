@@ -1,7 +1,7 @@
 -- Controls that differ by their boards alone, and boards whose workers leave.
 use Rattle.std.proofs.Common.{◌≡◌, ◌<◌, ◌≤◌, ◌+◌, ◌^◌, ◌++◌, ◌∷◌, [], ℕ, List, Some, true, false, length, arith, ap, ◌∙◌, sym, subst}
 use Rattle.std.specs.Prelude.{slice_index_or}
-use Rattle.std.proofs.lemmas.List.{append_assoc, get_or-set_other}
+use Rattle.std.proofs.lemmas.List.{append_assoc, append-nil, get_or-set_other}
 use Rattle.fib_core.specs.Trails.{Trail}
 use Rattle.fib_board.specs.Boards.{Board}
 use Rattle.fib_board.specs.Crews.{MaySend, Seated, board_sent, new_seat}
@@ -39,3 +39,7 @@ crew_longer a b n old new s sent crew long is items =
 -- one worker's past is brought home
 pub pasts_more : (old : List Trail) (s : Station) (rest : List Station) (w : Seated) → s.worker ≡ Some w → (old ++ w.worker.past) ++ pasts_of rest ≡ old ++ pasts_of (s ∷ rest)
 pasts_more old s rest w is = append_assoc old w.worker.past (pasts_of rest) ∙ ap (λ o. old ++ (past_of o ++ pasts_of rest)) (sym is)
+
+-- all are home
+pub pasts_none : (now before : List Trail) (rest : List Station) → now ++ pasts_of rest ≡ before → rest ≡ [] → now ≡ before
+pasts_none now before rest all none = sym (ap (λ r. now ++ pasts_of r) none ∙ append-nil now) ∙ all

@@ -1,6 +1,7 @@
 -- A control plane over fresh cells, on which a run begins.
-use Rattle.std.proofs.Common.{◌≡◌, ◌+◌, ◌-◌, ◌/◌, ◌^◌, ◌++◌, ◌∷◌, [], ℕ, List, Option, Result, Ok, Err, OnOk, false, refl, ap, ◌∙◌, zero, suc}
-use Rattle.std.specs.Prelude.{replicate, slice_index, slice_index_or}
+use Rattle.std.proofs.Common.{◌≡◌, ◌/◌, ℕ, List, Option, Result, Ok, Err, OnOk, OnErr, false, refl, sym, subst, ap, ◌∙◌, zero, suc, ◌<◌, take, drop, take-append-drop, inl, inr, arith}
+use Rattle.std.specs.Prelude.{◌⊎◌, replicate, slice_index, slice_index_or}
+use Rattle.fib_outside.specs.Outside.{HasRisen}
 use Rattle.fib_resolve.specs.Tables.{fresh}
 use Rattle.fib_lawful.specs.State.{left_of}
 use Rattle.fib_board.specs.Boards.{Board}
@@ -11,9 +12,10 @@ use Rattle.fib_shared.specs.Shares.{promise_of}
 use Rattle.fib_control.specs.Controls.{Control, promise_in}
 use Rattle.fib_capture.specs.Captures.{Capture}
 use Rattle.fib_settings.specs.Ranges.{InRange}
+use Rattle.fib_taps.specs.Taps.{Pairs}
 use Rattle.fib_settings.specs.declared.sizes.Settings.{Settings}
-use Rattle.fib_rounds.specs.Output.{Output}
-use Rattle.fib_rounds.specs.Runs.{GainsRun, IsNew}
+use Rattle.fib_rounds.specs.Output.{FirstOutput, Output, OutputWith}
+use Rattle.fib_rounds.specs.Runs.{GainsPart, GainsRun, GainsTaken, IsNew}
 use Rattle.fib_rounds.specs.Writes.{Gains}
 
 all_off : (m n : ℕ) → slice_index_or (replicate m false) n false ≡ false
@@ -45,7 +47,26 @@ new_over objects workers id b c is setup same =
     }
 
 -- a run's output is one that the script may have
-pub gains_output : {A E : Type 0} (workers room : ℕ) (script : List (List ℕ)) (packets : Capture) (c : Control) (before after : Option (List ℕ)) (r : Result A E)
-    → OnOk r (GainsRun workers room script packets c before after) → OnOk r (Gains (Output room script packets) before after)
-gains_output workers room script packets c before after (Ok x) g = (g.1, (g.0, g.2.output), g.3)
-gains_output workers room script packets c before after (Err e) g = tt
+pub gains_taken : {A E : Type 0} (workers room : ℕ) (script : List (List ℕ)) (packets : Capture) (c : Control) (before after : Option (List ℕ)) (old new : Option Pairs) (r : Result A E)
+    → OnOk r (GainsRun workers room script packets c before after old new) → OnOk r (GainsTaken room script packets before after old new)
+gains_taken workers room script packets c before after old new (Ok x) g = (g.0, g.1, g.2.output, g.3, g.4)
+gains_taken workers room script packets c before after old new (Err e) g = tt
+
+-- the output alone, whatever was taken
+pub gains_output : {A E : Type 0} (room : ℕ) (script : List (List ℕ)) (packets : Capture) (before after : Option (List ℕ)) (old new : Option Pairs) (r : Result A E)
+    → OnOk r (GainsTaken room script packets before after old new) → OnOk r (Gains (Output room script packets) before after)
+gains_output room script packets before after old new (Ok x) g = (g.1, (g.0, g.2), g.3)
+gains_output room script packets before after old new (Err e) g = tt
+
+pub gains_first : {A E : Type 0} (room : ℕ) (script : List (List ℕ)) (packets : Capture) (before after : Option (List ℕ)) (old new : Option Pairs) (r : Result A E)
+    → OnErr r (GainsPart room script packets before after old new) → OnErr r (Gains (FirstOutput room script packets) before after)
+gains_first room script packets before after old new (Ok x) g = tt
+gains_first room script packets before after old new (Err e) g =
+    let some = g.3 in
+    let whole = subst (OutputWith room script packets g.0) (sym (take-append-drop some.0 g.1)) g.2 in
+    (take some.0 g.1, (drop some.0 g.1, (g.0, whole)), some.1)
+
+-- a tap that never fails leaves the sink's count as the one that rose
+pub sink_alone : (before after : ℕ) → HasRisen before after ⊎ HasRisen 0 0 → HasRisen before after
+sink_alone before after (inl h) = h
+sink_alone before after (inr h) = absurd (let l : ◌<◌ 0 0 = h (omega arith) in omega (arith, l))

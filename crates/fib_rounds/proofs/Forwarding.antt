@@ -1,11 +1,10 @@
 -- A round from the calls on its workers.
-use Rattle.std.proofs.Common.{◌≡◌, ◌<◌, ◌≤◌, ◌+◌, ◌-◌, ◌*◌, ◌/◌, ◌^◌, ◌++◌, ◌∷◌, [], ℕ, suc, List, Bool, true, false, not, rules, length, take, drop, arith, refl, ap, ap₂, ◌∙◌, sym, subst, Option}
-use Rattle.std.specs.Prelude.{All, slice_index, slice_index_or}
+use Rattle.std.proofs.Common.{◌≡◌, ◌<◌, ◌≤◌, ◌+◌, ◌-◌, ◌*◌, ◌/◌, ◌^◌, ◌++◌, ◌∷◌, [], ℕ, suc, List, Bool, true, false, not, length, take, drop, arith, refl, ap, ap₂, ◌∙◌, sym, subst, Option}
+use Rattle.std.specs.Prelude.{slice_index, slice_index_or}
 use Rattle.std.specs.List.{list_any}
 use Rattle.fib_shared.specs.Shares.{is_alone}
 use Rattle.std.proofs.lemmas.List.{append-nil, drop_all}
 use Rattle.std.proofs.Math.Seq.{take-append_seam}
-use Rattle.fib_resolve.specs.declared.types.Tables.{Tables}
 use Rattle.fib_config.specs.Config.{Setup}
 use Rattle.fib_results.specs.Trails.{AtLeast, version_at}
 use Rattle.fib_capture.specs.declared.packet.Packet.{Packet}
@@ -18,11 +17,11 @@ use Rattle.fib_crew.specs.Packets.{IsOf, Matched, span}
 use Rattle.fib_crew.proofs.Spans.{length_span, span_none}
 use Rattle.fib_homing.specs.Homes.{HasGathered, IsHome, NoneOut, but_crew, but_out}
 use Rattle.fib_homing.specs.Places.{AreFilled, IsRightOf, joined, parts_of}
-use Rattle.fib_turns.specs.Routers.{KeepsCrew, Progress, applied_in, history_in, router_of}
+use Rattle.fib_turns.specs.Routers.{KeepsCrew, Progress, applied_in, router_of}
 use Rattle.fib_rounds.specs.declared.lines.Stop.{Stop}
 use Rattle.fib_rounds.specs.declared.opening.Opening.{Opening}
 use Rattle.fib_rounds.specs.Stages.{IsHistory, Stage}
-use Rattle.fib_rounds.specs.Rounds.{GoesOn, MayOpen, StopsAt, lines_run, stage_of}
+use Rattle.fib_rounds.specs.Rounds.{GoesOn, StopsAt, lines_run, stage_of}
 use Rattle.fib_rounds.specs.inner.Forwarded.{HasForwardedRound, IsAtRest}
 
 pub written_back : {A : Type 0} (n : ℕ) (xs ys : List A) → length xs ≡ n → take n (xs ++ ys) ≡ xs

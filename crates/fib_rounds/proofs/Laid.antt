@@ -14,7 +14,7 @@ use Rattle.fib_rounds.proofs.Moves.{Appends-more}
 use Rattle.fib_rounds.proofs.Writing.{cut_off}
 use Rattle.fib_rounds.proofs.Spans.{text_next, text_none}
 
-drop_head : (places : List (Option Kept)) (i : ℕ) (s : Option Kept) → i < length places → s ≡ slice_index_or places i s → drop i places ≡ s ∷ drop (i + 1) places
+pub drop_head : (places : List (Option Kept)) (i : ℕ) (s : Option Kept) → i < length places → s ≡ slice_index_or places i s → drop i places ≡ s ∷ drop (i + 1) places
 drop_head places i s lt is = drop_more places i s lt ∙ ap (λ t. t ∷ drop (i + 1) places) (sym is)
 
 pub places_head : (places : List (Option Kept)) (i : ℕ) (s : Option Kept) → i < length places → s ≡ slice_index_or places i s → joined (parts_of (drop i places)) ≡ results_at s ++ joined (parts_of (drop (i + 1) places))
@@ -30,7 +30,7 @@ laid_text T ps at to places i s kept lt is some le me laid =
     let next : ℕ = at + min (to - at) 256 in
     let head : drop i places ≡ Some kept ∷ drop (i + 1) places = drop_head places i s lt is ∙ ap (λ t. t ∷ drop (i + 1) places) some in
     let here = subst (AreLaid ps at to) head laid in
-    ap (λ xs. packets_text T at (span ps at to) (joined (parts_of xs))) head ∙ text_next T ps at next to (results_of kept.list) (joined (parts_of (drop (i + 1) places))) (omega arith) (omega (arith, le)) me here.0
+    ap (λ xs. packets_text T at (span ps at to) (joined (parts_of xs))) head ∙ text_next T ps at next to (results_of kept.list) (joined (parts_of (drop (i + 1) places))) (omega arith) (omega (arith, le)) me here.0.of
 
 pub laid_next : (ps : List Packet) (at to : ℕ) (places : List (Option Kept)) (i : ℕ) (s : Option Kept) (kept : Kept) → i < length places → s ≡ slice_index_or places i s → s ≡ Some kept → AreLaid ps at to (drop i places) → AreLaid ps (at + min (to - at) 256) to (drop (i + 1) places)
 laid_next ps at to places i s kept lt is some laid =

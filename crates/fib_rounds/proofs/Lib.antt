@@ -16,3 +16,5 @@ pub mod Beginning
 pub mod Quiet
 pub mod Tallies
 pub mod Versions
+pub mod Taking
+pub mod Handing

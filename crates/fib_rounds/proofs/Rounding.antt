@@ -1,5 +1,5 @@
 -- A round that was run.
-use Rattle.std.proofs.Common.{◌≡◌, ◌<◌, ◌≤◌, ◌+◌, ◌-◌, ◌*◌, ◌++◌, ◌∷◌, [], ℕ, List, Bool, true, false, length, drop, take, arith, refl, ap, ap₂, ◌∙◌, sym, subst, Option, Some, None}
+use Rattle.std.proofs.Common.{◌≡◌, ◌≤◌, ◌+◌, ◌-◌, ◌*◌, ◌++◌, ◌∷◌, [], ℕ, List, Bool, true, false, length, drop, take, arith, refl, ap, ap₂, ◌∙◌, sym, subst, Option, Some, None}
 use Rattle.std.proofs.Math.Decide.{ℕ_discrete}
 use Rattle.std.proofs.Math.Logic.{dite}
 use Rattle.std.proofs.lemmas.Bool.Decides.{nat_tests}
@@ -13,23 +13,23 @@ use Rattle.fib_resolve.specs.declared.types.Tables.{Tables}
 use Rattle.fib_results.specs.declared.record.Record.{Record}
 use Rattle.fib_capture.specs.Captures.{Capture}
 use Rattle.fib_capture.specs.declared.packet.Packet.{Packet}
-use Rattle.fib_turns.specs.Routers.{KeepsCrew, Progress, Router, applied_in, history_in, router_of}
+use Rattle.fib_turns.specs.Routers.{KeepsCrew, Progress, applied_in, history_in}
 use Rattle.fib_turns.specs.Changes.{Stays}
 use Rattle.fib_crew.specs.Frames.{frames, frame}
-use Rattle.fib_crew.specs.Results.{Kept, results_of}
+use Rattle.fib_crew.specs.Results.{Kept, numbered, results_of}
 use Rattle.fib_crew.specs.Packets.{IsOf, Matched, span}
 use Rattle.fib_crew.proofs.Spans.{frame_is, length_span, span_none}
 use Rattle.fib_crew.proofs.Matching.{matched_weaker}
-use Rattle.fib_homing.specs.Homes.{NoneOut, claims_of}
-use Rattle.fib_homing.specs.Places.{AreFilled, IsRightOf, joined, parts_of}
+use Rattle.fib_homing.specs.Homes.{claims_of}
+use Rattle.fib_homing.specs.Places.{AreFilled, IsFilled, IsRightOf, joined, parts_of}
 use Rattle.fib_rounds.specs.declared.lines.Stop.{Stop}
 use Rattle.fib_rounds.specs.declared.opening.Opening.{Opening}
 use Rattle.fib_rounds.specs.declared.summary.Summary.{Summary}
 use Rattle.fib_rounds.specs.Stages.{IsHistory, Stage}
 use Rattle.fib_rounds.specs.Packets.{answers, packets_text, IsAnswer}
 use Rattle.fib_rounds.specs.Summaries.{counted, with_results, with_round}
-use Rattle.fib_rounds.specs.Writes.{AreLaid}
-use Rattle.fib_rounds.specs.Rounds.{StopsAt, GoesOn, is_still_quiet, stage_of, round_at, PrintsFrom, counts_from, closed_router, closed_text, closed_by, lines_run, next_opening, HasRun}
+use Rattle.fib_rounds.specs.Writes.{AreLaid, IsLaid}
+use Rattle.fib_rounds.specs.Rounds.{StopsAt, GoesOn, is_still_quiet, stage_of, round_at, PrintsFrom, counts_from, closed_text, closed_by, lines_run, next_opening, HasRun}
 use Rattle.fib_rounds.specs.inner.Forwarded.{HasForwardedRound, IsAtRest}
 use Rattle.fib_rounds.proofs.Closing.{closed_stage, closes_prints, closes_rounds, closes_history, counts_close, still_is}
 use Rattle.fib_rounds.proofs.Quiet.{all_settled}
@@ -110,19 +110,38 @@ frame_at ps first to f at le lt is = dite (ℕ_discrete (first + 256 * f - to) 0
     let none : at + min (to - at) 256 ≡ at = omega (arith, here) in
     frame_past (span ps first to) f (omega (arith, ne, le, lt, length_span ps first to le lt)) ∙ (sym (span_none ps at) ∙ ap (λ n. span ps at n) (sym none)))
 
-pub laid_of : (k low : ℕ) (H : List Tables) (ps : List Packet) (first to f at : ℕ) (places : List (Option Kept)) → first ≤ to → to ≤ length ps → at ≡ min (first + 256 * f) to → AreFilled k low H (span ps first to) f places → AreLaid ps at to places
-laid_of k low H ps first to f at [] le lt is filled =
+-- numbered from the frame's own place, or there is nothing to number
+numbers_at : (ps : List Packet) (first to f at : ℕ) (rs : List Record) → at ≡ min (first + 256 * f) to
+    → numbered (first + 256 * f) (span ps at (at + min (to - at) 256)) rs ≡ numbered at (span ps at (at + min (to - at) 256)) rs
+numbers_at ps first to f at rs is = dite (ℕ_discrete (first + 256 * f - to) 0)
+    (λ e. let here : first + 256 * f ≡ at = omega (arith, is, e) in ap (λ n. numbered n (span ps at (at + min (to - at) 256)) rs) here)
+    (λ ne.
+    let none : at + min (to - at) 256 ≡ at = omega (arith, is, ne) in
+    let empty : span ps at (at + min (to - at) 256) ≡ [] = ap (λ n. span ps at n) none ∙ span_none ps at in
+    ap (λ qs. numbered (first + 256 * f) qs rs) empty ∙ ap (λ qs. numbered at qs rs) (sym empty))
+
+-- a frame's results are those of the packets from its place up to the next one's
+laid_one : (k : ℕ) (H : List Tables) (ps : List Packet) (first to f at : ℕ) (kept : Kept) → first ≤ to → to ≤ length ps → at ≡ min (first + 256 * f) to → IsFilled k first H (span ps first to) f kept → IsLaid ps at (at + min (to - at) 256) kept
+laid_one k H ps first to f at kept le lt is filled =
+    let same = frame_at ps first to f at le lt is in
+    record {
+      of = subst (λ qs. Matched IsOf qs (results_of kept.list)) same (matched_weaker (IsRightOf k H) IsOf (λ a h r m. m.asked.of) (frame (span ps first to) f) (results_of kept.list) filled.answered);
+      list = filled.list ∙ (ap (λ qs. numbered (first + 256 * f) qs (results_of kept.list)) same ∙ numbers_at ps first to f at (results_of kept.list) is);
+    }
+
+pub laid_of : (k : ℕ) (H : List Tables) (ps : List Packet) (first to f at : ℕ) (places : List (Option Kept)) → first ≤ to → to ≤ length ps → at ≡ min (first + 256 * f) to → AreFilled k first H (span ps first to) f places → AreLaid ps at to places
+laid_of k H ps first to f at [] le lt is filled =
     let none = ap length (sym (frame_at ps first to f at le lt is) ∙ filled) in
     let size : length (span ps at (at + min (to - at) 256)) ≡ min (to - at) 256 = omega (arith, length_span ps at (at + min (to - at) 256) (omega arith) (omega (arith, is, lt))) in
     omega (arith, none, size, is)
-laid_of k low H ps first to f at (None ∷ places) le lt is filled = absurd filled
-laid_of k low H ps first to f at (Some kept ∷ places) le lt is filled = (
-  subst (λ qs. Matched IsOf qs (results_of kept.list)) (frame_at ps first to f at le lt is) (matched_weaker (IsRightOf k H) IsOf (λ a h r m. m.asked.of) (frame (span ps first to) f) (results_of kept.list) filled.0.answered),
-  laid_of k low H ps first to (f + 1) (at + min (to - at) 256) places le lt (omega (arith, is)) filled.1,
+laid_of k H ps first to f at (None ∷ places) le lt is filled = absurd filled
+laid_of k H ps first to f at (Some kept ∷ places) le lt is filled = (
+  laid_one k H ps first to f at kept le lt is filled.0,
+  laid_of k H ps first to (f + 1) (at + min (to - at) 256) places le lt (omega (arith, is)) filled.1,
 )
 
-pub laid_start : (k low : ℕ) (H : List Tables) (ps : List Packet) (first to : ℕ) (places : List (Option Kept)) → first ≤ to → to ≤ length ps → AreFilled k low H (span ps first to) 0 places → AreLaid ps first to places
-laid_start k low H ps first to places le lt filled = laid_of k low H ps first to 0 first places le lt (omega (arith, le)) filled
+pub laid_start : (k : ℕ) (H : List Tables) (ps : List Packet) (first to : ℕ) (places : List (Option Kept)) → first ≤ to → to ≤ length ps → AreFilled k first H (span ps first to) 0 places → AreLaid ps first to places
+laid_start k H ps first to places le lt filled = laid_of k H ps first to 0 first places le lt (omega (arith, le)) filled
 
 -- ---- the calls of a round in turn
 
@@ -181,6 +200,14 @@ next_lines ps place to n asked next lines is = subst (λ x. IfSome x (λ (o : Op
     by_asked_lines : (asked : Option ℕ) → n ≡ lines_run place asked → IfSome (next_opening ps place to asked) (λ o. n ≡ o.place)
     by_asked_lines None e = tt
     by_asked_lines (Some k) e = e
+
+-- the packets of the next round follow on those of this one
+pub next_first : (ps : List Packet) (place to : ℕ) (asked : Option ℕ) (next : Option Opening) → next ≡ next_opening ps place to asked → IfSome next (λ o. o.first ≡ to)
+next_first ps place to asked next is = subst (λ x. IfSome x (λ (o : Opening). o.first ≡ to)) (sym is) (by_asked_first asked)
+  where
+    by_asked_first : (asked : Option ℕ) → IfSome (next_opening ps place to asked) (λ o. o.first ≡ to)
+    by_asked_first None = tt
+    by_asked_first (Some k) = refl
 
 pub next_few : (ps : List Packet) (place to n : ℕ) (asked : Option ℕ) (next : Option Opening) → n ≤ place → next ≡ next_opening ps place to asked → IfSome next (λ o. n ≤ o.place)
 next_few ps place to n asked next le is = subst (λ x. IfSome x (λ (o : Opening). n ≤ o.place)) (sym is) (by_asked_few asked)

@@ -1,9 +1,7 @@
 -- Spans of packets, and the texts of their lines.
 use Rattle.std.proofs.Common.{◌≡◌, ◌<◌, ◌≤◌, ◌+◌, ◌-◌, ◌++◌, ◌∷◌, [], ℕ, List, length, take, drop, arith, refl, ap, ◌∙◌, sym, zero, suc}
 use Rattle.std.specs.Prelude.{slice_index_or, slice_get, min, Some}
-use Rattle.std.proofs.lemmas.List.{drop_more, length-drop, length-take, append_assoc, drop-drop}
-use Rattle.std.proofs.lemmas.Option.{slice_get_within, get_or_from_slice_get}
-use Rattle.std.proofs.Math.Seq.{take-add}
+use Rattle.std.proofs.lemmas.List.{length-drop, append_assoc}
 use Rattle.fib_resolve.specs.declared.types.Tables.{Tables}
 use Rattle.fib_results.specs.declared.record.Record.{Record}
 use Rattle.fib_crew.specs.Packets.{Matched, IsOf, span}

@@ -1,5 +1,5 @@
 -- The packets of a round, and what their lines print.
-use Rattle.std.specs.Prelude.{ℕ, ◌≡◌, ◌+◌, ◌-◌, ◌++◌, ◌∷◌, [], List, Option, Some, None, take, drop}
+use Rattle.std.specs.Prelude.{ℕ, ◌≡◌, ◌+◌, ◌++◌, ◌∷◌, [], List, Option, Some, None}
 use Rattle.fib_resolve.specs.declared.types.Tables.{Tables}
 use Rattle.fib_results.specs.declared.record.Record.{Record}
 use Rattle.fib_results.specs.Trails.{AtLeast, version_at, IsRecordOk, settled_answer}

@@ -7,9 +7,12 @@ use Rattle.fib_results.specs.declared.record.Record.{Record}
 use Rattle.fib_core.specs.Trails.{Trail}
 use Rattle.fib_lawful.specs.State.{left_of}
 use Rattle.fib_control.specs.Controls.{Control}
+use Rattle.fib_crew.specs.Results.{numbered}
 use Rattle.fib_homing.specs.Homes.{HasGathered, NoneOut}
+use Rattle.fib_taps.specs.Taps.{Pairs, Takes, TakesSome}
 use Rattle.fib_turns.specs.Routers.{applied_in, history_in}
 use Rattle.fib_rounds.specs.Output.{OutputWith}
+use Rattle.fib_rounds.specs.Writes.{AppendsSome}
 use Rattle.fib_capture.specs.Captures.{Capture}
 use Rattle.fib_turns.specs.Turns.{asks}
 use Rattle.fib_rounds.specs.Stages.{Stage, start, after_line, Round, first_round, opened_by}
@@ -47,10 +50,23 @@ pub record HasRunOn (workers room : ℕ) (script : List (List ℕ)) (packets : C
   pub history : history_in c ≡ (stage_after 1 (start room) script).history
   pub settled : c.plane.board.log.version.settled ≡ applied_in c
 
--- the sink gained the output of a run that leaves the control plane so
-abbrev pub GainsRun : ℕ → ℕ → List (List ℕ) → Capture → Control → Option (List ℕ) → Option (List ℕ) → Type 0
-GainsRun workers room script packets c before after =
-    (results : List Record) × (out : List ℕ) × HasRunOn workers room script packets c results out × Appends before after out
+-- The sink gained the output of a run that leaves the control plane so, and the tap all its results, each with its packet's number.
+abbrev pub GainsRun : ℕ → ℕ → List (List ℕ) → Capture → Control → Option (List ℕ) → Option (List ℕ) → Option Pairs → Option Pairs → Type 0
+GainsRun workers room script packets c before after old new =
+    (results : List Record) × (out : List ℕ) × HasRunOn workers room script packets c results out
+    × Appends before after out × Takes old new (numbered 0 packets.packets results)
+
+-- The sink gained what a script may print over a capture, with that room for objects, and the tap the results that it prints.
+abbrev pub GainsTaken : ℕ → List (List ℕ) → Capture → Option (List ℕ) → Option (List ℕ) → Option Pairs → Option Pairs → Type 0
+GainsTaken room script packets before after old new =
+    (results : List Record) × (out : List ℕ) × OutputWith room script packets results out
+    × Appends before after out × Takes old new (numbered 0 packets.packets results)
+
+-- The sink gained a first part of what it may print, and the tap a first part of the results of the same output.
+abbrev pub GainsPart : ℕ → List (List ℕ) → Capture → Option (List ℕ) → Option (List ℕ) → Option Pairs → Option Pairs → Type 0
+GainsPart room script packets before after old new =
+    (results : List Record) × (out : List ℕ) × OutputWith room script packets results out
+    × AppendsSome before after out × TakesSome old new (numbered 0 packets.packets results)
 
 -- a control plane before its first change, with that room and so many workers, who never left it
 pub record IsNew (workers room : ℕ) (c : Control) : Type 0 where

@@ -18,6 +18,6 @@ mod task;
 pub use fault::RunFault;
 pub use put::{put_all, put_last};
 pub use round::{places_for, settle_home};
-pub use rounds::{run, run_on};
+pub use rounds::{run, run_on, run_to};
 pub use summary::Summary;
 pub use task::Task;

@@ -286,6 +286,7 @@ pub fn run_round<'a, R: Threads + Wait + Sync, G: Gate>(
     ensures counts { IfOk result (λ r. counts_from task.now.packets.now task.now.script.now (closed_by (stage_of control.new reading.new.progress) r.next) r.next counts.new ≡ counts_from task.now.packets.now task.now.script.now (stage_of control.old reading.old.progress) (Some round) counts.old) }
     ensures may { IfOk result (λ r. IfSome r.next (MayOpen task.now.script.now task.now.packets.now.packets)) }
     ensures later { IfOk result (λ r. IfSome r.next (λ o. round.place < o.place)) }
+    ensures follows { IfOk result (λ r. IfSome r.next (λ o. o.first ≡ round.to)) }
     ensures lines { IfOk result (λ r. IfSome r.next (λ o. reading.new.progress.lines ≡ o.place)) }
     ensures few { IfOk result (λ r. IfSome r.next (λ o. applied_in control.new ≤ o.place)) }
     ensures small { IfOk result (λ r. IfSome r.next (λ o. IsSmall (o.first + o.first) counts.new)) }

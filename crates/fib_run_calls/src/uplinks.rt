@@ -51,7 +51,7 @@ struct Seen<'a> {
 }
 
 // The line of a packet: `packet NUMBER ADDRESS HASH WINDOW END`.
-fn seen(line: &str) -> Option<Seen<'_>> {
+fn read_line(line: &str) -> Option<Seen<'_>> {
     let (_, rest) = line.strip_prefix("packet ")?.split_once(' ')?;
     let (_, rest) = rest.split_once(' ')?;
     let (hash, rest) = rest.split_once(' ')?;
@@ -100,7 +100,7 @@ fn is_after(seen: &Seen<'_>) -> bool {
 fn are_right(text: &str) -> bool {
     let mut count = 0u32;
     for line in text.lines() {
-        let right = match seen(line) {
+        let right = match read_line(line) {
             Some(found) if count < 64 => is_before(&found),
             Some(found) if count < 128 => is_amid(&found),
             Some(found) => is_after(&found),

@@ -26,13 +26,13 @@ const SIXTY: Addr = Addr(0x3c01_0101);
 #[derive(Clone, Copy, Debug, PartialEq, Eq)]
 struct Seen {
     version: Version,
-    waiting: (u32, u32),
+    waiting: (usize, u32),
     used: u32,
     entries: (usize, u32),
     ends: (End, End),
 }
 
-fn seen(control: &Control<PlainBoard>) -> Seen {
+fn look_at(control: &Control<PlainBoard>) -> Seen {
     Seen {
         version: control.version(),
         waiting: (control.queued(), control.deferred()),
@@ -57,9 +57,9 @@ fn make_again(control: &mut Control<PlainBoard>, edit: &Edit) -> Result<u32, Tro
     requires { IsWritten edit.now }
     ensures { seats_in control.new ≡ seats_in control.old }
 {
-    let before = seen(control);
+    let before = look_at(control);
     match make(control, edit) {
-        Err(Trouble::Memory) if seen(control) == before => make(control, edit),
+        Err(Trouble::Memory) if look_at(control) == before => make(control, edit),
         Err(_) => Err(Trouble::Otherwise),
         Ok(version) => Ok(version),
     }
@@ -99,11 +99,11 @@ fn apply_each(
 fn turn_again(control: &mut Control<PlainBoard>) -> Result<Turn, Trouble>
     ensures { seats_in control.new ≡ seats_in control.old }
 {
-    let before = seen(control);
+    let before = look_at(control);
     if let Ok(turn) = control.turn() {
         return Ok(turn);
     }
-    if seen(control) != before {
+    if look_at(control) != before {
         return Err(Trouble::Otherwise);
     }
     match control.turn() {

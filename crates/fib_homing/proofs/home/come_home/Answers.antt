@@ -1,9 +1,10 @@
-use Rattle.std.proofs.Common.{◌++◌, ◌∙◌, ap, length, refl}
+use Rattle.std.proofs.Common.{◌≡◌, ◌++◌, ◌∙◌, [], ap, length, refl, rules}
+use Rattle.std.proofs.lemmas.List.{nil_from_length}
 use Rattle.fib_control.specs.Controls.{Control}
 use Rattle.fib_crew.specs.Packets.{span}
 use Rattle.fib_homing.proofs.Arriving.{coming_more, coming_none, may_come}
 use Rattle.fib_homing.specs.Stations.{pasts_of}
-use Rattle.fib_homing.proofs.Boarding.{pasts_more, with_step}
+use Rattle.fib_homing.proofs.Boarding.{pasts_more, pasts_none, with_step}
 use Rattle.fib_homing.proofs.home.come_home.Goals as goal
 
 pub loop-station-preserved : goal.loop-station-preserved
@@ -54,4 +55,7 @@ loop-station-init c =
     }
 
 pub returns-clause-trails : goal.returns-clause-trails
-returns-clause-trails c = let i = c.loop-station.invariant in rw c.in-None.ensures.steps.0 at i.trails
+returns-clause-trails c =
+    let rest = c.loop-station.station-iterator.rest in
+    let len : length rest.items ≡ rest.len = search rules in
+    pasts_none c.loop-station.control.plane.board.trails _ rest.items c.loop-station.invariant.trails (nil_from_length rest.items (len ∙ c.in-None.ensures.steps.0))

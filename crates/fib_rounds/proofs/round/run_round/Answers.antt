@@ -2,16 +2,14 @@ use Rattle.std.proofs.Common.{◌≡◌, ◌-◌, ◌++◌, arith, refl, subst, 
 use Rattle.std.specs.Prelude.{◌==◌}
 use Rattle.fib_config.specs.Config.{Setup}
 use Rattle.fib_crew.specs.Packets.{span}
-use Rattle.fib_homing.specs.Homes.{IsHome}
 use Rattle.fib_homing.specs.Places.{joined, parts_of}
-use Rattle.fib_turns.specs.Routers.{history_in}
 use Rattle.fib_rounds.specs.Stages.{IsHistory, Stage}
 use Rattle.fib_rounds.specs.Summaries.{with_results}
 use Rattle.fib_rounds.specs.Packets.{packets_text, IsAnswer}
 use Rattle.fib_rounds.specs.Rounds.{GoesOn, stage_of}
 use Rattle.fib_rounds.proofs.Spans.{matched_few}
 use Rattle.fib_crew.proofs.Spans.{length_span}
-use Rattle.fib_rounds.proofs.Rounding.{all_answered, closed_is, closed_next, has_counted, has_run, next_few, next_lines, next_rests, stage_stays}
+use Rattle.fib_rounds.proofs.Rounding.{all_answered, closed_is, closed_next, has_counted, has_run, next_first, next_lines, next_rests, stage_stays}
 use Rattle.fib_rounds.proofs.round.run_round.Goals as goal
 
 pub count_round-requires-clause-few : goal.count_round-requires-clause-few
@@ -66,6 +64,9 @@ pub returns-clause-rests : goal.returns-clause-rests
 returns-clause-rests g c =
     next_rests c.args.task.now.script.now c.args.task.now.packets.now.packets c.args.round c.args.task.now.settings.workers c.args.control.now c.run_beside.new.control c.settle_home.new.control c.args.reading.now.progress c.run_beside.new.reading.progress c.args.reading.now.text.items c.run_beside.new.reading.text.items c.in_ok-stop.field-0.stop c.in_ok-stop.field-0.places.items c.next_round.result
     c.requires.rests c.requires.most c.in_ok-stop.ensures.ran c.in_ok-settle_home.ensures.keeps c.in_ok-settle_home.ensures.settled c.next_round.ensures
+
+pub returns-clause-follows : goal.returns-clause-follows
+returns-clause-follows g c = next_first c.args.task.now.packets.now.packets c.in_ok-stop.field-0.stop.place c.args.round.to c.in_ok-stop.field-0.stop.asked c.next_round.result c.next_round.ensures
 
 pub returns-clause-lines : goal.returns-clause-lines
 returns-clause-lines g c =

@@ -13,7 +13,7 @@ use Rattle.fib_rounds.proofs.rounds.run_rounds.Given as goal
 
 abbrev pub invariant-rounds : goal.invariant-rounds
 invariant-rounds g l = record {
-  going : Going l.task.settings.workers (l.task.settings.objects / 2) l.task.script.now l.task.packets.now (closed_by (stage_of l.control l.reading.progress) l.next) l.next l.control.plane.board (g.K.Sink.written l.fn.out) (g.K.Sink.written l.out);
+  going : Going l.task.settings.workers (l.task.settings.objects / 2) l.task.script.now l.task.packets.now (closed_by (stage_of l.control l.reading.progress) l.next) l.next l.control.plane.board (g.K.Sink.written l.fn.out) (g.K.Sink.written l.out) (g.T.Tap.taken l.fn.tap) (g.T.Tap.taken l.tap);
   counts : counts_from l.task.packets.now l.task.script.now (closed_by (stage_of l.control l.reading.progress) l.next) l.next l.counts ≡ summary_of (l.task.settings.objects / 2) l.task.script.now l.task.packets.now;
   refused : l.refused_lines ≡ (closed_by (stage_of l.control l.reading.progress) l.next).router.refused;
   may : IfSome l.next (MayOpen l.task.script.now l.task.packets.now.packets);
@@ -25,6 +25,7 @@ invariant-rounds g l = record {
   none : NoneOut l.control.plane.board;
   settled : l.control.plane.board.log.version.settled ≡ applied_in l.control;
   counted : g.K.Sink.faults l.fn.out ≤ g.K.Sink.faults l.out;
+  tapped : g.T.Tap.faults l.fn.tap ≤ g.T.Tap.faults l.tap;
 }
 
 -- how many lines are left, and one for the round that is open

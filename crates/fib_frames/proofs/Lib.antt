@@ -1,0 +1,4 @@
+pub mod Sending
+pub mod Piecing
+pub mod Showing
+pub mod Back
