@@ -1,0 +1,3 @@
+pub mod CountOutput
+pub mod Words
+pub mod inner
