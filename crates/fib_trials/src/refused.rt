@@ -167,7 +167,30 @@ fn turn_round(alloc: Global, control: &mut Control<PlainBoard>) -> Result<Turn, 
     turns_again(control, eight(60))
 }
 
-// A pass is held after so many hops meanwhile.
+// A pass is held after so many hops meanwhile, on a control before its first change.
+fn hold_again(alloc: Global, control: &mut Control<PlainBoard>, most: u32) -> Result<Found, Trouble>
+    requires { seats_in control.old ≡ first_seats }
+    ensures { IfOk result (λ found. AreCalm found.ended) }
+{
+    route(alloc, control)?;
+    let end = hold(control, FIFTY, 0, most);
+    let turn = turn_round(alloc, control)?;
+    let deferred = control.deferred();
+    let held = calm(control);
+    let record = go_on(control, end)?;
+    let ended = calm(control);
+    let end = look_up(control, SIXTY)?;
+    Ok(Found {
+        turn,
+        deferred,
+        held,
+        record,
+        ended,
+        end,
+    })
+}
+
+// After so many hops.
 #[derive(Clone, Copy)]
 struct HeldAgain(u32);
 
@@ -177,22 +200,7 @@ impl Trial for HeldAgain {
     ghost is_so = { λ found. AreCalm found.ended };
 
     fn find(&self, alloc: Global, control: &mut Control<PlainBoard>) -> Result<Found, Trouble> {
-        route(alloc, control)?;
-        let end = hold(control, FIFTY, 0, self.0);
-        let turn = turn_round(alloc, control)?;
-        let deferred = control.deferred();
-        let held = calm(control);
-        let record = go_on(control, end)?;
-        let ended = calm(control);
-        let end = look_up(control, SIXTY)?;
-        Ok(Found {
-            turn,
-            deferred,
-            held,
-            record,
-            ended,
-            end,
-        })
+        hold_again(alloc, control, self.0)
     }
 }
 
