@@ -112,7 +112,7 @@ fn a_traced_packet_meets_a_change(rt: HostRuntime) -> Result<(), Fail> {
     let commands = format!(in alloc; "{NEIGHBOR}trace\nset interface state eth0 down\n")?;
     let gate = MeetGate::new(0, 5, 1_000_000);
     let files = (commands.as_bytes(), PACKET);
-    let words = ["--objects", "64", "commands", "capture"];
+    let words = ["--objects", "128", "commands", "capture"];
     let (status, text) = outcome(&rt, alloc, &words, files, &[], &gate)?;
     assert_eq!(rt; status, 0);
     assert!(rt; gate.met());
