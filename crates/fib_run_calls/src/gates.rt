@@ -57,6 +57,33 @@ fn each_packet_prints_its_own_window(rt: HostRuntime) -> Result<(), Fail> {
     Ok(())
 }
 
+/// Lines behind a change that settle it before they answer.
+const SETTLING: [&str; 4] = [
+    "lookup 10.0.0.1 0",
+    "show ip fib",
+    "show fib path-lists",
+    "show adj",
+];
+
+#[test]
+fn lookups_and_listings_settle_first(rt: HostRuntime) -> Result<(), Fail> {
+    // The pass begins between the change behind the line and its settling: so it sees what the line settled.
+    let alloc = rt.alloc();
+    let window = "\npacket 0 10.0.0.9 1701755127 5.6-5.6 adj eth0 10.0.0.9 02:00:00:00:00:09\n";
+    for line in SETTLING {
+        let commands = format!(in alloc;
+            "{NEIGHBOR}forward 1\nip route add 20.0.0.0/8 via drop\n{line}\nip route add 30.0.0.0/8 via drop\n"
+        )?;
+        let gate = MeetGate::new(0, 6, 1_000_000);
+        let words = ["--workers", "1", "commands", "capture"];
+        let files = (commands.as_bytes(), LITTLE);
+        let (status, text) = outcome(&rt, alloc, &words, files, (&[], &[]), &gate)?;
+        assert!(rt; gate.met() && status == 0, "{line}");
+        assert!(rt; text.ends_with(window.as_bytes()), "{line}");
+    }
+    Ok(())
+}
+
 /// A change, a line that is refused, a batch of two changes, and one that is refused.
 const CHANGES: &str = "ip route add 10.0.0.0/8 via local\nip route del 11.0.0.0/8\n\
     begin\nip route add 12.0.0.0/8 via local\nip route add 13.0.0.0/8 via local\ncommit\n\

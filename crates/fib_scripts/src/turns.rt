@@ -77,7 +77,7 @@ fn run_all<R: Wait, G: Gate>(
         rt,
         alloc: *out.allocator(),
         gate,
-        walk: 1,
+        walk: 64,
     };
     let mut asked = None;
     for line in lines {
@@ -113,6 +113,21 @@ const REFUSED: [&str; 4] = [
 ];
 
 const LEFT: [&str; 2] = ["begin", "create interface eth1"];
+
+// The one route leads over the other, and then the other over the one. What leads back is dropped at first, since a worker might still go the old way.
+const CROSSED: [&str; 11] = [
+    "create interface eth0",
+    "set interface state eth0 up",
+    "set interface ip address eth0 10.0.0.1/24",
+    "ip route add 20.0.0.0/8 via 30.0.0.1",
+    "ip route add 30.0.0.0/8 via 10.0.0.7",
+    "begin",
+    "ip route del 20.0.0.0/8",
+    "ip route del 30.0.0.0/8",
+    "ip route add 20.0.0.0/8 via 10.0.0.7",
+    "ip route add 30.0.0.0/8 via 20.0.0.1",
+    "commit",
+];
 
 // Whether a change and a batch are two versions, a lookup answers by them, and a line that asks for packets prints nothing.
 fn are_two_versions<R: Wait>(rt: &R, alloc: Global, control: &mut Control<PlainBoard>) -> bool {
@@ -150,12 +165,21 @@ fn is_left<R: Wait>(rt: &R, alloc: Global, control: &mut Control<PlainBoard>) ->
         && out.as_slice() == b"line 1: batch not committed\n".as_slice()
 }
 
+// Whether the turns, the scan and the retry behind each change leave nothing to do: then the version is settled at once.
+fn is_calm<R: Wait>(rt: &R, alloc: Global, control: &mut Control<PlainBoard>) -> bool {
+    let mut progress = Progress::new();
+    let mut out = Vec::new(alloc);
+    run_all(rt, &FreeGate, control, &mut progress, &mut out, &CROSSED);
+    control.version().applied == 6 && control.mark_settled().ok() == Some(6)
+}
+
 // What is looked at after lines on a fresh control.
 #[derive(Clone, Copy)]
 enum Look {
     Versions,
     Left,
     Told,
+    Calm,
 }
 
 fn look_at<R: Wait>(rt: &R, alloc: Global, control: &mut Control<PlainBoard>, look: Look) -> bool {
@@ -163,6 +187,7 @@ fn look_at<R: Wait>(rt: &R, alloc: Global, control: &mut Control<PlainBoard>, lo
         Look::Versions => are_two_versions(rt, alloc, control),
         Look::Left => is_left(rt, alloc, control),
         Look::Told => is_told_once(rt, alloc, control),
+        Look::Calm => is_calm(rt, alloc, control),
     }
 }
 
@@ -187,5 +212,11 @@ fn a_batch_that_is_left(rt: HostRuntime) -> Result<(), Fail> {
 #[test]
 fn a_gate_is_told_of_a_batch_once(rt: HostRuntime) -> Result<(), Fail> {
     assert!(rt; is_right(&rt, rt.alloc(), Look::Told)?);
+    Ok(())
+}
+
+#[test]
+fn a_line_leaves_nothing_to_do(rt: HostRuntime) -> Result<(), Fail> {
+    assert!(rt; is_right(&rt, rt.alloc(), Look::Calm)?);
     Ok(())
 }
