@@ -54,7 +54,9 @@ pub fn beside<'a, 'b, R: Threads + Wait + Sync, G: Gate>(
     requires few { applied_in control.old ≤ from }
     requires alone { reading.old.progress.batch ≡ None }
     ensures done { HasDone task.now.packets.now.packets tracer.old tracer.new }
-    ensures gone { OnOk result (HasGone (take (length task.now.script.now) task.now.script.now) from (stage_of control.old reading.old.progress) reading.old.text.items (length task.now.script.now) (stage_of control.new reading.new.progress) reading.new.text.items) }
+    ensures gone { OnOk result (HasGone (take (length task.now.script.now) task.now.script.now) from
+        (stage_of control.old reading.old.progress) reading.old.text.items (length task.now.script.now)
+        (stage_of control.new reading.new.progress) reading.new.text.items) }
     ensures keeps { KeepsCrew control.old control.new }
 {
     let (_, ran) = join_mut(
@@ -64,7 +66,8 @@ pub fn beside<'a, 'b, R: Threads + Wait + Sync, G: Gate>(
             ensures { HasDone task.entry.now.packets.now.packets tracer.entry.now tracer.exit.now }
         { trace_by(task.alloc, task.packets, task.gate, tracer) },
         &mut || -> Result<(), AllocError>
-            requires { (from ≤ length task.now.script.now) × (reading.now.progress.lines ≡ from) × (applied_in control.now ≤ from) × (reading.now.progress.batch ≡ None) }
+            requires { (from ≤ length task.now.script.now) × (reading.now.progress.lines ≡ from) × (applied_in control.now ≤ from)
+                × (reading.now.progress.batch ≡ None) }
         { run_lines(task, control, reading, from, task.script.lines()) },
     );
     ran
@@ -76,7 +79,8 @@ pub fn come_home<'a>(
     tracer: Tracer<'a>,
 ) -> Option<Vec<Traced>>
     requires { IsOf control.old.plane.board.id tracer.seat }
-    ensures home { (w : Seated) → tracer.entry.seat ≡ Some w → control.new ≡ with_board control.old (board_joined control.old.plane.board w.worker) }
+    ensures home { (w : Seated) → tracer.entry.seat ≡ Some w → control.new
+        ≡ with_board control.old (board_joined control.old.plane.board w.worker) }
     ensures kept { IfSome result (λ passes. (tracer.entry.done ≡ true) × (passes.items ≡ tracer.entry.log.passes.items)) }
 {
     let Tracer { seat, log, done } = tracer;

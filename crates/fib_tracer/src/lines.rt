@@ -73,8 +73,10 @@ fn run_line<R: Threads + Wait + Sync, G: Gate, B: Board>(
     requires few { applied_in control.old ≤ reading.old.progress.lines }
     requires most { reading.old.progress.lines < 2 ^ 32 - 1 }
     requires alone { reading.old.progress.batch ≡ None }
-    ensures router { OnOk result (router_of control.new reading.new.progress ≡ (traced_turn (reading.old.progress.lines + 1) (router_of control.old reading.old.progress) line.now).0) }
-    ensures text { OnOk result (reading.new.text.items ≡ reading.old.text.items ++ (traced_turn (reading.old.progress.lines + 1) (router_of control.old reading.old.progress) line.now).1) }
+    ensures router { OnOk result (router_of control.new reading.new.progress
+        ≡ (traced_turn (reading.old.progress.lines + 1) (router_of control.old reading.old.progress) line.now).0) }
+    ensures text { OnOk result (reading.new.text.items ≡ reading.old.text.items
+        ++ (traced_turn (reading.old.progress.lines + 1) (router_of control.old reading.old.progress) line.now).1) }
     ensures grown { HasGrown control.old control.new }
     ensures lines { OnOk result (reading.new.progress.lines ≡ reading.old.progress.lines + 1) }
     ensures few { OnOk result (applied_in control.new ≤ reading.new.progress.lines) }
@@ -107,7 +109,9 @@ pub fn run_lines<R: Threads + Wait + Sync, G: Gate, B: Board>(
     requires lines { reading.old.progress.lines ≡ from }
     requires few { applied_in control.old ≤ from }
     requires alone { reading.old.progress.batch ≡ None }
-    ensures gone { OnOk result (HasGone (take to task.now.script.now) from (stage_of control.old reading.old.progress) reading.old.text.items to (stage_of control.new reading.new.progress) reading.new.text.items) }
+    ensures gone { OnOk result (HasGone (take to task.now.script.now) from
+        (stage_of control.old reading.old.progress) reading.old.text.items to
+        (stage_of control.new reading.new.progress) reading.new.text.items) }
     ensures lines { OnOk result (reading.new.progress.lines ≡ to) }
     ensures few { OnOk result (applied_in control.new ≤ to) }
     ensures alone { OnOk result (reading.new.progress.batch ≡ None) }

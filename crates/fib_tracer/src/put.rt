@@ -35,7 +35,8 @@ fn put_loads(out: &mut Vec<u8>, tables: &Tables, loads: &[Load]) -> Result<(), A
 // The line of a flow and those of its loads.
 fn put_pass(out: &mut Vec<u8>, tables: &Tables, at: u32, pass: &Traced) -> Result<(), AllocError>
     requires { length pass.now.loads < 2 ^ 32 }
-    ensures { OnOk result (out.new.items ≡ out.old.items ++ (packet_text tables.now at pass.now.result ++ loads_text tables.now 0 pass.now.loads)) }
+    ensures { OnOk result (out.new.items ≡ out.old.items ++ (packet_text tables.now at pass.now.result
+        ++ loads_text tables.now 0 pass.now.loads)) }
 {
     put_packet(out, tables, at, &pass.result)?;
     put_loads(out, tables, pass.loads.as_slice())
@@ -51,7 +52,8 @@ fn put_next<'p>(
 ) -> Result<&'p [Traced], AllocError>
     requires inside { at < length packets.now.packets }
     requires each { Matched IsShort (drop at packets.now.packets) passes.now }
-    ensures text { IfOk result (λ left. text.new.items ++ passes_text tables.now (at + 1) (drop (at + 1) packets.now.packets) left.now ≡ text.old.items ++ passes_text tables.now at (drop at packets.now.packets) passes.now) }
+    ensures text { IfOk result (λ left. text.new.items ++ passes_text tables.now (at + 1) (drop (at + 1) packets.now.packets) left.now
+        ≡ text.old.items ++ passes_text tables.now at (drop at packets.now.packets) passes.now) }
     ensures each { IfOk result (λ left. Matched IsShort (drop (at + 1) packets.now.packets) left.now) }
 {
     match packets.at(at) {
@@ -97,8 +99,10 @@ fn write_passes<K: Sink>(
     passes: &[Traced],
 ) -> Result<(), RunFault>
     requires { Matched IsShort packets.now.packets passes.now }
-    ensures ok { OnOk result (HasMoved (K.written out.old) (K.written out.new) (text.old.items ++ passes_text tables.now 0 packets.now.packets passes.now) text.new.items) }
-    ensures some { OnErr result (AppendsSome (K.written out.old) (K.written out.new) (text.old.items ++ passes_text tables.now 0 packets.now.packets passes.now)) }
+    ensures ok { OnOk result (HasMoved (K.written out.old) (K.written out.new)
+        (text.old.items ++ passes_text tables.now 0 packets.now.packets passes.now) text.new.items) }
+    ensures some { OnErr result (AppendsSome (K.written out.old) (K.written out.new)
+        (text.old.items ++ passes_text tables.now 0 packets.now.packets passes.now)) }
     ensures write { IsErrOf result RunFault.Write → HasRisen (K.faults out.old) (K.faults out.new) }
     ensures counted { K.faults out.old ≤ K.faults out.new }
 {

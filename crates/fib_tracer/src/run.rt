@@ -49,8 +49,11 @@ fn trace_beside<'a, R: Threads + Wait + Sync, G: Gate>(
     requires lines { reading.old.progress.lines ≡ from }
     requires few { applied_in control.old ≤ from }
     requires alone { reading.old.progress.batch ≡ None }
-    ensures gone { OnOk result (HasGone (take (length task.now.script.now) task.now.script.now) from (stage_of control.old reading.old.progress) reading.old.text.items (length task.now.script.now) (stage_of control.new reading.new.progress) reading.new.text.items) }
-    ensures traced { IfOk result (λ passes. AreTraced (applied_in control.old) (history_in control.new) task.now.packets.now.packets control.new.plane.board.trails passes.items) }
+    ensures gone { OnOk result (HasGone (take (length task.now.script.now) task.now.script.now) from
+        (stage_of control.old reading.old.progress) reading.old.text.items (length task.now.script.now)
+        (stage_of control.new reading.new.progress) reading.new.text.items) }
+    ensures traced { IfOk result (λ passes. AreTraced
+        (applied_in control.old) (history_in control.new) task.now.packets.now.packets control.new.plane.board.trails passes.items) }
     ensures short { IfOk result (λ passes. Matched IsShort task.now.packets.now.packets passes.items) }
     ensures none { NoneOut control.new.plane.board }
 {
@@ -111,9 +114,13 @@ pub fn trace_run<R: Threads + Wait + Sync, K: Sink, G: Gate>(
     out: &mut K,
 ) -> Result<(), RunFault>
     requires settings { InRange task.now.settings }
-    ensures ok { OnOk result (Gains (TraceOutput (task.now.settings.objects / 2) task.now.script.now task.now.packets.now) (K.written out.old) (K.written out.new)) }
-    ensures part { OnErr result ((K.written out.new ≡ K.written out.old) ⊎ Gains (FirstPart (TraceOutput (task.now.settings.objects / 2) task.now.script.now task.now.packets.now)) (K.written out.old) (K.written out.new)) }
-    ensures first { IsErrOf result RunFault.Write → Gains (FirstPart (TraceOutput (task.now.settings.objects / 2) task.now.script.now task.now.packets.now)) (K.written out.old) (K.written out.new) }
+    ensures ok { OnOk result (Gains (TraceOutput (task.now.settings.objects / 2) task.now.script.now task.now.packets.now)
+        (K.written out.old) (K.written out.new)) }
+    ensures part { OnErr result ((K.written out.new ≡ K.written out.old)
+        ⊎ Gains (FirstPart (TraceOutput (task.now.settings.objects / 2) task.now.script.now task.now.packets.now)) (K.written out.old)
+        (K.written out.new)) }
+    ensures first { IsErrOf result RunFault.Write → Gains
+        (FirstPart (TraceOutput (task.now.settings.objects / 2) task.now.script.now task.now.packets.now)) (K.written out.old) (K.written out.new) }
     ensures write { IsErrOf result RunFault.Write → HasRisen (K.faults out.old) (K.faults out.new) }
     ensures counted { K.faults out.old ≤ K.faults out.new }
 {

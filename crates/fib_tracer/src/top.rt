@@ -39,11 +39,15 @@ fn trace_files<R: Threads + Wait + Sync, H: Shelf, K: Sink, G: Gate>(
     gate: &G,
 ) -> Result<(), Fault>
     requires { InRange (sized wanted.objects) }
-    ensures done { OnOk result (Gains (MayTrace (H.holds shelf.old) (Some (wanted_in wanted.entry))) (K.written out.old) (K.written out.new)) }
-    ensures part { OnErr result ((K.written out.new ≡ K.written out.old) ⊎ Gains (FirstPart (MayTrace (H.holds shelf.old) (Some (wanted_in wanted.entry)))) (K.written out.old) (K.written out.new)) }
-    ensures first { IsErrOf result Fault.Write → Gains (FirstPart (MayTrace (H.holds shelf.old) (Some (wanted_in wanted.entry)))) (K.written out.old) (K.written out.new) }
+    ensures done { OnOk result (Gains (MayTrace (H.holds shelf.old) (Some (wanted_in wanted.entry))) (K.written out.old)
+        (K.written out.new)) }
+    ensures part { OnErr result ((K.written out.new ≡ K.written out.old)
+        ⊎ Gains (FirstPart (MayTrace (H.holds shelf.old) (Some (wanted_in wanted.entry)))) (K.written out.old) (K.written out.new)) }
+    ensures first { IsErrOf result Fault.Write → Gains (FirstPart (MayTrace (H.holds shelf.old) (Some (wanted_in wanted.entry))))
+        (K.written out.old) (K.written out.new) }
     ensures unwritten { IsErrOf result Fault.Write → HasRisen (K.faults out.old) (K.faults out.new) }
-    ensures nothing { IsErrOf result Fault.Commands ⊎ (IsErrOf result Fault.Capture ⊎ (IsErrOf result Fault.Refused ⊎ IsErrOf result Fault.TooLong)) → K.written out.new ≡ K.written out.old }
+    ensures nothing { IsErrOf result Fault.Commands ⊎ (IsErrOf result Fault.Capture
+        ⊎ (IsErrOf result Fault.Refused ⊎ IsErrOf result Fault.TooLong)) → K.written out.new ≡ K.written out.old }
     ensures commands { IsErrOf result Fault.Commands → HasRisen (H.faults shelf.old Part.Commands) (H.faults shelf.new Part.Commands) }
     ensures capture { IsErrOf result Fault.Capture → HasRisen (H.faults shelf.old Part.Capture) (H.faults shelf.new Part.Capture) }
     ensures opened { IsErrOf result Fault.Capture → MayOpen (H.holds shelf.old) (Some (wanted_in wanted.entry)) }
@@ -91,9 +95,12 @@ pub fn trace_main<R: Threads + Wait + Sync, H: Shelf, K: Sink, G: Gate>(
 ) -> u8
     // At 0 the output has grown by a whole text that may be printed, at 4 by a first part of one, at 6 by such a part or by nothing, and
     // else by nothing.
-    ensures done { result ≡ 0 → Gains (MayTrace (H.holds shelf.old) (wanted (map string_bytes words.now))) (K.written out.old) (K.written out.new) }
-    ensures part { result ≡ 4 → Gains (FirstPart (MayTrace (H.holds shelf.old) (wanted (map string_bytes words.now)))) (K.written out.old) (K.written out.new) }
-    ensures wanting { result ≡ 6 → (K.written out.new ≡ K.written out.old) ⊎ Gains (FirstPart (MayTrace (H.holds shelf.old) (wanted (map string_bytes words.now)))) (K.written out.old) (K.written out.new) }
+    ensures done { result ≡ 0 → Gains (MayTrace (H.holds shelf.old) (wanted (map string_bytes words.now))) (K.written out.old)
+        (K.written out.new) }
+    ensures part { result ≡ 4 → Gains (FirstPart (MayTrace (H.holds shelf.old) (wanted (map string_bytes words.now)))) (K.written out.old)
+        (K.written out.new) }
+    ensures wanting { result ≡ 6 → (K.written out.new ≡ K.written out.old)
+        ⊎ Gains (FirstPart (MayTrace (H.holds shelf.old) (wanted (map string_bytes words.now)))) (K.written out.old) (K.written out.new) }
     ensures nothing { Contains (1 ∷ 2 ∷ 3 ∷ 5 ∷ 7 ∷ []) result → K.written out.new ≡ K.written out.old }
 
     // The cause of each status.
@@ -110,7 +117,11 @@ pub fn trace_main<R: Threads + Wait + Sync, H: Shelf, K: Sink, G: Gate>(
     ensures usage_due { accepts (map string_bytes words.now) ≡ false → Contains (1 ∷ 6 ∷ []) result }
 
     // Where no fault comes and no memory is wanted, the status is the one that is due by the files' bytes.
-    ensures complete { (file bytes : List ℕ) → IsHeld (H.holds shelf.old) (wanted (map string_bytes words.now)) file bytes → HasNotRisen (H.faults shelf.old Part.Commands) (H.faults shelf.new Part.Commands) → HasNotRisen (H.faults shelf.old Part.Capture) (H.faults shelf.new Part.Capture) → HasNotRisen (K.faults out.old) (K.faults out.new) → Contains (due (wanted (map string_bytes words.now)) file bytes ∷ 6 ∷ []) result }
+    ensures complete { (file bytes : List ℕ) → IsHeld (H.holds shelf.old) (wanted (map string_bytes words.now)) file bytes
+        → HasNotRisen (H.faults shelf.old Part.Commands) (H.faults shelf.new Part.Commands)
+        → HasNotRisen (H.faults shelf.old Part.Capture) (H.faults shelf.new Part.Capture)
+        → HasNotRisen (K.faults out.old) (K.faults out.new)
+        → Contains (due (wanted (map string_bytes words.now)) file bytes ∷ 6 ∷ []) result }
 
     // No file is touched that the words don't name.
     ensures untouched { names_commands (wanted (map string_bytes words.now)) ≡ false → shelf.new ≡ shelf.old }
