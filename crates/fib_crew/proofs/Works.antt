@@ -52,6 +52,7 @@ worked_none k first base taken v = record {
   trails = [];
   past = sym (append-nil v.worker.past);
   told = tt;
+  passes = omega arith;
   claims = [];
   claimed = sym (append-nil v.worker.claims);
   few = omega arith;
@@ -84,6 +85,7 @@ worked_frame k first base n taken v w x u fs claim f low h claimed is lt done =
       trails = h.trails ++ done.trails;
       past = done.past ∙ (ap (λ xs. xs ++ done.trails) (ap (λ (s : Seated). s.worker.past) claimed ∙ h.past) ∙ append_assoc v.worker.past h.trails done.trails);
       told = subst (Told (h.trails ++ done.trails)) (sym results) (told_append h.trails done.trails (results_in ss) rs h.told done.told);
+      passes = (let q = h.passes in let e = ap (λ (s : Seated). s.worker.pass) claimed in let d = done.passes in let l = length-append h.trails done.trails in omega (arith, q, e, d, l));
       claims = h.claims ++ claim ∷ [];
       claimed = done.claims ∙ (ap (λ (s : Seated). s.worker.claims) claimed ∙ (ap (λ xs. xs ++ claim ∷ []) h.claimed ∙ append_assoc v.worker.claims h.claims (claim ∷ [])));
       few = (let l = h.few in let m = length-append h.claims (claim ∷ []) in omega (arith, l, m));
@@ -106,6 +108,7 @@ worked_last k first base n m taken v w x fs claim h claimed none le =
       trails = h.trails;
       past = ap (λ (s : Seated). s.worker.past) claimed ∙ h.past;
       told = subst (Told h.trails) (sym results) h.told;
+      passes = (let q = h.passes in let e = ap (λ (s : Seated). s.worker.pass) claimed in omega (arith, q, e));
       claims = h.claims ++ claim ∷ [];
       claimed = ap (λ (s : Seated). s.worker.claims) claimed ∙ (ap (λ xs. xs ++ claim ∷ []) h.claimed ∙ append_assoc v.worker.claims h.claims (claim ∷ []));
       few = (let l = h.few in let m = length-append h.claims (claim ∷ []) in omega (arith, l, m, le));
@@ -124,6 +127,7 @@ worked_within k first base n m taken v w ss h le = record {
   trails = h.trails;
   past = h.past;
   told = h.told;
+  passes = h.passes;
   claims = h.claims;
   claimed = h.claimed;
   few = (let l = h.few in omega (arith, l, le));

@@ -1,5 +1,5 @@
 -- The results that a worker keeps, and what it makes of some packets.
-use Rattle.std.specs.Prelude.{ℕ, ◌≡◌, ◌≤◌, ◌+◌, ◌++◌, ◌∷◌, [], List, length}
+use Rattle.std.specs.Prelude.{ℕ, ◌≡◌, ◌≤◌, ◌+◌, ◌*◌, ◌++◌, ◌∷◌, [], List, length}
 use Rattle.fib_results.specs.declared.record.Record.{Record}
 use Rattle.fib_results.specs.Trails.{AtLeast}
 use Rattle.fib_capture.specs.declared.packet.Packet.{Packet}
@@ -39,7 +39,7 @@ Told (t ∷ trails) [] = ⊥
 Told (t ∷ trails) (r ∷ results) = IsResultOf t r × Told trails results
 
 -- a worker forwarded these packets, numbered from n: its past grew by one trail a flow, in order, and the list by their results with the packets'
--- numbers
+-- numbers. It made a pass a flow and no other: each raises its pass word by two
 pub record HasForwarded (before after : Seated) (n : ℕ) (packets : List Packet) (old new : List (ℕ × Record)) : Type 0 where
   pub mine : List Record
   pub asked : Matched (IsAsked before.worker.knows) packets mine
@@ -47,6 +47,7 @@ pub record HasForwarded (before after : Seated) (n : ℕ) (packets : List Packet
   pub trails : List Trail
   pub past : after.worker.past ≡ before.worker.past ++ trails
   pub told : Told trails mine
+  pub passes : after.worker.pass ≡ before.worker.pass + 2 * length trails
   pub id : after.id ≡ before.id
   pub number : after.worker.number ≡ before.worker.number
   pub claims : after.worker.claims ≡ before.worker.claims

@@ -38,7 +38,7 @@ Named base count (claim ∷ claims) [] = ⊥
 Named base count (claim ∷ claims) (None ∷ steps) = (base ≤ claim → base + count ≤ claim) × Named base count claims steps
 Named base count (claim ∷ claims) (Some f ∷ steps) = (claim ≡ base + f.number) × (f.number < count) × Named base count claims steps
 
--- a worker made n claims at most, and did this with them
+-- a worker made n claims at most, and did this with them. It made a pass a flow of its frames and no other: each raises its pass word by two
 pub record HasWorked (k first base n : ℕ) (taken : List Packet) (before after : Seated) (steps : List (Option Frame)) : Type 0 where
   pub id : after.id ≡ before.id
   pub number : after.worker.number ≡ before.worker.number
@@ -47,6 +47,7 @@ pub record HasWorked (k first base n : ℕ) (taken : List Packet) (before after 
   pub trails : List Trail
   pub past : after.worker.past ≡ before.worker.past ++ trails
   pub told : Told trails (results_in steps)
+  pub passes : after.worker.pass ≡ before.worker.pass + 2 * length trails
   pub claims : List ℕ
   pub claimed : after.worker.claims ≡ before.worker.claims ++ claims
   pub few : length claims ≤ n

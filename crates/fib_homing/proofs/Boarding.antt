@@ -1,13 +1,15 @@
 -- Controls that differ by their boards alone, and boards whose workers leave.
-use Rattle.std.proofs.Common.{◌≡◌, ◌<◌, ◌≤◌, ◌+◌, ◌^◌, ◌++◌, ◌∷◌, [], ℕ, List, Some, true, false, length, arith, ap, ◌∙◌, sym, subst}
-use Rattle.std.specs.Prelude.{slice_index_or}
+use Rattle.std.proofs.Common.{◌≡◌, ◌<◌, ◌≤◌, ◌+◌, ◌^◌, ◌++◌, ◌∷◌, [], ℕ, List, Some, true, false, length, arith, ap, ◌∙◌, refl, sym, subst}
+use Rattle.std.specs.Prelude.{◌&&◌, Bool, slice_index_or, slice_set}
+use Rattle.std.proofs.Math.Bool.{and-true, and_assoc}
+use Rattle.std.proofs.lemmas.Bool.{false≢true}
 use Rattle.std.proofs.lemmas.List.{append_assoc, append-nil, get_or-set_other}
 use Rattle.fib_core.specs.Trails.{Trail}
 use Rattle.fib_board.specs.Boards.{Board}
 use Rattle.fib_board.specs.Crews.{MaySend, Seated, board_sent, new_seat}
 use Rattle.fib_control.specs.Controls.{Control, with_board}
 use Rattle.fib_homing.specs.Homes.{but_out}
-use Rattle.fib_homing.specs.Stations.{IsCrew, IsMustered, past_of, pasts_of}
+use Rattle.fib_homing.specs.Stations.{IsCrew, IsMustered, all_done, past_of, pasts_of, rests_of, rests_with}
 use Rattle.fib_homing.specs.declared.station.Station.{Station}
 use Rattle.fib_homing.proofs.Mustering.{crew_more}
 
@@ -43,3 +45,23 @@ pasts_more old s rest w is = append_assoc old w.worker.past (pasts_of rest) ∙ 
 -- all are home
 pub pasts_none : (now before : List Trail) (rest : List Station) → now ++ pasts_of rest ≡ before → rest ≡ [] → now ≡ before
 pasts_none now before rest all none = sym (ap (λ r. now ++ pasts_of r) none ∙ append-nil now) ∙ all
+
+-- the pass words likewise
+pub rests_more : (old : List ℕ) (s : Station) (rest : List Station) (w : Seated) → s.worker ≡ Some w
+    → rests_of (slice_set old w.worker.number w.worker.pass) rest ≡ rests_of old (s ∷ rest)
+rests_more old s rest w is = ap (λ o. rests_of (rests_with old o) rest) (sym is)
+
+pub rests_none : (now before : List ℕ) (rest : List Station) → rests_of now rest ≡ before → rest ≡ [] → now ≡ before
+rests_none now before rest all none = sym (ap (rests_of now) none) ∙ all
+
+-- whether each came to the end
+pub ended_more : (done came : Bool) (s : Station) (rest : List Station) → came ≡ s.done → (done && came && all_done rest) ≡ (done && all_done (s ∷ rest))
+ended_more done came s rest is = and_assoc done came (all_done rest) ∙ ap (λ d. done && (d && all_done rest)) is
+
+pub ended_none : (done all : Bool) (rest : List Station) → (done && all_done rest) ≡ all → rest ≡ [] → done ≡ all
+ended_none done all rest is none = sym (and-true done) ∙ (sym (ap (λ r. done && all_done r) none) ∙ is)
+
+pub both_true : (a b : Bool) → (a && b) ≡ true → (a ≡ true) × (b ≡ true)
+both_true true true is = (refl, refl)
+both_true true false is = (refl, is)
+both_true false b is = (is, absurd (false≢true is))

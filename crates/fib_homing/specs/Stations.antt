@@ -1,5 +1,5 @@
 -- The workers of a round at their stations: as they leave, and after their work.
-use Rattle.std.specs.Prelude.{ℕ, ◌≡◌, ◌+◌, ◌++◌, ◌∷◌, [], true, false, List, Option, Some, None, slice_index}
+use Rattle.std.specs.Prelude.{ℕ, ◌≡◌, ◌+◌, ◌++◌, ◌&&◌, ◌∷◌, [], Bool, true, false, List, Option, Some, None, slice_index, slice_set}
 use Rattle.fib_capture.specs.declared.packet.Packet.{Packet}
 use Rattle.fib_core.specs.Trails.{Trail}
 use Rattle.fib_board.specs.Boards.{Board}
@@ -69,3 +69,17 @@ past_of (Some w) = w.worker.past
 abbrev pub pasts_of : List Station → List Trail
 pasts_of [] = []
 pasts_of (s ∷ crew) = past_of s.worker ++ pasts_of crew
+
+-- the pass words of all workers' numbers, once those at their stations came home with theirs
+abbrev pub rests_with : List ℕ → Option Seated → List ℕ
+rests_with rests None = rests
+rests_with rests (Some w) = slice_set rests w.worker.number w.worker.pass
+
+abbrev pub rests_of : List ℕ → List Station → List ℕ
+rests_of rests [] = rests
+rests_of rests (s ∷ crew) = rests_of (rests_with rests s.worker) crew
+
+-- each of them came to the round's end
+abbrev pub all_done : List Station → Bool
+all_done [] = true
+all_done (s ∷ crew) = s.done && all_done crew

@@ -1,5 +1,5 @@
 // The workers come home.
-ghost use Rattle.std.specs.Prelude.{◌≡◌, ◌<◌, ◌≤◌, ◌+◌, ◌*◌, ◌++◌, [], ℕ, length, true, false, slice_index, slice_index_or, slice_set, Some};
+ghost use Rattle.std.specs.Prelude.{◌≡◌, ◌<◌, ◌≤◌, ◌+◌, ◌*◌, ◌++◌, ◌&&◌, [], ℕ, length, true, false, slice_index, slice_index_or, slice_set, Some};
 ghost use Rattle.std.specs.List.{AllByRecursion};
 ghost use Rattle.fib_lawful.specs.State.{left_of};
 ghost use Rattle.fib_board.specs.Crews.{Seated, board_joined};
@@ -10,7 +10,7 @@ ghost use Rattle.fib_crew.specs.Frames.{frames};
 ghost use Rattle.fib_crew.specs.declared.claims.Frame.{Frame as FrameValue};
 ghost use Rattle.fib_homing.specs.Homes.{IsHome, NoneOut, but_crew};
 ghost use Rattle.fib_homing.specs.Places.{placed};
-ghost use Rattle.fib_homing.specs.Stations.{AreBack, pasts_of};
+ghost use Rattle.fib_homing.specs.Stations.{AreBack, all_done, pasts_of, rests_of};
 ghost use Rattle.fib_homing.specs.inner.Coming.{IsComing, IsOf};
 
 use crate::station::Station;
@@ -47,7 +47,7 @@ fn come_one<'a>(
     requires of { IsOf control.old.plane.board.id station.worker }
     requires inside { station.done ≡ true → AllByRecursion (λ (f : FrameValue). f.number < length places.old) station.frames.items }
     ensures home { (w : Seated) → station.entry.worker ≡ Some w → control.new ≡ with_board control.old (board_joined control.old.plane.board w.worker) }
-    ensures ended { result ≡ true → station.entry.done ≡ true }
+    ensures ended { result ≡ station.entry.done }
     ensures places { result ≡ true → places.new ≡ placed places.old station.entry.frames.items }
     ensures long { length places.new ≡ length places.old }
 {
@@ -67,7 +67,7 @@ fn come_one<'a>(
 }
 
 fn both(a: bool, b: bool) -> bool
-    ensures { result ≡ true → (a ≡ true) × (b ≡ true) }
+    ensures { result ≡ (a && b) }
 {
     a && b
 }
@@ -85,6 +85,8 @@ fn come_home<'a>(
     requires places { length places.old ≡ frames (span packets.now.packets taken.first taken.to) }
     ensures same { control.new ≡ with_board control.old control.new.plane.board }
     ensures trails { control.new.plane.board.trails ≡ control.old.plane.board.trails ++ pasts_of crew.entry.items }
+    ensures rests { control.new.plane.board.rests ≡ rests_of control.old.plane.board.rests crew.entry.items }
+    ensures ended { result ≡ all_done crew.entry.items }
     ensures come { IsComing taken.opened taken.first taken.base (length crew.entry.items) (span packets.now.packets taken.first taken.to) control.old.plane.board control.new.plane.board places.old places.new result [] }
 {
     let _packets = packets;
@@ -97,11 +99,12 @@ fn come_home<'a>(
     done
 }
 
-/// The workers of a round come home in their numbers' order, and the results of their frames are put into their places. Answers whether each came to the
-/// round's end.
+/// The workers of a round come home in their numbers' order, and the results of their frames are put into their places. Answers true exactly where each
+/// came to the round's end.
 ///
-/// There is a place a frame. Nobody else may be out. The board gains the trails that the workers have behind them, in their numbers' order. Where each came to its end and all claims before the round were drawn once, the places have the results
-/// of all flows, each once and in packet order, right and steady over the history as it is.
+/// There is a place a frame. Nobody else may be out. The board gains the trails that the workers have behind them, in their numbers' order, and takes their
+/// pass words as they are. Where each came to its end and all claims before the round were drawn once, the places have the results of all flows, each once
+/// and in packet order, right and steady over the history as it is.
 pub fn bring_home<'a>(
     control: &mut Control<LiveBoard<'a>>,
     crew: Vec<Station<'a>>,
@@ -119,6 +122,8 @@ pub fn bring_home<'a>(
     ensures same { control.new ≡ with_board control.old control.new.plane.board }
     ensures keeps { but_crew control.new.plane.board ≡ but_crew control.old.plane.board }
     ensures trails { control.new.plane.board.trails ≡ control.old.plane.board.trails ++ pasts_of crew.entry.items }
+    ensures rests { control.new.plane.board.rests ≡ rests_of control.old.plane.board.rests crew.entry.items }
+    ensures ended { result ≡ all_done crew.entry.items }
     ensures none { NoneOut control.new.plane.board }
     ensures drawn { IsDrawnOnce control.new.plane.board.gathered }
     ensures home { result ≡ true → IsHome taken.opened taken.first taken.base (length crew.entry.items) (span packets.now.packets taken.first taken.to) control.old.plane.board control.new.plane.board places.new }
