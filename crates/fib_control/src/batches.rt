@@ -26,7 +26,8 @@ use std::alloc::Global;
 
 // Why edits one of which is refused make no change.
 fn refused_of(error: BatchError) -> BatchApplyError
-    ensures { (S : TablesValue) (l : LimitsValue) (es : List EditValue) → TellsFirstRefused (edited_in_turn S l.room es) error → TellsBatch S l es result }
+    ensures { (S : TablesValue) (l : LimitsValue) (es : List EditValue) → TellsFirstRefused (edited_in_turn S l.room es) error
+        → TellsBatch S l es result }
 {
     match error {
         BatchError::Refused { place, refusal } => BatchApplyError::Refused { place, refusal },
@@ -37,7 +38,8 @@ fn refused_of(error: BatchError) -> BatchApplyError
 // Why edits none of which is refused make no change.
 fn crowded_of(error: ApplyError) -> BatchApplyError
     requires { WantsMore error }
-    ensures { (S T : TablesValue) (l : LimitsValue) (es : List EditValue) → edited_in_turn S l.room es ≡ Ok T → IsTooMuch l (size T) error → TellsBatch S l es result }
+    ensures { (S T : TablesValue) (l : LimitsValue) (es : List EditValue) → edited_in_turn S l.room es ≡ Ok T → IsTooMuch l (size T) error
+        → TellsBatch S l es result }
 {
     match error {
         ApplyError::Crowded { free, wanted } => BatchApplyError::Crowded { free, wanted },
@@ -68,8 +70,10 @@ pub fn change_all(
     ensures made { OnOk result (edited_in_turn config.old.tables limits.room edits.now ≡ Ok config.new.tables) }
     ensures room { config.new.room ≡ config.old.room }
     ensures stands { OnOk result (StandsFor entries.new config.new.tables) }
-    ensures queued { OnOk result ((d : PrefixValue) → is_some (rank_in queue.new.members d) ≡ is_some (rank_in queue.old.members d) || is_touched config.old.tables config.new.tables d) }
-    ensures ranks { OnOk result (AreRanked (rank_of entries.old.rows) queue.old.members → AreRanked (rank_of entries.new.rows) queue.new.members) }
+    ensures queued { OnOk result ((d : PrefixValue) → is_some (rank_in queue.new.members d) ≡ is_some (rank_in queue.old.members d)
+        || is_touched config.old.tables config.new.tables d) }
+    ensures ranks { OnOk result (AreRanked (rank_of entries.old.rows) queue.old.members
+        → AreRanked (rank_of entries.new.rows) queue.new.members) }
     ensures fits { OnOk result ((size config.new.tables ≤ limits.room) × (size config.new.tables ≤ limits.free)) }
     ensures why { IfErr result (TellsBatch config.old.tables limits edits.now) }
     ensures config { OnErr result (config.new ≡ config.old) }

@@ -72,9 +72,11 @@ fn add_new<P: Objects>(
     table: &mut PrefixTable,
     prefix: Prefix,
 ) -> Result<(), AllocError>
-    requires started { (named : List PrefixValue) × IsStarted (P.promise on.old) table.old (P.view on.old) named × (is_among named everything ≡ true) × (length named < 7) }
+    requires started { (named : List PrefixValue) × IsStarted (P.promise on.old) table.old (P.view on.old) named
+        × (is_among named everything ≡ true) × (length named < 7) }
     requires absent { object_in table.old prefix ≡ None }
-    ensures started { (named : List PrefixValue) → IsStarted (P.promise on.old) table.old (P.view on.old) named → OnOk result (IsStarted (P.promise on.new) table.new (P.view on.new) (named ++ prefix ∷ [])) }
+    ensures started { (named : List PrefixValue) → IsStarted (P.promise on.old) table.old (P.view on.old) named
+        → OnOk result (IsStarted (P.promise on.new) table.new (P.view on.new) (named ++ prefix ∷ [])) }
     ensures promise { P.promise on.new ≡ P.promise on.old }
 {
     let _length = prefix.len();
@@ -91,8 +93,10 @@ fn place<P: Objects>(
     table: &mut PrefixTable,
     prefix: Prefix,
 ) -> Result<(), AllocError>
-    requires { (named : List PrefixValue) × IsStarted (P.promise on.old) table.old (P.view on.old) named × (is_among named everything ≡ true) × (length named < 7) }
-    ensures started { (named : List PrefixValue) → IsStarted (P.promise on.old) table.old (P.view on.old) named → OnOk result (IsStarted (P.promise on.new) table.new (P.view on.new) (named ++ prefix ∷ [])) }
+    requires { (named : List PrefixValue) × IsStarted (P.promise on.old) table.old (P.view on.old) named
+        × (is_among named everything ≡ true) × (length named < 7) }
+    ensures started { (named : List PrefixValue) → IsStarted (P.promise on.old) table.old (P.view on.old) named
+        → OnOk result (IsStarted (P.promise on.new) table.new (P.view on.new) (named ++ prefix ∷ [])) }
     ensures promise { P.promise on.new ≡ P.promise on.old }
 {
     if table.object(prefix).is_some() {

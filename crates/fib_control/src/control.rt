@@ -345,9 +345,11 @@ impl<B: Board> Control<B> {
         ensures left { result ≡ length self.new.late }
         ensures calm { self.old.queue ≡ [] → self.old.plane.board.union.retired ≡ [] → (result ≡ 0) × IsQuiet self.new }
         ensures retried { Retried (state_now self.old) (state_now self.new) }
-        ensures why { (e : PrefixValue) (k : ℕ) (w : Word) → late_at self.new.late e k ≡ Some w → StaysLate (view_in self.new) (parts_in self.new) e w }
+        ensures why { (e : PrefixValue) (k : ℕ) (w : Word) → late_at self.new.late e k ≡ Some w
+            → StaysLate (view_in self.new) (parts_in self.new) e w }
         ensures same { IsBeneath self.old self.new }
-        ensures parts { (self.new.rows ≡ self.old.rows) × (self.new.plies ≡ self.old.plies) × (self.new.queue ≡ self.old.queue) × (self.new.done ≡ self.old.done) }
+        ensures parts { (self.new.rows ≡ self.old.rows) × (self.new.plies ≡ self.old.plies) × (self.new.queue ≡ self.old.queue)
+            × (self.new.done ≡ self.old.done) }
     {
         self.stack.retry(&mut self.shared, &self.table, &self.queue)
     }
@@ -381,7 +383,8 @@ impl<B: Board> Control<B> {
     pub fn settle_alone(&mut self) -> Result<u32, AllocError>
         requires { (promise_in self.old).alone ≡ true }
         ensures quiet { OnOk result (IsQuiet self.new) }
-        ensures version { IfOk result (λ n. (n ≡ self.old.plane.board.log.version.applied) × (self.new.plane.board.log.version.settled ≡ n)) }
+        ensures version { IfOk result (λ n. (n ≡ self.old.plane.board.log.version.applied)
+            × (self.new.plane.board.log.version.settled ≡ n)) }
         ensures tables { self.new.setup ≡ self.old.setup }
         ensures entries { self.new.entries ≡ self.old.entries }
         ensures board { but_settled self.new.plane.board ≡ but_settled self.old.plane.board }
@@ -437,15 +440,23 @@ fn restack<B: Board>(
     queue: &mut Queue,
 ) -> Result<Turn, Want>
     requires stands { StandsFor entries.now config.now.tables }
-    requires joined { Joined config.now.tables (rank_of entries.now.rows) (promise_of shared.old.plane.board) (view_of shared.old.plane) (parts_of table.old stack.old queue.old) }
-    ensures turn { IfOk result (λ t. TurnDone config.now.tables (rank_of entries.now.rows) t (state_in (view_of shared.old.plane) (parts_of table.old stack.old queue.old)) (state_in (view_of shared.new.plane) (parts_of table.new stack.new queue.new))) }
-    ensures joined { Joined config.now.tables (rank_of entries.now.rows) (promise_of shared.new.plane.board) (view_of shared.new.plane) (parts_of table.new stack.new queue.new) }
+    requires joined { Joined config.now.tables (rank_of entries.now.rows) (promise_of shared.old.plane.board) (view_of shared.old.plane)
+        (parts_of table.old stack.old queue.old) }
+    ensures turn { IfOk result (λ t. TurnDone config.now.tables (rank_of entries.now.rows) t
+        (state_in (view_of shared.old.plane) (parts_of table.old stack.old queue.old))
+        (state_in (view_of shared.new.plane) (parts_of table.new stack.new queue.new))) }
+    ensures joined { Joined config.now.tables (rank_of entries.now.rows) (promise_of shared.new.plane.board) (view_of shared.new.plane)
+        (parts_of table.new stack.new queue.new) }
     ensures dropped { IfOk result (λ t. IsCounted t stack.new.late.members) }
     ensures stores { IfOk result (λ t. IsStored t shared.old.plane.board.stored shared.new.plane.board.stored) }
     ensures err { OnErr result (SamePlane (view_of shared.old.plane) (view_of shared.new.plane)) }
     ensures parts { OnErr result (parts_of table.new stack.new queue.new ≡ parts_of table.old stack.old queue.old) }
-    ensures finds { HasRoomLeft config.now.tables (view_of shared.old.plane).free (state_in (view_of shared.old.plane) (parts_of table.old stack.old queue.old)) → IsErrOf result Want.Object → ⊥ }
-    ensures left { HasRoomLeft config.now.tables (view_of shared.old.plane).free (state_in (view_of shared.old.plane) (parts_of table.old stack.old queue.old)) → HasRoomLeft config.now.tables (view_of shared.new.plane).free (state_in (view_of shared.new.plane) (parts_of table.new stack.new queue.new)) }
+    ensures finds { HasRoomLeft config.now.tables (view_of shared.old.plane).free
+        (state_in (view_of shared.old.plane) (parts_of table.old stack.old queue.old)) → IsErrOf result Want.Object → ⊥ }
+    ensures left { HasRoomLeft config.now.tables (view_of shared.old.plane).free
+        (state_in (view_of shared.old.plane) (parts_of table.old stack.old queue.old))
+        → HasRoomLeft config.now.tables (view_of shared.new.plane).free
+        (state_in (view_of shared.new.plane) (parts_of table.new stack.new queue.new)) }
     ensures promise { promise_of shared.new.plane.board ≡ promise_of shared.old.plane.board }
 {
     let tables = config.tables();

@@ -68,11 +68,16 @@ fn follow_within(
     limits: Limits,
 ) -> Result<Followed, ApplyError>
     requires room { limits.room < 2 ^ 32 - 1 }
-    ensures stands { OnOk result ((S : TablesValue) → StandsFor entries.old S → Differ changes.now S config.now.tables → StandsFor entries.new config.now.tables) }
-    ensures touched { IfOk result (λ f. (S : TablesValue) → StandsFor entries.old S → Differ changes.now S config.now.tables → AreTouched S config.now.tables f.touched) }
-    ensures moved { IfOk result (λ f. (S : TablesValue) → StandsFor entries.old S → Differ changes.now S config.now.tables → AreMoved entries.old.rows entries.new.rows f.moved) }
-    ensures fits { OnOk result ((S : TablesValue) → StandsFor entries.old S → Differ changes.now S config.now.tables → (size config.now.tables ≤ limits.room) × (size config.now.tables ≤ limits.free)) }
-    ensures why { IfErr result (λ e. (S : TablesValue) → StandsFor entries.old S → Differ changes.now S config.now.tables → IsTooMuch limits (size config.now.tables) e) }
+    ensures stands { OnOk result ((S : TablesValue) → StandsFor entries.old S → Differ changes.now S config.now.tables
+        → StandsFor entries.new config.now.tables) }
+    ensures touched { IfOk result (λ f. (S : TablesValue) → StandsFor entries.old S → Differ changes.now S config.now.tables
+        → AreTouched S config.now.tables f.touched) }
+    ensures moved { IfOk result (λ f. (S : TablesValue) → StandsFor entries.old S → Differ changes.now S config.now.tables
+        → AreMoved entries.old.rows entries.new.rows f.moved) }
+    ensures fits { OnOk result ((S : TablesValue) → StandsFor entries.old S → Differ changes.now S config.now.tables
+        → (size config.now.tables ≤ limits.room) × (size config.now.tables ≤ limits.free)) }
+    ensures why { IfErr result (λ e. (S : TablesValue) → StandsFor entries.old S → Differ changes.now S config.now.tables
+        → IsTooMuch limits (size config.now.tables) e) }
     ensures err { OnErr result (entries.new ≡ entries.old) }
 {
     match entries.follow_changes(config, changes, least_of(limits)) {
@@ -93,12 +98,17 @@ fn follow(
     limits: Limits,
 ) -> Result<Followed, ApplyError>
     requires room { limits.room < 2 ^ 32 - 1 }
-    ensures stands { OnOk result ((S : TablesValue) → StandsFor entries.old S → Differ changes.now S config.now.tables → StandsFor entries.new config.now.tables) }
-    ensures touched { IfOk result (λ f. (S : TablesValue) → StandsFor entries.old S → Differ changes.now S config.now.tables → AreTouched S config.now.tables f.touched) }
-    ensures moved { IfOk result (λ f. (S : TablesValue) → StandsFor entries.old S → Differ changes.now S config.now.tables → AreMoved entries.old.rows entries.new.rows f.moved) }
-    ensures fits { OnOk result ((S : TablesValue) → StandsFor entries.old S → Differ changes.now S config.now.tables → (size config.now.tables ≤ limits.room) × (size config.now.tables ≤ limits.free)) }
+    ensures stands { OnOk result ((S : TablesValue) → StandsFor entries.old S → Differ changes.now S config.now.tables
+        → StandsFor entries.new config.now.tables) }
+    ensures touched { IfOk result (λ f. (S : TablesValue) → StandsFor entries.old S → Differ changes.now S config.now.tables
+        → AreTouched S config.now.tables f.touched) }
+    ensures moved { IfOk result (λ f. (S : TablesValue) → StandsFor entries.old S → Differ changes.now S config.now.tables
+        → AreMoved entries.old.rows entries.new.rows f.moved) }
+    ensures fits { OnOk result ((S : TablesValue) → StandsFor entries.old S → Differ changes.now S config.now.tables
+        → (size config.now.tables ≤ limits.room) × (size config.now.tables ≤ limits.free)) }
     ensures space { OnOk result (4 * limits.room ≤ queue.new.spare) }
-    ensures why { IfErr result (λ e. (S : TablesValue) → StandsFor entries.old S → Differ changes.now S config.now.tables → IsTooMuch limits (size config.now.tables) e) }
+    ensures why { IfErr result (λ e. (S : TablesValue) → StandsFor entries.old S → Differ changes.now S config.now.tables
+        → IsTooMuch limits (size config.now.tables) e) }
     ensures queue { queue.new.members ≡ queue.old.members }
     ensures err { OnErr result (entries.new ≡ entries.old) }
 {
@@ -121,8 +131,10 @@ pub fn follow_all(
     requires room { limits.room < 2 ^ 32 - 1 }
     requires before { (S : TablesValue) × StandsFor entries.old S × Differ changes.now S config.now.tables × (size S ≤ limits.room) }
     ensures stands { OnOk result (StandsFor entries.new config.now.tables) }
-    ensures queued { OnOk result ((S : TablesValue) → StandsFor entries.old S → Differ changes.now S config.now.tables → (d : PrefixValue) → is_some (rank_in queue.new.members d) ≡ is_some (rank_in queue.old.members d) || is_touched S config.now.tables d) }
-    ensures ranks { OnOk result (AreRanked (rank_of entries.old.rows) queue.old.members → AreRanked (rank_of entries.new.rows) queue.new.members) }
+    ensures queued { OnOk result ((S : TablesValue) → StandsFor entries.old S → Differ changes.now S config.now.tables → (d : PrefixValue)
+        → is_some (rank_in queue.new.members d) ≡ is_some (rank_in queue.old.members d) || is_touched S config.now.tables d) }
+    ensures ranks { OnOk result (AreRanked (rank_of entries.old.rows) queue.old.members
+        → AreRanked (rank_of entries.new.rows) queue.new.members) }
     ensures fits { OnOk result ((size config.now.tables ≤ limits.room) × (size config.now.tables ≤ limits.free)) }
     ensures why { IfErr result (IsTooMuch limits (size config.now.tables)) }
     ensures queue { OnErr result (queue.new.members ≡ queue.old.members) }
@@ -162,8 +174,10 @@ pub fn change(
     ensures accepted { OnOk result (refused config.old.tables limits.room edit.now ≡ None) }
     ensures edited { OnOk result (config.new ≡ record config.old { tables = edited config.old.tables edit.now }) }
     ensures stands { OnOk result (StandsFor entries.new config.new.tables) }
-    ensures queued { OnOk result ((d : PrefixValue) → is_some (rank_in queue.new.members d) ≡ is_some (rank_in queue.old.members d) || is_touched config.old.tables config.new.tables d) }
-    ensures ranks { OnOk result (AreRanked (rank_of entries.old.rows) queue.old.members → AreRanked (rank_of entries.new.rows) queue.new.members) }
+    ensures queued { OnOk result ((d : PrefixValue) → is_some (rank_in queue.new.members d) ≡ is_some (rank_in queue.old.members d)
+        || is_touched config.old.tables config.new.tables d) }
+    ensures ranks { OnOk result (AreRanked (rank_of entries.old.rows) queue.old.members
+        → AreRanked (rank_of entries.new.rows) queue.new.members) }
     ensures fits { OnOk result ((size config.new.tables ≤ limits.room) × (size config.new.tables ≤ limits.free)) }
     ensures why { IfErr result (TellsEdit config.old.tables limits edit.now) }
     ensures config { OnErr result (config.new ≡ config.old) }

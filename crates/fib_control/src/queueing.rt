@@ -17,7 +17,8 @@ use fib_woken::enqueue;
 fn rekey(queue: &mut Queue, entries: &Entries, moved: &[Moved])
     requires room { length moved.now ≤ queue.old.spare }
     ensures queued { (d : PrefixValue) → is_some (rank_in queue.new.members d) ≡ is_some (rank_in queue.old.members d) }
-    ensures ranks { (d : PrefixValue) (r : ℕ) → rank_in queue.new.members d ≡ Some r → (r ≡ rank_of entries.now.rows d) ⊎ ((rank_in queue.old.members d ≡ Some r) × (is_moved moved.now d ≡ false)) }
+    ensures ranks { (d : PrefixValue) (r : ℕ) → rank_in queue.new.members d ≡ Some r → (r ≡ rank_of entries.now.rows d)
+        ⊎ ((rank_in queue.old.members d ≡ Some r) × (is_moved moved.now d ≡ false)) }
     ensures spare { queue.old.spare ≤ queue.new.spare + length moved.now }
 {
     for one in moved {
@@ -28,8 +29,11 @@ fn rekey(queue: &mut Queue, entries: &Entries, moved: &[Moved])
 /// Queues what a change touches, and keys what is queued by the new ranks. There must be room for all of both lists.
 pub fn queue_all(queue: &mut Queue, entries: &Entries, followed: &Followed)
     requires room { length followed.now.moved + length followed.now.touched ≤ queue.old.spare }
-    ensures queued { (d : PrefixValue) → is_some (rank_in queue.new.members d) ≡ is_some (rank_in queue.old.members d) || is_among followed.now.touched d }
-    ensures ranks { (old : List Row) → AreMoved old entries.now.rows followed.now.moved → ((d : PrefixValue) (r : ℕ) → rank_in queue.old.members d ≡ Some r → r ≡ rank_of old d) → (d : PrefixValue) (r : ℕ) → rank_in queue.new.members d ≡ Some r → r ≡ rank_of entries.now.rows d }
+    ensures queued { (d : PrefixValue) → is_some (rank_in queue.new.members d) ≡ is_some (rank_in queue.old.members d)
+        || is_among followed.now.touched d }
+    ensures ranks { (old : List Row) → AreMoved old entries.now.rows followed.now.moved
+        → ((d : PrefixValue) (r : ℕ) → rank_in queue.old.members d ≡ Some r → r ≡ rank_of old d) → (d : PrefixValue) (r : ℕ)
+        → rank_in queue.new.members d ≡ Some r → r ≡ rank_of entries.now.rows d }
 {
     rekey(queue, entries, followed.moved.as_slice());
     enqueue(queue, entries, followed.touched.list());

@@ -13,7 +13,8 @@ impl<B: Board> Control<B> {
     /// that were done stand.
     pub fn settle<R: Wait>(&mut self, rt: &R) -> Result<u32, AllocError>
         ensures quiet { OnOk result (IsQuiet self.new) }
-        ensures version { IfOk result (λ n. (n ≡ self.old.plane.board.log.version.applied) × (self.new.plane.board.log.version.settled ≡ n)) }
+        ensures version { IfOk result (λ n. (n ≡ self.old.plane.board.log.version.applied)
+            × (self.new.plane.board.log.version.settled ≡ n)) }
         ensures tables { self.new.setup ≡ self.old.setup }
         ensures entries { self.new.entries ≡ self.old.entries }
         ensures board { but_settled self.new.plane.board ≡ but_settled self.old.plane.board }

@@ -119,7 +119,8 @@ fn run_lines<'a, R: Threads + Wait + Sync, G: Gate>(
     ensures settled { OnOk result (IsSettledRun task.now.settings.workers control.new) }
     ensures tables { OnOk result (tables_in control.new
         ≡ (lines_turn 1 (new_router (task.now.settings.objects / 2)) task.now.script.now).0.config.tables) }
-    ensures text { OnOk result (text.new.items ≡ text.old.items ++ (lines_turn 1 (new_router (task.now.settings.objects / 2)) task.now.script.now).1) }
+    ensures text { OnOk result (text.new.items ≡ text.old.items ++
+        (lines_turn 1 (new_router (task.now.settings.objects / 2)) task.now.script.now).1) }
 {
     let mut progress = Progress::new();
     run_script(&task.means(), control, &mut progress, text, task.script)?;

@@ -66,7 +66,8 @@ pub fn work_posts<'a, 'b, R: Threads + Sync, G: Gate>(
         &|_, post: &mut Post| -> ()
             requires { (taken.first ≤ taken.to) × (taken.to ≤ length packets.now.packets)
                 × IsReady taken.opened (frames (span packets.now.packets taken.first taken.to)) post.now.station }
-            ensures { HasWorkedPost taken.opened taken.first taken.base (span packets.entry.now.packets taken.first taken.to) post.entry.now post.exit.now }
+            ensures { HasWorkedPost taken.opened taken.first taken.base
+                (span packets.entry.now.packets taken.first taken.to) post.entry.now post.exit.now }
         { work_post(alloc, packets, taken, gate, post) },
     );
 }

@@ -29,7 +29,8 @@ pub fn run_asked<R: Threads + Wait + Sync, H: Shelf, K: Sink, G: Gate>(
     gate: &G,
 ) -> Result<(), Fault>
     requires { InRange asked.settings }
-    ensures done { OnOk result (Gains (CountsOf (H.holds shelf.old) (Some (asked_in asked.entry))) (K.written out.old) (K.written out.new)) }
+    ensures done { OnOk result (Gains (CountsOf (H.holds shelf.old) (Some (asked_in asked.entry))) (K.written out.old)
+        (K.written out.new)) }
     ensures first { IsErrOf result Fault.Write →
         Gains (FirstPart (CountsOf (H.holds shelf.old) (Some (asked_in asked.entry)))) (K.written out.old) (K.written out.new) }
     ensures nothing { OnErr result ((IsErrOf result Fault.Write → ⊥) → K.written out.new ≡ K.written out.old) }

@@ -43,7 +43,8 @@ pub fn count_main<R: Threads + Wait + Sync, H: Shelf, K: Sink, G: Gate>(
     gate: &G,
 ) -> u8
     // At 0 the output has grown by a whole text, at 4 by a first part of one, at 6 by such a part or by nothing, and else by nothing.
-    ensures done { result ≡ 0 → Gains (CountsOf (H.holds shelf.old) (wanted (map string_bytes words.now))) (K.written out.old) (K.written out.new) }
+    ensures done { result ≡ 0 → Gains (CountsOf (H.holds shelf.old) (wanted (map string_bytes words.now))) (K.written out.old)
+        (K.written out.new) }
     ensures part { result ≡ 4 →
         Gains (FirstPart (CountsOf (H.holds shelf.old) (wanted (map string_bytes words.now)))) (K.written out.old) (K.written out.new) }
     ensures wanting { result ≡ 6 → (K.written out.new ≡ K.written out.old)

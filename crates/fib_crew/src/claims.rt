@@ -91,8 +91,11 @@ pub fn work<'a, G: Gate>(
     requires may { MayWork taken.opened (frames (span packets.now.packets taken.first taken.to)) worker }
     ensures id { result.worker.id ≡ worker.entry.id }
     ensures number { result.worker.worker.number ≡ worker.entry.worker.number }
-    ensures worked { result.done ≡ true → HasWorked taken.opened taken.first taken.base (frames (span packets.now.packets taken.first taken.to) + 1) (span packets.now.packets taken.first taken.to) worker.entry result.worker (steps_of result.frames.items) }
-    ensures stopped { result.done ≡ false → HasStopped taken.opened taken.first taken.base (span packets.now.packets taken.first taken.to) worker.entry result.worker result.frames.items }
+    ensures worked { result.done ≡ true → HasWorked taken.opened taken.first taken.base
+        (frames (span packets.now.packets taken.first taken.to) + 1)
+        (span packets.now.packets taken.first taken.to) worker.entry result.worker (steps_of result.frames.items) }
+    ensures stopped { result.done ≡ false → HasStopped taken.opened taken.first taken.base
+        (span packets.now.packets taken.first taken.to) worker.entry result.worker result.frames.items }
 {
     let count = taken.frames();
     let mut worker = worker;

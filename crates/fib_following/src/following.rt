@@ -28,7 +28,8 @@ fn own_fault(error: EditError) -> ChangeError
 
 // Why the entries don't follow an edit that has no reason of its own.
 fn fault(error: FollowError) -> ChangeError
-    ensures { (S : TablesValue) (most : ℕ) (e : EditValue) → first_reason (reasons S e) ≡ None → IsTooMany (size (edited S e)) most error → TellsChange S most e result }
+    ensures { (S : TablesValue) (most : ℕ) (e : EditValue) → first_reason (reasons S e) ≡ None → IsTooMany (size (edited S e)) most error
+        → TellsChange S most e result }
 {
     match error {
         FollowError::TooMany(size) => ChangeError::TooMany(size),

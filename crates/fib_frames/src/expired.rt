@@ -36,7 +36,8 @@ fn put_if_expired(
     number: u32,
 ) -> Result<(), AllocError>
     requires { 0 < length packet.now → 20 ≤ length packet.now }
-    ensures { OnOk result (out.new.items ≡ out.old.items ++ flat_map expired_line (if expires_by packet.now end.now then number ∷ [] else [])) }
+    ensures { OnOk result (out.new.items ≡ out.old.items ++ flat_map expired_line
+        (if expires_by packet.now end.now then number ∷ [] else [])) }
 {
     if expires(packet, end) {
         put_line(out, number)?;

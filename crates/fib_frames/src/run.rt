@@ -30,11 +30,16 @@ fn send<K: Sink, F: Sink>(
 ) -> Result<(), RunFault>
     requires inside { AreInside seen.now.bytes.items seen.now.spans }
     requires short { length seen.now.bytes.items ≤ 268435456 }
-    ensures lines { OnOk result (Appends (K.written text.old) (K.written text.new) (expired_text seen.now.bytes.items seen.now.spans results.now)) }
-    ensures sent { OnOk result (Appends (F.written frames.old) (F.written frames.new) (frame_file seen.now.bytes.items seen.now.spans results.now)) }
-    ensures some_lines { OnErr result (AppendsSome (K.written text.old) (K.written text.new) (expired_text seen.now.bytes.items seen.now.spans results.now)) }
-    ensures some_sent { OnErr result (AppendsSome (F.written frames.old) (F.written frames.new) (frame_file seen.now.bytes.items seen.now.spans results.now)) }
-    ensures write { IsErrOf result RunFault.Write → HasRisen (K.faults text.old) (K.faults text.new) ⊎ HasRisen (F.faults frames.old) (F.faults frames.new) }
+    ensures lines { OnOk result (Appends (K.written text.old) (K.written text.new)
+        (expired_text seen.now.bytes.items seen.now.spans results.now)) }
+    ensures sent { OnOk result (Appends (F.written frames.old) (F.written frames.new)
+        (frame_file seen.now.bytes.items seen.now.spans results.now)) }
+    ensures some_lines { OnErr result (AppendsSome (K.written text.old) (K.written text.new)
+        (expired_text seen.now.bytes.items seen.now.spans results.now)) }
+    ensures some_sent { OnErr result (AppendsSome (F.written frames.old) (F.written frames.new)
+        (frame_file seen.now.bytes.items seen.now.spans results.now)) }
+    ensures write { IsErrOf result RunFault.Write → HasRisen (K.faults text.old) (K.faults text.new)
+        ⊎ HasRisen (F.faults frames.old) (F.faults frames.new) }
     ensures counted { K.faults text.old ≤ K.faults text.new }
     ensures frames_counted { F.faults frames.old ≤ F.faults frames.new }
 {
@@ -61,7 +66,8 @@ fn run_seen<R: Threads + Wait + Sync, K: Sink, F: Sink, G: Gate>(
         (K.written text.old) (K.written text.new) (F.written frames.old) (F.written frames.new)) }
     ensures err { OnErr result (GainsParts (Shows (settings.objects / 2) script.now seen.now.bytes.items seen.now.packets seen.now.spans)
         (K.written text.old) (K.written text.new) (F.written frames.old) (F.written frames.new)) }
-    ensures write { IsErrOf result RunFault.Write → HasRisen (K.faults text.old) (K.faults text.new) ⊎ HasRisen (F.faults frames.old) (F.faults frames.new) }
+    ensures write { IsErrOf result RunFault.Write → HasRisen (K.faults text.old) (K.faults text.new)
+        ⊎ HasRisen (F.faults frames.old) (F.faults frames.new) }
     ensures counted { K.faults text.old ≤ K.faults text.new }
     ensures frames_counted { F.faults frames.old ≤ F.faults frames.new }
 {
@@ -96,8 +102,10 @@ pub fn run_job<R: Threads + Wait + Sync, H: Shelf, K: Sink, F: Sink, G: Gate>(
         ⊎ GainsParts (MaySend (H.holds shelf.old) (wants job.entry)) (K.written text.old) (K.written text.new) (F.written frames.old) (F.written frames.new)) }
     ensures first { IsErrOf result Fault.Write → GainsParts (MaySend (H.holds shelf.old) (wants job.entry))
         (K.written text.old) (K.written text.new) (F.written frames.old) (F.written frames.new) }
-    ensures unwritten { IsErrOf result Fault.Write → HasRisen (K.faults text.old) (K.faults text.new) ⊎ HasRisen (F.faults frames.old) (F.faults frames.new) }
-    ensures nothing { IsErrOf result Fault.Commands ⊎ (IsErrOf result Fault.Capture ⊎ (IsErrOf result Fault.Refused ⊎ IsErrOf result Fault.TooLong))
+    ensures unwritten { IsErrOf result Fault.Write → HasRisen (K.faults text.old) (K.faults text.new)
+        ⊎ HasRisen (F.faults frames.old) (F.faults frames.new) }
+    ensures nothing { IsErrOf result Fault.Commands ⊎ (IsErrOf result Fault.Capture
+        ⊎ (IsErrOf result Fault.Refused ⊎ IsErrOf result Fault.TooLong))
         → NoneGrew (K.written text.old) (K.written text.new) (F.written frames.old) (F.written frames.new) }
     ensures commands { IsErrOf result Fault.Commands → HasRisen (H.faults shelf.old Part.Commands) (H.faults shelf.new Part.Commands) }
     ensures capture { IsErrOf result Fault.Capture → HasRisen (H.faults shelf.old Part.Capture) (H.faults shelf.new Part.Capture) }

@@ -45,7 +45,8 @@ fn see_bytes(alloc: Global, bytes: Vec<u8>) -> Result<Seen, Fault>
     ensures packets { IfOk result (λ seen. capture_of bytes.items ≡ Ok seen.packets) }
     ensures spans { IfOk result (λ seen. spans_of bytes.items ≡ Ok seen.spans) }
     ensures refused { IsErrOf result Fault.Refused → (cause : Cause) × (capture_of bytes.items ≡ Err cause) }
-    ensures kinds { IsErrOf result Fault.Commands ⊎ (IsErrOf result Fault.Capture ⊎ (IsErrOf result Fault.Write ⊎ IsErrOf result Fault.TooLong)) → ⊥ }
+    ensures kinds { IsErrOf result Fault.Commands ⊎ (IsErrOf result Fault.Capture
+        ⊎ (IsErrOf result Fault.Write ⊎ IsErrOf result Fault.TooLong)) → ⊥ }
 {
     let packets = match Capture::read(alloc, &bytes) {
         Ok(packets) => packets,
@@ -68,7 +69,8 @@ pub fn see_capture<H: Shelf>(
     shelf: &mut H,
     name: Option<&str>,
 ) -> Result<Seen, Fault>
-    ensures ok { IfOk result (λ seen. IsSeen (H.holds shelf.old) (option_map (λ s. s.now) name.entry) seen.bytes.items seen.packets seen.spans) }
+    ensures ok { IfOk result (λ seen. IsSeen (H.holds shelf.old)
+        (option_map (λ s. s.now) name.entry) seen.bytes.items seen.packets seen.spans) }
     ensures inside { IfOk result (λ seen. AreInside seen.bytes.items seen.spans) }
     ensures short { IfOk result (λ seen. length seen.bytes.items ≤ 268435456) }
     ensures capture { IsErrOf result Fault.Capture → HasRisen (H.faults shelf.old Part.Capture) (H.faults shelf.new Part.Capture) }

@@ -39,8 +39,10 @@ fn write_records<F: Sink>(
 ) -> Result<(), RunFault>
     requires inside { AreInside seen.now.bytes.items seen.now.spans }
     requires short { length seen.now.bytes.items ≤ 268435456 }
-    ensures ok { OnOk result (Appends (F.written frames.old) (F.written frames.new) (records_in seen.now.bytes.items seen.now.spans results.now)) }
-    ensures err { OnErr result (AppendsSome (F.written frames.old) (F.written frames.new) (records_in seen.now.bytes.items seen.now.spans results.now)) }
+    ensures ok { OnOk result (Appends (F.written frames.old) (F.written frames.new)
+        (records_in seen.now.bytes.items seen.now.spans results.now)) }
+    ensures err { OnErr result (AppendsSome (F.written frames.old) (F.written frames.new)
+        (records_in seen.now.bytes.items seen.now.spans results.now)) }
     ensures write { IsErrOf result RunFault.Write → HasRisen (F.faults frames.old) (F.faults frames.new) }
     ensures counted { F.faults frames.old ≤ F.faults frames.new }
 {
@@ -64,8 +66,10 @@ pub fn write_frames<F: Sink>(
 ) -> Result<(), RunFault>
     requires inside { AreInside seen.now.bytes.items seen.now.spans }
     requires short { length seen.now.bytes.items ≤ 268435456 }
-    ensures ok { OnOk result (Appends (F.written frames.old) (F.written frames.new) (frame_file seen.now.bytes.items seen.now.spans results.now)) }
-    ensures err { OnErr result (AppendsSome (F.written frames.old) (F.written frames.new) (frame_file seen.now.bytes.items seen.now.spans results.now)) }
+    ensures ok { OnOk result (Appends (F.written frames.old) (F.written frames.new)
+        (frame_file seen.now.bytes.items seen.now.spans results.now)) }
+    ensures err { OnErr result (AppendsSome (F.written frames.old) (F.written frames.new)
+        (frame_file seen.now.bytes.items seen.now.spans results.now)) }
     ensures write { IsErrOf result RunFault.Write → HasRisen (F.faults frames.old) (F.faults frames.new) }
     ensures counted { F.faults frames.old ≤ F.faults frames.new }
 {
@@ -81,8 +85,10 @@ pub fn write_expired<K: Sink>(
     results: &[(u32, Record)],
 ) -> Result<(), RunFault>
     requires { AreInside seen.now.bytes.items seen.now.spans }
-    ensures ok { OnOk result (Appends (K.written text.old) (K.written text.new) (expired_text seen.now.bytes.items seen.now.spans results.now)) }
-    ensures err { OnErr result (AppendsSome (K.written text.old) (K.written text.new) (expired_text seen.now.bytes.items seen.now.spans results.now)) }
+    ensures ok { OnOk result (Appends (K.written text.old) (K.written text.new)
+        (expired_text seen.now.bytes.items seen.now.spans results.now)) }
+    ensures err { OnErr result (AppendsSome (K.written text.old) (K.written text.new)
+        (expired_text seen.now.bytes.items seen.now.spans results.now)) }
     ensures write { IsErrOf result RunFault.Write → HasRisen (K.faults text.old) (K.faults text.new) }
     ensures counted { K.faults text.old ≤ K.faults text.new }
 {

@@ -54,7 +54,8 @@ pub fn frames_main<R: Threads + Wait + Sync, H: Shelf, K: Sink, F: Sink, G: Gate
     ensures unreadable { result ≡ 2 → HasRisen (H.faults shelf.old Part.Commands) (H.faults shelf.new Part.Commands) }
     ensures capture_unreadable { result ≡ 3 → HasRisen (H.faults shelf.old Part.Capture) (H.faults shelf.new Part.Capture) }
     ensures capture_opened { result ≡ 3 → MayOpen (H.holds shelf.old) (wanted (map string_bytes words.now)) }
-    ensures unwritten { result ≡ 4 → HasRisen (K.faults text.old) (K.faults text.new) ⊎ HasRisen (F.faults frames.old) (F.faults frames.new) }
+    ensures unwritten { result ≡ 4 → HasRisen (K.faults text.old) (K.faults text.new)
+        ⊎ HasRisen (F.faults frames.old) (F.faults frames.new) }
     ensures refused { result ≡ 5 → MayRefuse (H.holds shelf.old) (wanted (map string_bytes words.now)) }
     ensures too_long { result ≡ 7 → MayBeLong (H.holds shelf.old) (wanted (map string_bytes words.now)) }
 

@@ -46,7 +46,8 @@ fn come_one<'a>(
 ) -> bool
     requires of { IsOf control.old.plane.board.id station.worker }
     requires inside { station.done ≡ true → AllByRecursion (λ (f : FrameValue). f.number < length places.old) station.frames.items }
-    ensures home { (w : Seated) → station.entry.worker ≡ Some w → control.new ≡ with_board control.old (board_joined control.old.plane.board w.worker) }
+    ensures home { (w : Seated) → station.entry.worker ≡ Some w → control.new
+        ≡ with_board control.old (board_joined control.old.plane.board w.worker) }
     ensures ended { result ≡ station.entry.done }
     ensures places { result ≡ true → places.new ≡ placed places.old station.entry.frames.items }
     ensures long { length places.new ≡ length places.old }
@@ -80,14 +81,16 @@ fn come_home<'a>(
     taken: Taken,
     places: &mut [Option<Results>],
 ) -> bool
-    requires back { AreBack control.old.plane.board.id control.old.plane.board.rests taken.opened taken.first taken.base 0 (span packets.now.packets taken.first taken.to) crew.items }
+    requires back { AreBack control.old.plane.board.id control.old.plane.board.rests taken.opened taken.first taken.base 0
+        (span packets.now.packets taken.first taken.to) crew.items }
     requires others { (n : ℕ) → length crew.items ≤ n → slice_index_or control.old.plane.board.out n false ≡ false }
     requires places { length places.old ≡ frames (span packets.now.packets taken.first taken.to) }
     ensures same { control.new ≡ with_board control.old control.new.plane.board }
     ensures trails { control.new.plane.board.trails ≡ control.old.plane.board.trails ++ pasts_of crew.entry.items }
     ensures rests { control.new.plane.board.rests ≡ rests_of control.old.plane.board.rests crew.entry.items }
     ensures ended { result ≡ all_done crew.entry.items }
-    ensures come { IsComing taken.opened taken.first taken.base (length crew.entry.items) (span packets.now.packets taken.first taken.to) control.old.plane.board control.new.plane.board places.old places.new result [] }
+    ensures come { IsComing taken.opened taken.first taken.base (length crew.entry.items)
+        (span packets.now.packets taken.first taken.to) control.old.plane.board control.new.plane.board places.old places.new result [] }
 {
     let _packets = packets;
     let _taken = taken;
@@ -112,7 +115,8 @@ pub fn bring_home<'a>(
     taken: Taken,
     places: &mut [Option<Results>],
 ) -> bool
-    requires back { AreBack control.old.plane.board.id control.old.plane.board.rests taken.opened taken.first taken.base 0 (span packets.now.packets taken.first taken.to) crew.items }
+    requires back { AreBack control.old.plane.board.id control.old.plane.board.rests taken.opened taken.first taken.base 0
+        (span packets.now.packets taken.first taken.to) crew.items }
     requires others { (n : ℕ) → length crew.items ≤ n → slice_index_or control.old.plane.board.out n false ≡ false }
     requires places { length places.old ≡ frames (span packets.now.packets taken.first taken.to) }
     requires some { 0 < length crew.items }
@@ -126,8 +130,10 @@ pub fn bring_home<'a>(
     ensures ended { result ≡ all_done crew.entry.items }
     ensures none { NoneOut control.new.plane.board }
     ensures drawn { IsDrawnOnce control.new.plane.board.gathered }
-    ensures home { result ≡ true → IsHome taken.opened taken.first taken.base (length crew.entry.items) (span packets.now.packets taken.first taken.to) control.old.plane.board control.new.plane.board places.new }
-    ensures passes { result ≡ true → (n : ℕ) → left_of (slice_index control.old.plane.board.rests n) ≤ left_of (slice_index control.new.plane.board.rests n) + 256 * (frames (span packets.now.packets taken.first taken.to) + 1) }
+    ensures home { result ≡ true → IsHome taken.opened taken.first taken.base (length crew.entry.items)
+        (span packets.now.packets taken.first taken.to) control.old.plane.board control.new.plane.board places.new }
+    ensures passes { result ≡ true → (n : ℕ) → left_of (slice_index control.old.plane.board.rests n) ≤ left_of
+        (slice_index control.new.plane.board.rests n) + 256 * (frames (span packets.now.packets taken.first taken.to) + 1) }
     ensures long { length places.new ≡ length places.old }
 {
     let done = come_home(control, crew, packets, taken, places);

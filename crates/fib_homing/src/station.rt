@@ -67,15 +67,19 @@ fn work_all<'a, R: Threads + Sync, G: Gate>(
     requires inside { taken.to ≤ length packets.now.packets }
     requires ready { All (IsReady taken.opened (frames (span packets.now.packets taken.first taken.to))) crew.old }
     ensures long { length crew.new ≡ length crew.old }
-    ensures each { (i : ℕ) (d : StationValue) → i < length crew.old → HasDone taken.opened taken.first taken.base (span packets.now.packets taken.first taken.to) (slice_index_or crew.old i d) (slice_index_or crew.new i d) }
+    ensures each { (i : ℕ) (d : StationValue) → i < length crew.old
+        → HasDone taken.opened taken.first taken.base (span packets.now.packets taken.first taken.to) (slice_index_or crew.old i d)
+        (slice_index_or crew.new i d) }
 {
     for_each_mut(
         rt,
         crew,
         8,
         &|_, station: &mut Station| -> ()
-            requires { (taken.first ≤ taken.to) × (taken.to ≤ length packets.now.packets) × IsReady taken.opened (frames (span packets.now.packets taken.first taken.to)) station.now }
-            ensures { HasDone taken.opened taken.first taken.base (span packets.entry.now.packets taken.first taken.to) station.entry.now station.exit.now }
+            requires { (taken.first ≤ taken.to) × (taken.to ≤ length packets.now.packets)
+                × IsReady taken.opened (frames (span packets.now.packets taken.first taken.to)) station.now }
+            ensures { HasDone taken.opened taken.first taken.base
+                (span packets.entry.now.packets taken.first taken.to) station.entry.now station.exit.now }
         { work_at(alloc, packets, taken, gate, station) },
     );
 }
@@ -93,7 +97,8 @@ pub fn forward_all<'a, R: Threads + Sync, G: Gate>(
     requires inside { taken.to ≤ length packets.now.packets }
     requires ready { All (IsReady taken.opened (frames (span packets.now.packets taken.first taken.to))) crew.old.items }
     ensures long { length crew.new.items ≡ length crew.old.items }
-    ensures back { (b : Board) → IsCrew b 0 crew.old.items → AreBack b.id b.rests taken.opened taken.first taken.base 0 (span packets.now.packets taken.first taken.to) crew.new.items }
+    ensures back { (b : Board) → IsCrew b 0 crew.old.items → AreBack b.id b.rests taken.opened taken.first taken.base 0
+        (span packets.now.packets taken.first taken.to) crew.new.items }
 {
     work_all(rt, alloc, packets, taken, gate, crew.as_mut_slice());
 }
@@ -132,7 +137,9 @@ pub fn send_out<'a>(
     ensures sent { but_out control.new.plane.board ≡ but_out control.old.plane.board }
     ensures others { (n : ℕ) → workers ≤ n → slice_index_or control.new.plane.board.out n false ≡ false }
     ensures drawn { IsDrawnOnce control.old.plane.board.gathered }
-    ensures ready { (k count : ℕ) → AtLeast (version_at k) control.old.plane.board.log.version → ((n : ℕ) → n < workers → 256 * (count + 1) ≤ left_of (slice_index control.old.plane.board.rests n)) → count < 2 ^ 31 → All (IsReady k count) crew.new.items }
+    ensures ready { (k count : ℕ) → AtLeast (version_at k) control.old.plane.board.log.version
+        → ((n : ℕ) → n < workers → 256 * (count + 1) ≤ left_of (slice_index control.old.plane.board.rests n)) → count < 2 ^ 31
+        → All (IsReady k count) crew.new.items }
 {
     control.tells_board();
     for number in 0..workers {

@@ -33,7 +33,8 @@ pub fn run_lines<R: Wait, G: Gate, B: Board>(
     requires inside { from ≤ length script.now }
     requires lines { progress.old.lines ≡ from }
     requires few { applied_in control.old ≤ from }
-    ensures on { IfOk result (λ stop. GoesOn script.now from (stage_of control.old progress.old) text.old.items stop.place (stage_of control.new progress.new) text.new.items) }
+    ensures on { IfOk result (λ stop. GoesOn script.now from (stage_of control.old progress.old) text.old.items stop.place
+        (stage_of control.new progress.new) text.new.items) }
     ensures stops { IfOk result (λ stop. StopsAt (drop stop.place script.now) (router_of control.new progress.new) stop.asked) }
     ensures later { IfOk result (λ stop. from ≤ stop.place) }
     ensures inside { IfOk result (λ stop. stop.place ≤ length script.now) }

@@ -51,7 +51,8 @@ fn put_span(
 ) -> Result<(), AllocError>
     requires order { from ≤ to }
     requires inside { to ≤ length packets.now.packets }
-    ensures { OnOk result (text.new.items ≡ text.old.items ++ packets_text tables.now from (span packets.now.packets from to) (results_of results.now)) }
+    ensures { OnOk result (text.new.items ≡ text.old.items ++ packets_text tables.now from (span packets.now.packets from to)
+        (results_of results.now)) }
 {
     let mut rest = results;
     for at in from..to {
@@ -104,7 +105,8 @@ fn write_frame<K: Sink, T: Tap>(
     ensures err { OnErr result (AppendsSome (K.written out.old) (K.written out.new)
         (packets_text page.now.tables.now frame.from (span page.now.packets.now.packets frame.from frame.to) (results_of results.now.list))) }
     ensures took_some { OnErr result (TakesSome (T.taken tap.old) (T.taken tap.new) results.now.list) }
-    ensures write { IsErrOf result RunFault.Write → HasRisen (K.faults out.old) (K.faults out.new) ⊎ HasRisen (T.faults tap.old) (T.faults tap.new) }
+    ensures write { IsErrOf result RunFault.Write → HasRisen (K.faults out.old) (K.faults out.new)
+        ⊎ HasRisen (T.faults tap.old) (T.faults tap.new) }
     ensures counted { K.faults out.old ≤ K.faults out.new }
     ensures tapped { T.faults tap.old ≤ T.faults tap.new }
 {
@@ -143,7 +145,8 @@ pub fn write_frames<K: Sink, T: Tap>(
         (packets_text page.now.tables.now round.first (span page.now.packets.now.packets round.first round.to) (joined (parts_of places.now)))) }
     ensures took_some { OnErr result (TakesSome (T.taken tap.old) (T.taken tap.new)
         (numbered round.first (span page.now.packets.now.packets round.first round.to) (joined (parts_of places.now)))) }
-    ensures write { IsErrOf result RunFault.Write → HasRisen (K.faults out.old) (K.faults out.new) ⊎ HasRisen (T.faults tap.old) (T.faults tap.new) }
+    ensures write { IsErrOf result RunFault.Write → HasRisen (K.faults out.old) (K.faults out.new)
+        ⊎ HasRisen (T.faults tap.old) (T.faults tap.new) }
     ensures counted { K.faults out.old ≤ K.faults out.new }
     ensures tapped { T.faults tap.old ≤ T.faults tap.new }
 {

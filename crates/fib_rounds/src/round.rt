@@ -62,22 +62,31 @@ fn beside<'a, 'b, R: Threads + Wait + Sync, G: Gate>(
     requires lines { reading.old.progress.lines ≡ from }
     requires few { applied_in control.old ≤ from }
     ensures long { length crew.new.items ≡ length crew.old.items }
-    ensures back { (b : Board) → IsCrew b 0 crew.old.items → AreBack b.id b.rests taken.opened taken.first taken.base 0 (span task.now.packets.now.packets taken.first taken.to) crew.new.items }
-    ensures on { IfOk result (λ stop. GoesOn task.now.script.now from (stage_of control.old reading.old.progress) reading.old.text.items stop.place (stage_of control.new reading.new.progress) reading.new.text.items) }
-    ensures stops { IfOk result (λ stop. StopsAt (drop stop.place task.now.script.now) (router_of control.new reading.new.progress) stop.asked) }
+    ensures back { (b : Board) → IsCrew b 0 crew.old.items → AreBack b.id b.rests taken.opened taken.first taken.base 0
+        (span task.now.packets.now.packets taken.first taken.to) crew.new.items }
+    ensures on { IfOk result (λ stop. GoesOn task.now.script.now from
+        (stage_of control.old reading.old.progress) reading.old.text.items stop.place
+        (stage_of control.new reading.new.progress) reading.new.text.items) }
+    ensures stops { IfOk result (λ stop. StopsAt (drop stop.place task.now.script.now)
+        (router_of control.new reading.new.progress) stop.asked) }
     ensures later { IfOk result (λ stop. from ≤ stop.place) }
     ensures inside { IfOk result (λ stop. stop.place ≤ length task.now.script.now) }
     ensures short { IfOk result (λ stop. stop.place ≤ 65535) }
     ensures few { IfOk result (λ stop. applied_in control.new ≤ stop.place) }
     ensures lines { IfOk result (λ stop. reading.new.progress.lines ≡ lines_run stop.place stop.asked) }
-    ensures history { IfOk result (λ stop. IsHistory (stage_of control.old reading.old.progress) → IsHistory (stage_of control.new reading.new.progress)) }
+    ensures history { IfOk result (λ stop. IsHistory (stage_of control.old reading.old.progress)
+        → IsHistory (stage_of control.new reading.new.progress)) }
     ensures keeps { KeepsCrew control.old control.new }
 {
     let (_, stop) = join_mut(
         task.rt,
         &mut || -> ()
-            requires { (taken.first ≤ taken.to) × (taken.to ≤ length task.now.packets.now.packets) × All (IsReady taken.opened (frames (span task.now.packets.now.packets taken.first taken.to))) crew.now.items }
-            ensures { (length crew.exit.now.items ≡ length crew.entry.now.items) × ((b : Board) → IsCrew b 0 crew.entry.now.items → AreBack b.id b.rests taken.opened taken.first taken.base 0 (span task.entry.now.packets.now.packets taken.first taken.to) crew.exit.now.items) }
+            requires { (taken.first ≤ taken.to) × (taken.to ≤ length task.now.packets.now.packets)
+                × All (IsReady taken.opened (frames (span task.now.packets.now.packets taken.first taken.to))) crew.now.items }
+            ensures { (length crew.exit.now.items ≡ length crew.entry.now.items)
+                × ((b : Board) → IsCrew b 0 crew.entry.now.items
+                → AreBack b.id b.rests taken.opened taken.first taken.base 0
+                (span task.entry.now.packets.now.packets taken.first taken.to) crew.exit.now.items) }
         { forward_all(task.rt, task.alloc, task.packets, taken, task.gate, crew) },
         &mut || -> Result<Stop, AllocError>
             requires { (from ≤ length task.now.script.now) × (reading.now.progress.lines ≡ from) × (applied_in control.now ≤ from) }
@@ -123,7 +132,8 @@ fn forward_round<'a, R: Threads + Wait + Sync, G: Gate>(
     requires most { task.now.settings.workers ≤ 8 }
     requires short { round.place ≤ 65535 }
     ensures none { NoneOut control.new.plane.board }
-    ensures ran { IfOk result (λ f. HasForwardedRound task.now.script.now task.now.packets.now.packets round control.old reading.old.progress reading.old.text.items f.stop control.new reading.new.progress reading.new.text.items f.places.items) }
+    ensures ran { IfOk result
+        (λ f. HasForwardedRound task.now.script.now task.now.packets.now.packets round control.old reading.old.progress reading.old.text.items f.stop control.new reading.new.progress reading.new.text.items f.places.items) }
 {
     let taken = Taken {
         opened: control.version().applied,
@@ -156,7 +166,8 @@ fn run_alone<R: Threads + Wait + Sync, G: Gate>(
     requires few { applied_in control.old ≤ round.place }
     requires rests { (n : ℕ) × IsAtRest n round.place control.old }
     ensures none { NoneOut control.new.plane.board }
-    ensures ran { IfOk result (λ f. HasForwardedRound task.now.script.now task.now.packets.now.packets round control.old reading.old.progress reading.old.text.items f.stop control.new reading.new.progress reading.new.text.items f.places.items) }
+    ensures ran { IfOk result
+        (λ f. HasForwardedRound task.now.script.now task.now.packets.now.packets round control.old reading.old.progress reading.old.text.items f.stop control.new reading.new.progress reading.new.text.items f.places.items) }
 {
     let stop = run_lines(
         &task.means(),
@@ -240,7 +251,8 @@ fn run_beside<'a, R: Threads + Wait + Sync, G: Gate>(
     requires most { task.now.settings.workers ≤ 8 }
     requires short { round.place ≤ 65535 }
     ensures none { NoneOut control.new.plane.board }
-    ensures ran { IfOk result (λ f. HasForwardedRound task.now.script.now task.now.packets.now.packets round control.old reading.old.progress reading.old.text.items f.stop control.new reading.new.progress reading.new.text.items f.places.items) }
+    ensures ran { IfOk result
+        (λ f. HasForwardedRound task.now.script.now task.now.packets.now.packets round control.old reading.old.progress reading.old.text.items f.stop control.new reading.new.progress reading.new.text.items f.places.items) }
 {
     if round.first == round.to {
         return run_alone(task, control, reading, round);
@@ -279,11 +291,18 @@ pub fn run_round<'a, R: Threads + Wait + Sync, G: Gate>(
     requires none { reading.old.text.items ≡ [] }
     requires history { IsHistory (stage_of control.old reading.old.progress) }
     ensures none { NoneOut control.new.plane.board }
-    ensures ran { IfOk result (λ r. HasRun task.now.script.now task.now.packets.now (stage_of control.old reading.old.progress) round (closed_by (stage_of control.new reading.new.progress) r.next) r.next (joined (parts_of r.places.items)) (reading.new.text.items ++ packets_text (tables_in control.new) round.first (span task.now.packets.now.packets round.first round.to) (joined (parts_of r.places.items)))) }
-    ensures home { IfOk result (λ r. IsHome (applied_in control.old) round.first (length control.old.plane.board.gathered) task.now.settings.workers (span task.now.packets.now.packets round.first round.to) control.old.plane.board control.new.plane.board r.places.items) }
+    ensures ran { IfOk result (λ r. HasRun task.now.script.now task.now.packets.now (stage_of control.old reading.old.progress) round
+        (closed_by (stage_of control.new reading.new.progress) r.next) r.next (joined (parts_of r.places.items))
+        (reading.new.text.items ++ packets_text (tables_in control.new) round.first (span task.now.packets.now.packets round.first round.to)
+        (joined (parts_of r.places.items)))) }
+    ensures home { IfOk result (λ r. IsHome (applied_in control.old) round.first
+        (length control.old.plane.board.gathered) task.now.settings.workers
+        (span task.now.packets.now.packets round.first round.to) control.old.plane.board control.new.plane.board r.places.items) }
     ensures refused { IfOk result (λ r. r.refused ≡ (closed_by (stage_of control.new reading.new.progress) r.next).router.refused) }
     ensures settled { IfOk result (λ r. control.new.plane.board.log.version.settled ≡ applied_in control.new) }
-    ensures counts { IfOk result (λ r. counts_from task.now.packets.now task.now.script.now (closed_by (stage_of control.new reading.new.progress) r.next) r.next counts.new ≡ counts_from task.now.packets.now task.now.script.now (stage_of control.old reading.old.progress) (Some round) counts.old) }
+    ensures counts { IfOk result (λ r. counts_from task.now.packets.now task.now.script.now
+        (closed_by (stage_of control.new reading.new.progress) r.next) r.next counts.new
+        ≡ counts_from task.now.packets.now task.now.script.now (stage_of control.old reading.old.progress) (Some round) counts.old) }
     ensures may { IfOk result (λ r. IfSome r.next (MayOpen task.now.script.now task.now.packets.now.packets)) }
     ensures later { IfOk result (λ r. IfSome r.next (λ o. round.place < o.place)) }
     ensures follows { IfOk result (λ r. IfSome r.next (λ o. o.first ≡ round.to)) }
@@ -292,7 +311,8 @@ pub fn run_round<'a, R: Threads + Wait + Sync, G: Gate>(
     ensures small { IfOk result (λ r. IfSome r.next (λ o. IsSmall (o.first + o.first) counts.new)) }
     ensures rests { IfOk result (λ r. IfSome r.next (λ o. IsAtRest task.now.settings.workers o.place control.new)) }
     ensures history { IfOk result (λ r. IsHistory (stage_of control.new reading.new.progress)) }
-    ensures filled { IfOk result (λ r. AreFilled (applied_in control.old) round.first (history_in control.new) (span task.now.packets.now.packets round.first round.to) 0 r.places.items) }
+    ensures filled { IfOk result (λ r. AreFilled (applied_in control.old) round.first (history_in control.new)
+        (span task.now.packets.now.packets round.first round.to) 0 r.places.items) }
 {
     // that a script has at most 65,535 lines keeps the numbers of a round small
     let _lines = task.script.lines();

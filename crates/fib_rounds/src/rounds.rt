@@ -35,12 +35,14 @@ fn run_rounds<'a, R: Threads + Wait + Sync, K: Sink, T: Tap, G: Gate>(
 ) -> Result<Summary, RunFault>
     requires settings { InRange task.now.settings }
     requires fresh { IsNew task.now.settings.workers (task.now.settings.objects / 2) control.old }
-    ensures ok { OnOk result (GainsRun task.now.settings.workers (task.now.settings.objects / 2) task.now.script.now task.now.packets.now control.new
+    ensures ok { OnOk result (GainsRun task.now.settings.workers
+        (task.now.settings.objects / 2) task.now.script.now task.now.packets.now control.new
         (K.written out.old) (K.written out.new) (T.taken tap.old) (T.taken tap.new)) }
     ensures summary { IfOk result (λ s. s ≡ summary_of (task.now.settings.objects / 2) task.now.script.now task.now.packets.now) }
     ensures some { OnErr result (GainsPart (task.now.settings.objects / 2) task.now.script.now task.now.packets.now
         (K.written out.old) (K.written out.new) (T.taken tap.old) (T.taken tap.new)) }
-    ensures write { IsErrOf result RunFault.Write → HasRisen (K.faults out.old) (K.faults out.new) ⊎ HasRisen (T.faults tap.old) (T.faults tap.new) }
+    ensures write { IsErrOf result RunFault.Write → HasRisen (K.faults out.old) (K.faults out.new)
+        ⊎ HasRisen (T.faults tap.old) (T.faults tap.new) }
     ensures counted { K.faults out.old ≤ K.faults out.new }
     ensures tapped { T.faults tap.old ≤ T.faults tap.new }
     ensures none { NoneOut control.new.plane.board }
@@ -107,7 +109,8 @@ pub fn run_on<'a, R: Threads + Wait + Sync, K: Sink, T: Tap, G: Gate>(
     ensures summary { IfOk result (λ s. s ≡ summary_of (settings.objects / 2) script.now packets.now) }
     ensures some { OnErr result (GainsPart (settings.objects / 2) script.now packets.now
         (K.written out.old) (K.written out.new) (T.taken tap.old) (T.taken tap.new)) }
-    ensures write { IsErrOf result RunFault.Write → HasRisen (K.faults out.old) (K.faults out.new) ⊎ HasRisen (T.faults tap.old) (T.faults tap.new) }
+    ensures write { IsErrOf result RunFault.Write → HasRisen (K.faults out.old) (K.faults out.new)
+        ⊎ HasRisen (T.faults tap.old) (T.faults tap.new) }
     ensures counted { K.faults out.old ≤ K.faults out.new }
     ensures tapped { T.faults tap.old ≤ T.faults tap.new }
     ensures none { NoneOut control.new.plane.board }
@@ -144,7 +147,8 @@ pub fn run_to<R: Threads + Wait + Sync, K: Sink, T: Tap, G: Gate>(
     ensures summary { IfOk result (λ s. s ≡ summary_of (settings.objects / 2) script.now packets.now) }
     ensures some { OnErr result (GainsPart (settings.objects / 2) script.now packets.now
         (K.written out.old) (K.written out.new) (T.taken tap.old) (T.taken tap.new)) }
-    ensures write { IsErrOf result RunFault.Write → HasRisen (K.faults out.old) (K.faults out.new) ⊎ HasRisen (T.faults tap.old) (T.faults tap.new) }
+    ensures write { IsErrOf result RunFault.Write → HasRisen (K.faults out.old) (K.faults out.new)
+        ⊎ HasRisen (T.faults tap.old) (T.faults tap.new) }
     ensures counted { K.faults out.old ≤ K.faults out.new }
     ensures tapped { T.faults tap.old ≤ T.faults tap.new }
 {
@@ -178,7 +182,8 @@ pub fn run<R: Threads + Wait + Sync, K: Sink, G: Gate>(
     requires settings { InRange settings }
     ensures ok { OnOk result (Gains (Output (settings.objects / 2) script.now packets.now) (K.written out.old) (K.written out.new)) }
     ensures summary { IfOk result (λ s. s ≡ summary_of (settings.objects / 2) script.now packets.now) }
-    ensures some { OnErr result (Gains (FirstOutput (settings.objects / 2) script.now packets.now) (K.written out.old) (K.written out.new)) }
+    ensures some { OnErr result (Gains (FirstOutput (settings.objects / 2) script.now packets.now) (K.written out.old)
+        (K.written out.new)) }
     ensures write { IsErrOf result RunFault.Write → HasRisen (K.faults out.old) (K.faults out.new) }
     ensures counted { K.faults out.old ≤ K.faults out.new }
 {

@@ -31,15 +31,23 @@ pub fn begin<P: Objects>(
     queue: &mut Queue,
     entry: Prefix,
 ) -> Result<Plan, Want>
-    requires turn { (S : TablesValue) × StandsFor entries.now S × IsTurnOf S (rank_of entries.now.rows) (P.promise on.old) (P.view on.old) (parts_of table.old stack.old queue.old) entry }
+    requires turn { (S : TablesValue) × StandsFor entries.now S × IsTurnOf S (rank_of entries.now.rows) (P.promise on.old) (P.view on.old)
+        (parts_of table.old stack.old queue.old) entry }
     ensures entry { IfOk result (λ plan. plan.entry ≡ entry) }
-    ensures underway { (S : TablesValue) → StandsFor entries.now S → IsTurnOf S (rank_of entries.now.rows) (P.promise on.old) (P.view on.old) (parts_of table.old stack.old queue.old) entry → IfOk result (IsUnderway S (rank_of entries.now.rows) (P.promise on.old) (P.view on.old) (P.view on.new) (parts_of table.new stack.new queue.new)) }
-    ensures room { IfOk result (λ plan. HasRoomFor (P.view on.new) stack.new table.new queue.new (length plan.uses.items) (length plan.woken.items)) }
+    ensures underway { (S : TablesValue) → StandsFor entries.now S
+        → IsTurnOf S (rank_of entries.now.rows) (P.promise on.old) (P.view on.old) (parts_of table.old stack.old queue.old) entry
+        → IfOk result (IsUnderway S (rank_of entries.now.rows) (P.promise on.old) (P.view on.old) (P.view on.new)
+        (parts_of table.new stack.new queue.new)) }
+    ensures room { IfOk result (λ plan. HasRoomFor (P.view on.new) stack.new table.new queue.new (length plan.uses.items)
+        (length plan.woken.items)) }
     ensures parts { parts_of table.new stack.new queue.new ≡ parts_of table.old stack.old queue.old }
     ensures err { OnErr result (SamePlane (P.view on.old) (P.view on.new)) }
-    ensures short { (S : TablesValue) → StandsFor entries.now S → IsErrOf result Want.Object → (P.view on.old).free < 8 + length (marked_list S entry) }
-    ensures taken { (S : TablesValue) → StandsFor entries.now S → OnOk result (TookNew (P.view on.old) (P.view on.new) (records_for (marked_list S entry)) (balances_for (object_in table.old entry))) }
-    ensures lacks { (S : TablesValue) → StandsFor entries.now S → IsErrOf result Want.Object → LacksFor (P.view on.old) (records_for (marked_list S entry)) 8 }
+    ensures short { (S : TablesValue) → StandsFor entries.now S → IsErrOf result Want.Object
+        → (P.view on.old).free < 8 + length (marked_list S entry) }
+    ensures taken { (S : TablesValue) → StandsFor entries.now S → OnOk result
+        (TookNew (P.view on.old) (P.view on.new) (records_for (marked_list S entry)) (balances_for (object_in table.old entry))) }
+    ensures lacks { (S : TablesValue) → StandsFor entries.now S → IsErrOf result Want.Object
+        → LacksFor (P.view on.old) (records_for (marked_list S entry)) 8 }
     ensures quiet { (look : PrefixValue → Option ℕ) → IsQuiet look (P.view on.old) (P.view on.new) }
     ensures serves { (n : Names) → Serves (P.promise on.old) n (P.view on.old) → Serves (P.promise on.old) n (P.view on.new) }
     ensures promise { P.promise on.new ≡ P.promise on.old }

@@ -58,10 +58,16 @@ pub fn finish<P: Objects>(
     queue: &mut Queue,
     plan: Plan,
 ) -> u32
-    requires underway { (S : TablesValue) × (rank : PrefixValue → ℕ) × (v0 : View) × IsUnderway S rank (P.promise on.old) v0 (P.view on.old) (parts_of table.old stack.old queue.old) plan }
+    requires underway { (S : TablesValue) × (rank : PrefixValue → ℕ) × (v0 : View)
+        × IsUnderway S rank (P.promise on.old) v0 (P.view on.old) (parts_of table.old stack.old queue.old) plan }
     requires room { HasRoomFor (P.view on.old) stack.old table.old queue.old (length plan.uses.items) (length plan.woken.items) }
-    ensures turn { (S : TablesValue) (rank : PrefixValue → ℕ) (v0 : View) → IsUnderway S rank (P.promise on.old) v0 (P.view on.old) (parts_of table.old stack.old queue.old) plan → IsRestacked S plan.entry (state_in v0 (parts_of table.old stack.old queue.old)) (state_in (P.view on.new) (parts_of table.new stack.new queue.new)) }
-    ensures joined { (S : TablesValue) (rank : PrefixValue → ℕ) (v0 : View) → IsUnderway S rank (P.promise on.old) v0 (P.view on.old) (parts_of table.old stack.old queue.old) plan → Joined S rank (P.promise on.old) (P.view on.new) (parts_of table.new stack.new queue.new) }
+    ensures turn { (S : TablesValue) (rank : PrefixValue → ℕ) (v0 : View)
+        → IsUnderway S rank (P.promise on.old) v0 (P.view on.old) (parts_of table.old stack.old queue.old) plan
+        → IsRestacked S plan.entry (state_in v0 (parts_of table.old stack.old queue.old))
+        (state_in (P.view on.new) (parts_of table.new stack.new queue.new)) }
+    ensures joined { (S : TablesValue) (rank : PrefixValue → ℕ) (v0 : View)
+        → IsUnderway S rank (P.promise on.old) v0 (P.view on.old) (parts_of table.old stack.old queue.old) plan
+        → Joined S rank (P.promise on.old) (P.view on.new) (parts_of table.new stack.new queue.new) }
     ensures came { (count : ℕ) × Came (object_in table.old) plan.entry count × ((P.view on.old).free ≤ (P.view on.new).free + count) }
     ensures count { result ≡ late_count (late_at stack.new.late.members plan.entry) 16 }
     ensures stored { (P.view on.old).stored ≤ (P.view on.new).stored }

@@ -52,11 +52,18 @@ pub fn leave<P: Objects>(
     queue: &mut Queue,
     entry: Prefix,
 )
-    requires left { (S : TablesValue) × (rank : PrefixValue → ℕ) × IsRanked S rank × Joined S rank (P.promise on.old) (P.view on.old) (parts_of table.old stack.old queue.old) × IsLeast rank (state_in (P.view on.old) (parts_of table.old stack.old queue.old)) entry × (has_entry S entry ≡ false) }
+    requires left { (S : TablesValue) × (rank : PrefixValue → ℕ) × IsRanked S rank
+        × Joined S rank (P.promise on.old) (P.view on.old) (parts_of table.old stack.old queue.old)
+        × IsLeast rank (state_in (P.view on.old) (parts_of table.old stack.old queue.old)) entry × (has_entry S entry ≡ false) }
     requires prefix { 1 ≤ entry.len }
     requires spare { 16 * table.old.plies ≤ (P.view on.old).spare }
-    ensures turn { (S : TablesValue) (rank : PrefixValue → ℕ) → Joined S rank (P.promise on.old) (P.view on.old) (parts_of table.old stack.old queue.old) → Removed entry (state_in (P.view on.old) (parts_of table.old stack.old queue.old)) (state_in (P.view on.new) (parts_of table.new stack.new queue.new)) }
-    ensures joined { (S : TablesValue) (rank : PrefixValue → ℕ) → IsRanked S rank → Joined S rank (P.promise on.old) (P.view on.old) (parts_of table.old stack.old queue.old) → IsLeast rank (state_in (P.view on.old) (parts_of table.old stack.old queue.old)) entry → has_entry S entry ≡ false → Joined S rank (P.promise on.old) (P.view on.new) (parts_of table.new stack.new queue.new) }
+    ensures turn { (S : TablesValue) (rank : PrefixValue → ℕ) → Joined S rank (P.promise on.old) (P.view on.old)
+        (parts_of table.old stack.old queue.old) → Removed entry (state_in (P.view on.old) (parts_of table.old stack.old queue.old))
+        (state_in (P.view on.new) (parts_of table.new stack.new queue.new)) }
+    ensures joined { (S : TablesValue) (rank : PrefixValue → ℕ) → IsRanked S rank
+        → Joined S rank (P.promise on.old) (P.view on.old) (parts_of table.old stack.old queue.old)
+        → IsLeast rank (state_in (P.view on.old) (parts_of table.old stack.old queue.old)) entry → has_entry S entry ≡ false
+        → Joined S rank (P.promise on.old) (P.view on.new) (parts_of table.new stack.new queue.new) }
     ensures clear { (k : ℕ) → late_at stack.new.late.members entry k ≡ None }
     ensures free { (P.view on.old).free ≤ (P.view on.new).free }
     ensures stored { (P.view on.old).stored ≤ (P.view on.new).stored }

@@ -44,7 +44,8 @@ pub fn read(
     entry: Prefix,
 ) -> Result<Plan, AllocError>
     requires { (S : TablesValue) × StandsFor entries.now S }
-    ensures { (S : TablesValue) → StandsFor entries.now S → IfOk result (IsRead S (rank_of entries.now.rows) (was_in ledger.now.rows) entry) }
+    ensures { (S : TablesValue) → StandsFor entries.now S → IfOk result
+        (IsRead S (rank_of entries.now.rows) (was_in ledger.now.rows) entry) }
 {
     let marks = entries.marked(entry);
     let does = forwards(ledger, marks);

@@ -28,13 +28,20 @@ fn try_at<P: Objects>(
     queue: &Queue,
     place: u32,
 ) -> bool
-    requires joined { (S : TablesValue) × (rank : PrefixValue → ℕ) × Joined S rank (P.promise on.old) (P.view on.old) (parts_of table.now stack.old queue.now) }
+    requires joined { (S : TablesValue) × (rank : PrefixValue → ℕ)
+        × Joined S rank (P.promise on.old) (P.view on.old) (parts_of table.now stack.old queue.now) }
     requires place { place < length stack.old.late.members }
-    ensures retried { (S : TablesValue) (rank : PrefixValue → ℕ) → Joined S rank (P.promise on.old) (P.view on.old) (parts_of table.now stack.old queue.now) → Retried (state_in (P.view on.old) (parts_of table.now stack.old queue.now)) (state_in (P.view on.new) (parts_of table.now stack.new queue.now)) }
-    ensures joined { (S : TablesValue) (rank : PrefixValue → ℕ) → Joined S rank (P.promise on.old) (P.view on.old) (parts_of table.now stack.old queue.now) → Joined S rank (P.promise on.old) (P.view on.new) (parts_of table.now stack.new queue.now) }
+    ensures retried { (S : TablesValue) (rank : PrefixValue → ℕ)
+        → Joined S rank (P.promise on.old) (P.view on.old) (parts_of table.now stack.old queue.now)
+        → Retried (state_in (P.view on.old) (parts_of table.now stack.old queue.now))
+        (state_in (P.view on.new) (parts_of table.now stack.new queue.now)) }
+    ensures joined { (S : TablesValue) (rank : PrefixValue → ℕ) → Joined S rank (P.promise on.old) (P.view on.old)
+        (parts_of table.now stack.old queue.now) → Joined S rank (P.promise on.old) (P.view on.new)
+        (parts_of table.now stack.new queue.now) }
     ensures done { result ≡ true → stack.new.late.members ≡ remove stack.old.late.members place }
     ensures left { result ≡ false → stack.new.late.members ≡ stack.old.late.members }
-    ensures why { result ≡ false → (d : LateValue) → slice_index_or stack.old.late.members place d ≡ d → StaysLate (P.view on.new) (parts_of table.now stack.new queue.now) d.entry d.word }
+    ensures why { result ≡ false → (d : LateValue) → slice_index_or stack.old.late.members place d ≡ d
+        → StaysLate (P.view on.new) (parts_of table.now stack.new queue.now) d.entry d.word }
     ensures grew { Grew (P.view on.old) (P.view on.new) }
     ensures quiet { (look : PrefixValue → Option ℕ) → IsQuiet look (P.view on.old) (P.view on.new) }
     ensures promise { P.promise on.new ≡ P.promise on.old }
@@ -63,16 +70,28 @@ impl Stack {
     ///
     /// The deferred buckets of a queued prefix stay as they are until its turn. No room is asked for, since what these stores replace is no edge.
     pub fn retry<P: Objects>(&mut self, on: &mut P, table: &PrefixTable, queue: &Queue) -> u32
-        requires { (S : TablesValue) × (rank : PrefixValue → ℕ) × Joined S rank (P.promise on.old) (P.view on.old) (parts_of table.now self.old queue.now) }
-        ensures retried { (S : TablesValue) (rank : PrefixValue → ℕ) → Joined S rank (P.promise on.old) (P.view on.old) (parts_of table.now self.old queue.now) → Retried (state_in (P.view on.old) (parts_of table.now self.old queue.now)) (state_in (P.view on.new) (parts_of table.now self.new queue.now)) }
-        ensures joined { (S : TablesValue) (rank : PrefixValue → ℕ) → Joined S rank (P.promise on.old) (P.view on.old) (parts_of table.now self.old queue.now) → Joined S rank (P.promise on.new) (P.view on.new) (parts_of table.now self.new queue.now) }
+        requires { (S : TablesValue) × (rank : PrefixValue → ℕ) × Joined S rank (P.promise on.old) (P.view on.old)
+            (parts_of table.now self.old queue.now) }
+        ensures retried { (S : TablesValue) (rank : PrefixValue → ℕ)
+            → Joined S rank (P.promise on.old) (P.view on.old) (parts_of table.now self.old queue.now)
+            → Retried (state_in (P.view on.old) (parts_of table.now self.old queue.now))
+            (state_in (P.view on.new) (parts_of table.now self.new queue.now)) }
+        ensures joined { (S : TablesValue) (rank : PrefixValue → ℕ)
+            → Joined S rank (P.promise on.old) (P.view on.old) (parts_of table.now self.old queue.now)
+            → Joined S rank (P.promise on.new) (P.view on.new) (parts_of table.now self.new queue.now) }
         ensures left { result ≡ length self.new.late.members }
-        ensures why { (e : PrefixValue) (k : ℕ) (w : WordValue) → late_at self.new.late.members e k ≡ Some w → StaysLate (P.view on.new) (parts_of table.now self.new queue.now) e w }
-        ensures calm { (S : TablesValue) (rank : PrefixValue → ℕ) → IsRanked S rank → Joined S rank (P.promise on.old) (P.view on.old) (parts_of table.now self.old queue.now) → ((e : PrefixValue) → queued_in (parts_of table.now self.old queue.now) e ≡ false) → (P.view on.old).retired ≡ [] → result ≡ 0 }
+        ensures why { (e : PrefixValue) (k : ℕ) (w : WordValue) → late_at self.new.late.members e k ≡ Some w
+            → StaysLate (P.view on.new) (parts_of table.now self.new queue.now) e w }
+        ensures calm { (S : TablesValue) (rank : PrefixValue → ℕ) → IsRanked S rank
+            → Joined S rank (P.promise on.old) (P.view on.old) (parts_of table.now self.old queue.now)
+            → ((e : PrefixValue) → queued_in (parts_of table.now self.old queue.now) e ≡ false) → (P.view on.old).retired ≡ [] → result
+            ≡ 0 }
         ensures retired { (P.view on.new).retired ≡ (P.view on.old).retired }
         ensures quiet { (look : PrefixValue → Option ℕ) → IsQuiet look (P.view on.old) (P.view on.new) }
         ensures free { (P.view on.old).free ≤ (P.view on.new).free }
-        ensures room { (S : TablesValue) → HasRoomLeft S (P.view on.old).free (state_in (P.view on.old) (parts_of table.now self.old queue.now)) → HasRoomLeft S (P.view on.new).free (state_in (P.view on.new) (parts_of table.now self.new queue.now)) }
+        ensures room { (S : TablesValue) → HasRoomLeft S (P.view on.old).free
+            (state_in (P.view on.old) (parts_of table.now self.old queue.now))
+            → HasRoomLeft S (P.view on.new).free (state_in (P.view on.new) (parts_of table.now self.new queue.now)) }
         ensures stored { (P.view on.old).stored ≤ (P.view on.new).stored }
         ensures promise { P.promise on.new ≡ P.promise on.old }
     {

@@ -18,7 +18,8 @@ pub fn fill<P: Objects>(on: &mut P, object: u32, words: &[Word; 16]) -> [Put; 16
     requires spare { 16 ≤ (P.view on.old).spare }
     requires ready { (n : Names) × AreReady (P.promise on.old) n (P.view on.old) object 0 words.now }
     ensures puts { Puts (P.view on.old) object 0 words.now result (P.view on.new) }
-    ensures ready { (n : Names) → AreReady (P.promise on.old) n (P.view on.old) object 0 words.now → AreReady (P.promise on.old) n (P.view on.new) object 16 words.now }
+    ensures ready { (n : Names) → AreReady (P.promise on.old) n (P.view on.old) object 0 words.now
+        → AreReady (P.promise on.old) n (P.view on.new) object 16 words.now }
     ensures quiet { (look : Prefix → Option ℕ) → IsQuiet look (P.view on.old) (P.view on.new) }
     ensures balance { IsBalance (P.view on.new) object }
     ensures spare { (P.view on.old).spare ≤ (P.view on.new).spare + 16 }

@@ -54,7 +54,8 @@ impl Stack {
 
     /// An adjacency record that is used is used by a prefix. Does nothing.
     pub fn tells(&self)
-        ensures { (m : Record) → 0 < total self.now.ledger.rows m → (e : PrefixValue) × (0 < times m (used_by (known_of self.now.ledger.rows e))) }
+        ensures { (m : Record) → 0 < total self.now.ledger.rows m → (e : PrefixValue)
+            × (0 < times m (used_by (known_of self.now.ledger.rows e))) }
     {
         self.ledger.tells();
     }

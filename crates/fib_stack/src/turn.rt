@@ -58,17 +58,29 @@ fn restack<P: Objects>(
     queue: &mut Queue,
     entry: Prefix,
 ) -> Result<u32, Want>
-    requires turn { (S : TablesValue) × StandsFor entries.now S × IsTurnOf S (rank_of entries.now.rows) (P.promise on.old) (P.view on.old) (parts_of table.old stack.old queue.old) entry }
-    ensures turn { (S : TablesValue) → StandsFor entries.now S → IsTurnOf S (rank_of entries.now.rows) (P.promise on.old) (P.view on.old) (parts_of table.old stack.old queue.old) entry → OnOk result (IsRestacked S entry (state_in (P.view on.old) (parts_of table.old stack.old queue.old)) (state_in (P.view on.new) (parts_of table.new stack.new queue.new))) }
-    ensures joined { (S : TablesValue) → StandsFor entries.now S → IsTurnOf S (rank_of entries.now.rows) (P.promise on.old) (P.view on.old) (parts_of table.old stack.old queue.old) entry → Joined S (rank_of entries.now.rows) (P.promise on.old) (P.view on.new) (parts_of table.new stack.new queue.new) }
+    requires turn { (S : TablesValue) × StandsFor entries.now S × IsTurnOf S (rank_of entries.now.rows) (P.promise on.old) (P.view on.old)
+        (parts_of table.old stack.old queue.old) entry }
+    ensures turn { (S : TablesValue) → StandsFor entries.now S → IsTurnOf S (rank_of entries.now.rows) (P.promise on.old) (P.view on.old)
+        (parts_of table.old stack.old queue.old) entry → OnOk result
+        (IsRestacked S entry (state_in (P.view on.old) (parts_of table.old stack.old queue.old))
+        (state_in (P.view on.new) (parts_of table.new stack.new queue.new))) }
+    ensures joined { (S : TablesValue) → StandsFor entries.now S
+        → IsTurnOf S (rank_of entries.now.rows) (P.promise on.old) (P.view on.old) (parts_of table.old stack.old queue.old) entry
+        → Joined S (rank_of entries.now.rows) (P.promise on.old) (P.view on.new) (parts_of table.new stack.new queue.new) }
     ensures count { IfOk result (λ n. n ≡ late_count (late_at stack.new.late.members entry) 16) }
     ensures stored { OnOk result ((P.view on.old).stored ≤ (P.view on.new).stored) }
     ensures err { OnErr result (SamePlane (P.view on.old) (P.view on.new)) }
     ensures parts { OnErr result (parts_of table.new stack.new queue.new ≡ parts_of table.old stack.old queue.old) }
-    ensures short { (S : TablesValue) → StandsFor entries.now S → IsErrOf result Want.Object → (P.view on.old).free < 8 + length (marked_list S entry) }
+    ensures short { (S : TablesValue) → StandsFor entries.now S → IsErrOf result Want.Object
+        → (P.view on.old).free < 8 + length (marked_list S entry) }
     ensures quiet { OnErr result ((look : PrefixValue → Option ℕ) → IsQuiet look (P.view on.old) (P.view on.new)) }
-    ensures finds { (S : TablesValue) → StandsFor entries.now S → IsTurnOf S (rank_of entries.now.rows) (P.promise on.old) (P.view on.old) (parts_of table.old stack.old queue.old) entry → HasRoomLeft S (P.view on.old).free (state_in (P.view on.old) (parts_of table.old stack.old queue.old)) → IsErrOf result Want.Object → ⊥ }
-    ensures left { (S : TablesValue) → StandsFor entries.now S → IsTurnOf S (rank_of entries.now.rows) (P.promise on.old) (P.view on.old) (parts_of table.old stack.old queue.old) entry → HasRoomLeft S (P.view on.old).free (state_in (P.view on.old) (parts_of table.old stack.old queue.old)) → HasRoomLeft S (P.view on.new).free (state_in (P.view on.new) (parts_of table.new stack.new queue.new)) }
+    ensures finds { (S : TablesValue) → StandsFor entries.now S → IsTurnOf S (rank_of entries.now.rows) (P.promise on.old) (P.view on.old)
+        (parts_of table.old stack.old queue.old) entry → HasRoomLeft S (P.view on.old).free
+        (state_in (P.view on.old) (parts_of table.old stack.old queue.old)) → IsErrOf result Want.Object → ⊥ }
+    ensures left { (S : TablesValue) → StandsFor entries.now S → IsTurnOf S (rank_of entries.now.rows) (P.promise on.old) (P.view on.old)
+        (parts_of table.old stack.old queue.old) entry → HasRoomLeft S (P.view on.old).free
+        (state_in (P.view on.old) (parts_of table.old stack.old queue.old))
+        → HasRoomLeft S (P.view on.new).free (state_in (P.view on.new) (parts_of table.new stack.new queue.new)) }
     ensures promise { P.promise on.new ≡ P.promise on.old }
 {
     let plan = begin(on, stack, entries, table, queue, entry)?;
@@ -83,10 +95,18 @@ fn drop_out<P: Objects>(
     queue: &mut Queue,
     entry: Prefix,
 ) -> Result<u32, Want>
-    requires left { (S : TablesValue) × (rank : PrefixValue → ℕ) × IsRanked S rank × Joined S rank (P.promise on.old) (P.view on.old) (parts_of table.old stack.old queue.old) × IsLeast rank (state_in (P.view on.old) (parts_of table.old stack.old queue.old)) entry × (has_entry S entry ≡ false) }
+    requires left { (S : TablesValue) × (rank : PrefixValue → ℕ) × IsRanked S rank
+        × Joined S rank (P.promise on.old) (P.view on.old) (parts_of table.old stack.old queue.old)
+        × IsLeast rank (state_in (P.view on.old) (parts_of table.old stack.old queue.old)) entry × (has_entry S entry ≡ false) }
     requires prefix { 1 ≤ entry.len }
-    ensures turn { (S : TablesValue) (rank : PrefixValue → ℕ) → Joined S rank (P.promise on.old) (P.view on.old) (parts_of table.old stack.old queue.old) → OnOk result (Removed entry (state_in (P.view on.old) (parts_of table.old stack.old queue.old)) (state_in (P.view on.new) (parts_of table.new stack.new queue.new))) }
-    ensures joined { (S : TablesValue) (rank : PrefixValue → ℕ) → IsRanked S rank → Joined S rank (P.promise on.old) (P.view on.old) (parts_of table.old stack.old queue.old) → IsLeast rank (state_in (P.view on.old) (parts_of table.old stack.old queue.old)) entry → has_entry S entry ≡ false → Joined S rank (P.promise on.old) (P.view on.new) (parts_of table.new stack.new queue.new) }
+    ensures turn { (S : TablesValue) (rank : PrefixValue → ℕ) → Joined S rank (P.promise on.old) (P.view on.old)
+        (parts_of table.old stack.old queue.old) → OnOk result (Removed entry
+        (state_in (P.view on.old) (parts_of table.old stack.old queue.old))
+        (state_in (P.view on.new) (parts_of table.new stack.new queue.new))) }
+    ensures joined { (S : TablesValue) (rank : PrefixValue → ℕ) → IsRanked S rank
+        → Joined S rank (P.promise on.old) (P.view on.old) (parts_of table.old stack.old queue.old)
+        → IsLeast rank (state_in (P.view on.old) (parts_of table.old stack.old queue.old)) entry → has_entry S entry ≡ false
+        → Joined S rank (P.promise on.old) (P.view on.new) (parts_of table.new stack.new queue.new) }
     ensures count { IfOk result (λ n. n ≡ late_count (late_at stack.new.late.members entry) 16) }
     ensures stored { OnOk result ((P.view on.old).stored ≤ (P.view on.new).stored) }
     ensures free { OnOk result ((P.view on.old).free ≤ (P.view on.new).free) }
@@ -112,17 +132,35 @@ fn take<P: Objects>(
     queue: &mut Queue,
     entry: Prefix,
 ) -> Result<u32, Want>
-    requires turn { (S : TablesValue) × StandsFor entries.now S × Joined S (rank_of entries.now.rows) (P.promise on.old) (P.view on.old) (parts_of table.old stack.old queue.old) × IsLeast (rank_of entries.now.rows) (state_in (P.view on.old) (parts_of table.old stack.old queue.old)) entry }
-    ensures turn { (S : TablesValue) → StandsFor entries.now S → Joined S (rank_of entries.now.rows) (P.promise on.old) (P.view on.old) (parts_of table.old stack.old queue.old) → IsLeast (rank_of entries.now.rows) (state_in (P.view on.old) (parts_of table.old stack.old queue.old)) entry → OnOk result (IsTaken S (rank_of entries.now.rows) entry (state_in (P.view on.old) (parts_of table.old stack.old queue.old)) (state_in (P.view on.new) (parts_of table.new stack.new queue.new))) }
-    ensures joined { (S : TablesValue) → StandsFor entries.now S → Joined S (rank_of entries.now.rows) (P.promise on.old) (P.view on.old) (parts_of table.old stack.old queue.old) → IsLeast (rank_of entries.now.rows) (state_in (P.view on.old) (parts_of table.old stack.old queue.old)) entry → Joined S (rank_of entries.now.rows) (P.promise on.old) (P.view on.new) (parts_of table.new stack.new queue.new) }
+    requires turn { (S : TablesValue) × StandsFor entries.now S × Joined S (rank_of entries.now.rows) (P.promise on.old) (P.view on.old)
+        (parts_of table.old stack.old queue.old) × IsLeast (rank_of entries.now.rows)
+        (state_in (P.view on.old) (parts_of table.old stack.old queue.old)) entry }
+    ensures turn { (S : TablesValue) → StandsFor entries.now S → Joined S (rank_of entries.now.rows) (P.promise on.old) (P.view on.old)
+        (parts_of table.old stack.old queue.old) → IsLeast (rank_of entries.now.rows)
+        (state_in (P.view on.old) (parts_of table.old stack.old queue.old)) entry
+        → OnOk result (IsTaken S (rank_of entries.now.rows) entry (state_in (P.view on.old) (parts_of table.old stack.old queue.old))
+        (state_in (P.view on.new) (parts_of table.new stack.new queue.new))) }
+    ensures joined { (S : TablesValue) → StandsFor entries.now S
+        → Joined S (rank_of entries.now.rows) (P.promise on.old) (P.view on.old) (parts_of table.old stack.old queue.old)
+        → IsLeast (rank_of entries.now.rows) (state_in (P.view on.old) (parts_of table.old stack.old queue.old)) entry
+        → Joined S (rank_of entries.now.rows) (P.promise on.old) (P.view on.new) (parts_of table.new stack.new queue.new) }
     ensures count { IfOk result (λ n. n ≡ late_count (late_at stack.new.late.members entry) 16) }
     ensures stored { OnOk result ((P.view on.old).stored ≤ (P.view on.new).stored) }
     ensures err { OnErr result (SamePlane (P.view on.old) (P.view on.new)) }
     ensures parts { OnErr result (parts_of table.new stack.new queue.new ≡ parts_of table.old stack.old queue.old) }
-    ensures short { (S : TablesValue) → StandsFor entries.now S → IsErrOf result Want.Object → (P.view on.old).free < 8 + length (marked_list S entry) }
+    ensures short { (S : TablesValue) → StandsFor entries.now S → IsErrOf result Want.Object
+        → (P.view on.old).free < 8 + length (marked_list S entry) }
     ensures quiet { OnErr result ((look : PrefixValue → Option ℕ) → IsQuiet look (P.view on.old) (P.view on.new)) }
-    ensures finds { (S : TablesValue) → StandsFor entries.now S → Joined S (rank_of entries.now.rows) (P.promise on.old) (P.view on.old) (parts_of table.old stack.old queue.old) → IsLeast (rank_of entries.now.rows) (state_in (P.view on.old) (parts_of table.old stack.old queue.old)) entry → HasRoomLeft S (P.view on.old).free (state_in (P.view on.old) (parts_of table.old stack.old queue.old)) → IsErrOf result Want.Object → ⊥ }
-    ensures left { (S : TablesValue) → StandsFor entries.now S → Joined S (rank_of entries.now.rows) (P.promise on.old) (P.view on.old) (parts_of table.old stack.old queue.old) → IsLeast (rank_of entries.now.rows) (state_in (P.view on.old) (parts_of table.old stack.old queue.old)) entry → HasRoomLeft S (P.view on.old).free (state_in (P.view on.old) (parts_of table.old stack.old queue.old)) → HasRoomLeft S (P.view on.new).free (state_in (P.view on.new) (parts_of table.new stack.new queue.new)) }
+    ensures finds { (S : TablesValue) → StandsFor entries.now S → Joined S (rank_of entries.now.rows) (P.promise on.old) (P.view on.old)
+        (parts_of table.old stack.old queue.old) → IsLeast (rank_of entries.now.rows)
+        (state_in (P.view on.old) (parts_of table.old stack.old queue.old)) entry
+        → HasRoomLeft S (P.view on.old).free (state_in (P.view on.old) (parts_of table.old stack.old queue.old))
+        → IsErrOf result Want.Object → ⊥ }
+    ensures left { (S : TablesValue) → StandsFor entries.now S → Joined S (rank_of entries.now.rows) (P.promise on.old) (P.view on.old)
+        (parts_of table.old stack.old queue.old) → IsLeast (rank_of entries.now.rows)
+        (state_in (P.view on.old) (parts_of table.old stack.old queue.old)) entry
+        → HasRoomLeft S (P.view on.old).free (state_in (P.view on.old) (parts_of table.old stack.old queue.old))
+        → HasRoomLeft S (P.view on.new).free (state_in (P.view on.new) (parts_of table.new stack.new queue.new)) }
     ensures promise { P.promise on.new ≡ P.promise on.old }
 {
     let _length = entry.len();
@@ -148,17 +186,25 @@ impl Stack {
         queue: &mut Queue,
     ) -> Result<Turn, Want>
         requires stands { StandsFor entries.now tables.now }
-        requires joined { Joined tables.now (rank_of entries.now.rows) (P.promise on.old) (P.view on.old) (parts_of table.old self.old queue.old) }
-        ensures turn { IfOk result (λ t. TurnDone tables.now (rank_of entries.now.rows) t (state_in (P.view on.old) (parts_of table.old self.old queue.old)) (state_in (P.view on.new) (parts_of table.new self.new queue.new))) }
-        ensures joined { Joined tables.now (rank_of entries.now.rows) (P.promise on.new) (P.view on.new) (parts_of table.new self.new queue.new) }
+        requires joined { Joined tables.now (rank_of entries.now.rows) (P.promise on.old) (P.view on.old)
+            (parts_of table.old self.old queue.old) }
+        ensures turn { IfOk result (λ t. TurnDone tables.now (rank_of entries.now.rows) t
+            (state_in (P.view on.old) (parts_of table.old self.old queue.old))
+            (state_in (P.view on.new) (parts_of table.new self.new queue.new))) }
+        ensures joined { Joined tables.now (rank_of entries.now.rows) (P.promise on.new) (P.view on.new)
+            (parts_of table.new self.new queue.new) }
         ensures dropped { IfOk result (λ t. IsCounted t self.new.late.members) }
         ensures stores { IfOk result (λ t. IsStored t (P.view on.old).stored (P.view on.new).stored) }
         ensures err { OnErr result (SamePlane (P.view on.old) (P.view on.new)) }
         ensures parts { OnErr result (parts_of table.new self.new queue.new ≡ parts_of table.old self.old queue.old) }
-        ensures short { IsErrOf result Want.Object → (e : PrefixValue) × IsLeast (rank_of entries.now.rows) (state_in (P.view on.old) (parts_of table.old self.old queue.old)) e × ((P.view on.old).free < 8 + length (marked_list tables.now e)) }
+        ensures short { IsErrOf result Want.Object → (e : PrefixValue)
+            × IsLeast (rank_of entries.now.rows) (state_in (P.view on.old) (parts_of table.old self.old queue.old)) e
+            × ((P.view on.old).free < 8 + length (marked_list tables.now e)) }
         ensures quiet { OnErr result ((look : PrefixValue → Option ℕ) → IsQuiet look (P.view on.old) (P.view on.new)) }
-        ensures finds { HasRoomLeft tables.now (P.view on.old).free (state_in (P.view on.old) (parts_of table.old self.old queue.old)) → IsErrOf result Want.Object → ⊥ }
-        ensures left { HasRoomLeft tables.now (P.view on.old).free (state_in (P.view on.old) (parts_of table.old self.old queue.old)) → HasRoomLeft tables.now (P.view on.new).free (state_in (P.view on.new) (parts_of table.new self.new queue.new)) }
+        ensures finds { HasRoomLeft tables.now (P.view on.old).free (state_in (P.view on.old) (parts_of table.old self.old queue.old))
+            → IsErrOf result Want.Object → ⊥ }
+        ensures left { HasRoomLeft tables.now (P.view on.old).free (state_in (P.view on.old) (parts_of table.old self.old queue.old))
+            → HasRoomLeft tables.now (P.view on.new).free (state_in (P.view on.new) (parts_of table.new self.new queue.new)) }
         ensures promise { P.promise on.new ≡ P.promise on.old }
     {
         let before = on.stored();

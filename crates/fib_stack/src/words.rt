@@ -67,7 +67,8 @@ fn found(uses: &[Use], end: &End) -> Option<u32>
 }
 
 fn end_word(uses: &[Use], end: &End) -> Word
-    ensures { (balances : PrefixValue → Option ℕ) → result ≡ end_word (record { balance = balances; record_of = found_in uses.now }) end.now }
+    ensures { (balances : PrefixValue → Option ℕ) → result ≡ end_word
+        (record { balance = balances; record_of = found_in uses.now }) end.now }
 {
     match end {
         End::Drop => Word::Drop,
@@ -121,7 +122,8 @@ fn word_for(table: &PrefixTable, uses: &[Use], last: &mut Option<Latest>, aim: A
 /// The word of each bucket, by the paths at the buckets.
 pub fn words_of(table: &PrefixTable, uses: &[Use], wanted: &[Marked]) -> [Word; 16]
     ensures sixteen { length result ≡ 16 }
-    ensures words { (k : ℕ) → k < 16 → word_in result k ≡ aim_word (record { balance = object_in table.now; record_of = found_in uses.now }) (aim_of (slice_get wanted.now k)) }
+    ensures words { (k : ℕ) → k < 16 → word_in result k ≡ aim_word (record { balance = object_in table.now; record_of = found_in uses.now })
+        (aim_of (slice_get wanted.now k)) }
 {
     let mut words = [Word::Drop; 16];
     let mut last = None;

@@ -73,7 +73,8 @@ fn next_balance<P: Objects>(on: &mut P, table: &PrefixTable) -> Result<u32, Trou
 
 // Whether the prefix may be added.
 fn may_add<P: Objects>(on: &P, table: &PrefixTable, prefix: Prefix) -> bool
-    ensures { IsTrue result → (1 ≤ prefix.len) × (object_in table.now prefix ≡ None) × (7 ≤ (P.view on.now).free) × (table.now.plies ≤ 131072) }
+    ensures { IsTrue result → (1 ≤ prefix.len) × (object_in table.now prefix ≡ None) × (7 ≤ (P.view on.now).free)
+        × (table.now.plies ≤ 131072) }
 {
     if prefix.len() == 0 {
         return false;

@@ -44,7 +44,9 @@ fn commit<R: Wait, G: Gate, B: Board>(
     requires few { applied_in control.old < progress.old.lines }
     requires taken { Taken progress.old batch.now }
     requires alone { progress.old.batch ≡ None }
-    ensures did { HasTurned (router_of control.old progress.old) (commit_turn progress.old.lines (router_of control.old progress.old) batch.now) control.old control.new progress.new out.old.items out.new.items result }
+    ensures did { HasTurned (router_of control.old progress.old)
+        (commit_turn progress.old.lines
+        (router_of control.old progress.old) batch.now) control.old control.new progress.new out.old.items out.new.items result }
     ensures lines { progress.new.lines ≡ progress.old.lines }
 {
     let number = progress.lines();
@@ -116,7 +118,9 @@ pub fn within<R: Wait, G: Gate, B: Board>(
     requires few { applied_in control.old < progress.old.lines }
     requires taken { Taken progress.old batch }
     requires alone { progress.old.batch ≡ None }
-    ensures did { HasTurned (router_of control.old progress.old) (within progress.old.lines (router_of control.old progress.old) batch said) control.old control.new progress.new out.old.items out.new.items result }
+    ensures did { HasTurned (router_of control.old progress.old)
+        (within progress.old.lines
+        (router_of control.old progress.old) batch said) control.old control.new progress.new out.old.items out.new.items result }
     ensures lines { progress.new.lines ≡ progress.old.lines }
 {
     let Some(line) = said else {

@@ -64,7 +64,8 @@ fn run_said<R: Wait, G: Gate, B: Board>(
     requires few { applied_in control.old < progress.old.lines }
     requires fewer { progress.old.refused < progress.old.lines }
     requires alone { progress.old.batch ≡ None }
-    ensures did { HasTurned (router_of control.old progress.old) (change_line text.now progress.old.lines (router_of control.old progress.old) said)
+    ensures did { HasTurned (router_of control.old progress.old)
+        (change_line text.now progress.old.lines (router_of control.old progress.old) said)
         control.old control.new progress.new out.old.items out.new.items result }
     ensures lines { progress.new.lines ≡ progress.old.lines }
 {

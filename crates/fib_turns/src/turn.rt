@@ -40,7 +40,9 @@ pub fn change<R: Wait, G: Gate, B: Board>(
     requires few { applied_in control.old < progress.old.lines }
     requires fewer { progress.old.refused < progress.old.lines }
     requires alone { progress.old.batch ≡ None }
-    ensures did { HasTurned (router_of control.old progress.old) (change_turn progress.old.lines (router_of control.old progress.old) edit.now) control.old control.new progress.new out.old.items out.new.items result }
+    ensures did { HasTurned (router_of control.old progress.old)
+        (change_turn progress.old.lines
+        (router_of control.old progress.old) edit.now) control.old control.new progress.new out.old.items out.new.items result }
     ensures lines { progress.new.lines ≡ progress.old.lines }
 {
     let number = progress.lines();
@@ -165,7 +167,9 @@ fn alone<R: Wait, G: Gate, B: Board>(
     requires few { applied_in control.old < progress.old.lines }
     requires fewer { progress.old.refused < progress.old.lines }
     requires alone { progress.old.batch ≡ None }
-    ensures did { HasTurned (router_of control.old progress.old) (alone progress.old.lines (router_of control.old progress.old) (Some line)) control.old control.new progress.new out.old.items out.new.items result }
+    ensures did { HasTurned (router_of control.old progress.old)
+        (alone progress.old.lines (router_of control.old progress.old)
+        (Some line)) control.old control.new progress.new out.old.items out.new.items result }
     ensures lines { progress.new.lines ≡ progress.old.lines }
     ensures asks { IfOk result (λ count. count ≡ asks_in None (Some line)) }
 {
@@ -210,7 +214,9 @@ fn alone_or_syntax<R: Wait, G: Gate, B: Board>(
     requires few { applied_in control.old < progress.old.lines }
     requires fewer { progress.old.refused < progress.old.lines }
     requires alone { progress.old.batch ≡ None }
-    ensures did { HasTurned (router_of control.old progress.old) (alone progress.old.lines (router_of control.old progress.old) said) control.old control.new progress.new out.old.items out.new.items result }
+    ensures did { HasTurned (router_of control.old progress.old)
+        (alone progress.old.lines
+        (router_of control.old progress.old) said) control.old control.new progress.new out.old.items out.new.items result }
     ensures lines { progress.new.lines ≡ progress.old.lines }
     ensures asks { IfOk result (λ count. count ≡ asks_in None said) }
 {
@@ -235,7 +241,9 @@ fn run<R: Wait, G: Gate, B: Board>(
     requires written { IfSome said IsWrittenLine }
     requires few { applied_in control.old ≤ progress.old.lines }
     requires most { progress.old.lines < 2 ^ 32 - 1 }
-    ensures did { HasTurned (router_of control.old progress.old) (turn_in progress.old.batch (progress.old.lines + 1) (router_of control.old progress.old) said) control.old control.new progress.new out.old.items out.new.items result }
+    ensures did { HasTurned (router_of control.old progress.old)
+        (turn_in progress.old.batch (progress.old.lines + 1)
+        (router_of control.old progress.old) said) control.old control.new progress.new out.old.items out.new.items result }
     ensures asks { IfOk result (λ count. count ≡ asks_in progress.old.batch said) }
     ensures lines { progress.new.lines ≡ progress.old.lines + 1 }
 {
@@ -267,10 +275,13 @@ pub fn run_line<R: Wait, G: Gate, B: Board>(
 ) -> Result<Option<u32>, AllocError>
     requires few { applied_in control.old ≤ progress.old.lines }
     requires most { progress.old.lines < 2 ^ 32 - 1 }
-    ensures router { OnOk result (router_of control.new progress.new ≡ (turn_of (progress.old.lines + 1) (router_of control.old progress.old) line.now).0) }
-    ensures text { OnOk result (out.new.items ≡ out.old.items ++ (turn_of (progress.old.lines + 1) (router_of control.old progress.old) line.now).1) }
+    ensures router { OnOk result (router_of control.new progress.new
+        ≡ (turn_of (progress.old.lines + 1) (router_of control.old progress.old) line.now).0) }
+    ensures text { OnOk result (out.new.items ≡ out.old.items ++
+        (turn_of (progress.old.lines + 1) (router_of control.old progress.old) line.now).1) }
     ensures asks { IfOk result (λ count. count ≡ asks (router_of control.old progress.old) line.now) }
-    ensures stands { Stands control.new (router_of control.old progress.old) (turn_of (progress.old.lines + 1) (router_of control.old progress.old) line.now).0 }
+    ensures stands { Stands control.new (router_of control.old progress.old)
+        (turn_of (progress.old.lines + 1) (router_of control.old progress.old) line.now).0 }
     ensures grown { HasGrown control.old control.new }
     ensures lines { OnOk result (progress.new.lines ≡ progress.old.lines + 1) }
     ensures few { OnOk result (applied_in control.new ≤ progress.new.lines) }
