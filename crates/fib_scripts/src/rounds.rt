@@ -107,16 +107,21 @@ fn four_rounds_on_two_workers(rt: HostRuntime) -> Result<(), Fail> {
     Ok(())
 }
 
-// Where packets were cut in two, or one worker had them all, packet 300 would stand behind packet 0.
+/// Packets of the second and of the third frame. Where packets were cut in two, or one worker had them all, the one would stand behind packet 0; where
+/// frames went to the workers in turn, the other would.
+const UNTIL: [u32; 2] = [300, 600];
+
 #[test]
 fn frames_are_claimed(rt: HostRuntime) -> Result<(), Fail> {
     let script = b"ip route add 10.0.0.0/8 via local\nforward 768\n".as_slice();
     let packets = flows(rt.alloc(), 768)?;
     let want = received(rt.alloc(), 768)?;
-    let mut out = MemorySink::new(rt.alloc(), 100_000, Vec::new(rt.alloc()))?;
-    let gate = HoldGate::new(0, 300, 1_000_000);
-    let counts = counts_of(&rt, rt.alloc(), script, &packets, &mut out, &gate);
-    let right = counts.is_some() && gate.met();
-    assert!(rt; right && out.bytes() == want.as_slice());
+    for until in UNTIL {
+        let mut out = MemorySink::new(rt.alloc(), 100_000, Vec::new(rt.alloc()))?;
+        let gate = HoldGate::new(0, until, 1_000_000);
+        let counts = counts_of(&rt, rt.alloc(), script, &packets, &mut out, &gate);
+        let right = counts.is_some() && gate.met();
+        assert!(rt; right && out.bytes() == want.as_slice(), "packet {until}");
+    }
     Ok(())
 }
