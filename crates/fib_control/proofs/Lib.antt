@@ -7,4 +7,5 @@ pub mod Telling
 pub mod Started
 pub mod Born
 pub mod Walked
+pub mod Turning
 pub mod Lookups

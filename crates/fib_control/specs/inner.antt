@@ -1,3 +1,4 @@
 pub mod Standing
+pub mod Underway
 pub mod Starting
 pub mod Readable

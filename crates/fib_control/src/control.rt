@@ -26,6 +26,7 @@ ghost use Rattle.fib_stack.specs.Turns.{parts_of};
 ghost use Rattle.fib_stack.specs.Records.{SamePlane};
 ghost use Rattle.fib_stack.specs.Steps.{Retried};
 ghost use Rattle.fib_control.specs.Controls.{IsBatchNotCrowded, IsBeneath, IsBusy, IsChanged, IsDoneAfter, IsNotCrowded, IsQuiet, IsSettled, TellsApply, TellsApplyAll, but_settled, noted, parts_in, promise_in, rank_by, state_now, tables_in, view_in};
+ghost use Rattle.fib_control.specs.Turning.{HaveTurned};
 
 use crate::batches::change_all;
 use crate::beginning::first_table;
@@ -100,6 +101,7 @@ impl<B: Board + Drop> Control<B> {
         ensures setup { IfOk result (λ c. c.setup ≡ record { tables = fresh; room = (B.view board).objects / 2 }) }
         ensures rest { IfOk result (λ c. promise_in c ≡ promise_of (B.view board)) }
         ensures quiet { IfOk result IsQuiet }
+        ensures done { IfOk result (λ c. c.done ≡ []) }
     {
         board.tells();
         let room = board.objects() / 2;
@@ -364,8 +366,11 @@ impl<B: Board> Control<B> {
     }
 
     /// Turns until nothing is queued. After want of memory the turns that were done stand.
+    ///
+    /// Those have a turn that were queued, and those that a turn wakes, whose answer it changed; each once. An entry that had an object keeps it.
     pub fn walk(&mut self) -> Result<(), AllocError>
         ensures none { OnOk result (self.new.queue ≡ []) }
+        ensures turned { HaveTurned self.old self.new }
         ensures same { IsBeneath self.old self.new }
     {
         'turns: loop {
@@ -388,6 +393,7 @@ impl<B: Board> Control<B> {
         ensures tables { self.new.setup ≡ self.old.setup }
         ensures entries { self.new.entries ≡ self.old.entries }
         ensures board { but_settled self.new.plane.board ≡ but_settled self.old.plane.board }
+        ensures turned { HaveTurned self.old self.new }
     {
         self.walk()?;
         self.scan();

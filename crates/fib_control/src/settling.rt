@@ -1,6 +1,7 @@
 // Settling beside workers that are out.
 ghost use Rattle.std.specs.Prelude.{IfOk, OnOk, ◌≡◌};
 ghost use Rattle.fib_control.specs.Controls.{IsQuiet, but_settled};
+ghost use Rattle.fib_control.specs.Turning.{HaveTurned};
 
 use crate::control::Control;
 use fib_board::Board;
@@ -18,6 +19,7 @@ impl<B: Board> Control<B> {
         ensures tables { self.new.setup ≡ self.old.setup }
         ensures entries { self.new.entries ≡ self.old.entries }
         ensures board { but_settled self.new.plane.board ≡ but_settled self.old.plane.board }
+        ensures turned { HaveTurned self.old self.new }
     {
         self.walk()?;
         'tries: for _ in rt.forever() {

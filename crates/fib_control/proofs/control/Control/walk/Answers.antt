@@ -3,11 +3,13 @@ use Rattle.fib_config.specs.Config.{Setup}
 use Rattle.fib_changes.specs.Ranks.{has_entry}
 use Rattle.fib_control.specs.Controls.{is_queued, rank_by, state_now, tables_in}
 use Rattle.fib_control.proofs.Walked.{beneath_then, done_after, done_may, entry_may, first_queued, may_turn, queued_after, queued_may, smaller}
+use Rattle.fib_control.proofs.Turning.{none_turned, turn_more}
 use Rattle.fib_control.proofs.control.Control.walk.Goals as goal
 
 pub turns-init : goal.turns-init
 turns-init g c = record {
   same = record { setup = refl; entries = refl; promise = refl };
+  turning = none_turned c.args.self.now;
   waiting = λ d q. queued_may c.args.self.now d q;
   taken = λ d q. done_may c.args.self.now d q;
 }
@@ -18,6 +20,7 @@ turns-preserved g c =
     let e = c.in_ok-turn.ensures in
     record {
       same = beneath_then c.args.self.now c.turns.self c.turn.new.self i.same e.same;
+      turning = turn_more c.args.self.now c.turns.self c.turn.new.self (rank_by c.turns.self) c.in_ok-turn.field-0 i.same.setup i.turning e.turn e.done;
       waiting = λ d q. ⊎_elim
           (λ (old : is_queued c.turns.self d ≡ true). i.waiting d old)
           (λ (h : has_entry (tables_in c.turns.self) d ≡ true). entry_may c.args.self.now d (sym (ap (λ (s : Setup). has_entry s.tables d) i.same.setup) ∙ h))
