@@ -15,8 +15,9 @@ shares nothing with this repository and is no part of it. It is a command line t
     rpf COMMANDS                                        writes what fib_checker prints
 
 N command files of each of the five profiles are generated, so `--scripts 200` makes 1,000 of them; each is run with 1, 3 and 8
-workers (fib_checker has none), and each output is judged. For fib_checker lines that check sources are put between the lines of the
-command file. The first output that isn't allowed is shown and ends the run.
+workers (fib_checker and fib_tracer take no number of them), and each output is judged. For fib_checker lines that check sources are put
+between the lines of the command file, for fib_tracer in most files a line `trace`. The first output that isn't allowed is shown and ends
+the run.
 """
 import argparse
 import pathlib
@@ -90,6 +91,15 @@ def with_checks(path, seed):
     path.write_bytes(b"\n".join(out))
 
 
+def with_trace(path, seed):
+    """Puts a line `trace` somewhere between the lines, in three of four files."""
+    rnd = random.Random(seed)
+    lines = path.read_bytes().split(b"\n")
+    if rnd.randrange(4):
+        lines.insert(rnd.randrange(len(lines)), b"trace")
+    path.write_bytes(b"\n".join(lines))
+
+
 def generated(asked, oracle, seed, profile, folder):
     """The words for the program: the names of a command file and of a capture, where it takes one."""
     sizes = ["--lines", str(asked.lines), "--packets", str(asked.packets)]
@@ -98,12 +108,14 @@ def generated(asked, oracle, seed, profile, folder):
     if asked.name == "fib_checker":
         with_checks(commands, f"{profile} {seed}")
         return [str(commands)]
+    if asked.name == "fib_tracer":
+        with_trace(commands, f"{profile} {seed}")
     return [str(commands), str(capture)]
 
 
 def failure(asked, oracle, files):
     """Why one of the program's runs over these files is not allowed, or None."""
-    options = [[]] if asked.name == "fib_checker" else WORKERS
+    options = [[]] if asked.name in ("fib_checker", "fib_tracer") else WORKERS
     runs = [subprocess.run([asked.program, *words, *files], capture_output=True) for words in options]
     status = runs[0].returncode
     if any(run.returncode != status for run in runs):
