@@ -120,24 +120,31 @@ const REFUSED: &str = "line 6: not counted\nline 7: not counted\nline 8: not cou
 const TOTALS: &str =
     "drop 2\nreceive 2\nglean eth0 1\nadj eth0 3\nincomplete eth0 1\ncapture ends inside packet 10\n";
 
-// Nine packets to such addresses, one that is no packet, and the first bytes of a record.
+/// Where nine packets go.
+const ADDRS: [[u8; 4]; 9] = [
+    [10, 0, 0, 1],
+    [10, 0, 0, 1],
+    [10, 0, 0, 5],
+    [10, 0, 0, 9],
+    [10, 0, 0, 9],
+    [10, 0, 0, 9],
+    [20, 1, 1, 1],
+    [30, 0, 0, 1],
+    [224, 0, 0, 1],
+];
+
+// A packet to that address.
+fn put_packet(file: &mut Vec<u8>, addr: &[u8]) -> Result<(), AllocError> {
+    file.extend_from_slice(b"\0\0\0\0\0\0\0\0\x14\0\0\0\x14\0\0\0")?;
+    file.extend_from_slice(b"\x45\0\0\x14\0\0\0\0\x40\x01\0\0\x01\x02\x03\x04")?;
+    file.extend_from_slice(addr)
+}
+
+// Nine packets to these addresses, one of no bytes, and the first bytes of one more record.
 fn packets(alloc: Global) -> Result<Vec<u8>, AllocError> {
     let mut file = HEADER.to_vec(alloc)?;
-    let addrs = [
-        [10, 0, 0, 1],
-        [10, 0, 0, 1],
-        [10, 0, 0, 5],
-        [10, 0, 0, 9],
-        [10, 0, 0, 9],
-        [10, 0, 0, 9],
-        [20, 1, 1, 1],
-        [30, 0, 0, 1],
-        [224, 0, 0, 1],
-    ];
-    for addr in addrs {
-        file.extend_from_slice(b"\0\0\0\0\0\0\0\0\x14\0\0\0\x14\0\0\0")?;
-        file.extend_from_slice(b"\x45\0\0\x14\0\0\0\0\x40\x01\0\0\x01\x02\x03\x04")?;
-        file.extend_from_slice(&addr)?;
+    for addr in ADDRS {
+        put_packet(&mut file, addr.as_slice())?;
     }
     file.extend_from_slice(&[0; 23])?;
     Ok(file)

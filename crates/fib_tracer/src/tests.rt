@@ -1,7 +1,7 @@
 // Whole runs of the program over files and streams in memory.
 use crate::top::trace_main;
 use fib_outside::{FreeGate, Gate, MeetGate, MemoryShelf, MemorySink};
-use std::alloc::Global;
+use std::alloc::{AllocError, Global};
 use std::sync::Wait;
 use std::test::Fail;
 use std::thread::Threads;
@@ -62,7 +62,7 @@ const LOADS: [(&str, &str, &str); 12] = [
 ];
 
 /// What the adjacency's words hold: the interface, the next hop, and one more than the hardware address.
-const HELD: [&str; 3] = ["0", "167772169", "2199023255562"];
+const HELD: [&str; 3] = [" plain 0", " plain 167772169", " plain 2199023255562"];
 
 /// Whether a line tells that load; the object may be any, but the first is object 0.
 fn is_load(line: &str, load: (&str, &str, &str)) -> bool {
@@ -75,33 +75,51 @@ fn is_load(line: &str, load: (&str, &str, &str)) -> bool {
     named && of && slot && word && (load.0 != "0" || object == Some("0"))
 }
 
+// Whether these lines tell the neighbor's packet's loads.
+fn are_loads(lines: &[&str]) -> bool {
+    lines.len() == LOADS.len()
+        && lines
+            .iter()
+            .zip(LOADS)
+            .all(|pair| -> bool { is_load(pair.0, pair.1) })
+}
+
+// Whether the last three end so.
+fn end_so(lines: &[&str], ends: [&str; 3]) -> bool {
+    let [.., first, second, third] = lines else {
+        return false;
+    };
+    first.ends_with(ends[0]) && second.ends_with(ends[1]) && third.ends_with(ends[2])
+}
+
+fn lines_of<'t>(alloc: Global, text: &'t str) -> Result<Vec<&'t str>, AllocError> {
+    let mut lines = Vec::new(alloc);
+    for line in text.lines() {
+        lines.push(line)?;
+    }
+    Ok(lines)
+}
+
+// Whether this is what is printed of the neighbor's packet.
+fn is_neighbors(alloc: Global, text: &[u8]) -> Result<bool, AllocError> {
+    let Ok(text) = str::from_utf8(text) else {
+        return Ok(false);
+    };
+    let lines = lines_of(alloc, text)?;
+    let [packet, loads @ ..] = lines.as_slice() else {
+        return Ok(false);
+    };
+    let line = "packet 0 10.0.0.9 1701755127 4.4-4.4 adj eth0 10.0.0.9 02:00:00:00:00:09";
+    Ok(*packet == line && are_loads(loads) && end_so(loads, HELD))
+}
+
 #[test]
 fn a_neighbors_packet_has_twelve_loads(rt: HostRuntime) -> Result<(), Fail> {
     let files = (NEIGHBOR.as_bytes(), PACKET);
     let words = ["commands", "capture"];
     let (status, text) = outcome(&rt, rt.alloc(), &words, files, &[], &FreeGate)?;
     assert_eq!(rt; status, 0);
-    let Ok(text) = std::str::from_utf8(&text) else {
-        return Err("no text".into());
-    };
-    let mut lines = text.lines();
-    let packet = lines.next();
-    assert_eq!(rt;
-        packet,
-        Some("packet 0 10.0.0.9 1701755127 4.4-4.4 adj eth0 10.0.0.9 02:00:00:00:00:09")
-    );
-    let mut last = [""; 3];
-    for (place, load) in LOADS.iter().enumerate() {
-        let Some(line) = lines.next() else {
-            return Err("a load is missing".into());
-        };
-        assert!(rt; is_load(line, *load), "{line}");
-        last[place % 3] = line;
-    }
-    assert!(rt; lines.next().is_none());
-    for (line, held) in last.iter().zip(HELD) {
-        assert_eq!(rt; line.rsplit(' ').next(), Some(held));
-    }
+    assert!(rt; is_neighbors(rt.alloc(), &text)?);
     Ok(())
 }
 
