@@ -77,11 +77,18 @@ fn is_load(line: &str, load: (&str, &str, &str)) -> bool {
 
 // Whether these lines tell the neighbor's packet's loads.
 fn are_loads(lines: &[&str]) -> bool {
-    lines.len() == LOADS.len()
-        && lines
-            .iter()
-            .zip(LOADS)
-            .all(|pair| -> bool { is_load(pair.0, pair.1) })
+    let mut rest = lines;
+    for load in LOADS {
+        let [line, others @ ..] = rest else {
+            return false;
+        };
+        let text = *line;
+        if !is_load(text, load) {
+            return false;
+        }
+        rest = others;
+    }
+    rest.is_empty()
 }
 
 // Whether the last three end so.
