@@ -34,9 +34,10 @@ def record(k):
     return struct.pack("<IIII", 0, 0, 28, 28) + header + struct.pack("!HHHH", 4000 + k % 7, 53, 8, 0)
 
 
-def made(folder, packets):
+def made(folder, packets, forwards):
     commands, capture = folder / "commands", folder / "capture"
-    commands.write_text(UPLINKS + "".join(f"ip route add 100.64.{k}.0/24 via 192.168.255.1\n" for k in range(200)))
+    routes = "".join(f"ip route add 100.64.{k}.0/24 via 192.168.255.1\n" for k in range(200))
+    commands.write_text(UPLINKS + routes + (f"forward {packets}\n" if forwards else ""))
     with capture.open("wb") as out:
         out.write(HEADER)
         for first in range(0, packets, 1400):
@@ -62,8 +63,8 @@ def main():
     asked = parser.parse_args()
     with tempfile.TemporaryDirectory() as folder:
         for packets in (0, asked.packets):
-            files = made(pathlib.Path(folder), packets)
             for name in ("fib_tool", "fib_frames", "fib_counter"):
+                files = made(pathlib.Path(folder), packets, name != "fib_counter")
                 words = [asked.out.replace("{}", name), "--workers", asked.workers, *files]
                 times = [run(words) for _ in range(3)]
                 print(f"{name}, {packets} packets: {min(t for t, _ in times):.2f} s, {max(m for _, m in times):.0f} MB", flush=True)
