@@ -94,7 +94,7 @@ fn ten_thousand_equal_paths_are_one(rt: HostRuntime) -> Result<(), Fail> {
     assert_eq!(rt; status, 0);
     assert_eq!(rt;
         text.as_slice(),
-        b"incomplete eth0 10.0.0.7\nline 7: no such route\n".as_slice()
+        b"incomplete eth0 10.0.0.7\nline 8: no such route\n".as_slice()
     );
     Ok(())
 }
