@@ -17,7 +17,7 @@ sed 's/test_urpf/measure/g; s/8192/1073741824/g; s/10_000/1_000_000/; s/10,000/1
 for part in specs/Rigs.antt specs/Lib.antt proofs/rig/turns/Invariants.antt proofs/rig/settle/Invariants.antt; do
     sed 's/test_urpf/measure/g' "$rig/$part" > "$work/crates/measure/$part"
 done
-for loop in load:number flap:_time make_all:line; do
+for loop in load:number flap:time make_all:line; do
     name=${loop%:*}
     cat > "$work/crates/measure/proofs/$name/Invariants.antt" <<PROOF
 use Rattle.measure.specs.Rigs.{IsKept}
@@ -60,6 +60,7 @@ fn make_all(alloc: Global, rig: &mut Rig) -> Result<(), AllocError>
 {
     for line in UPLINKS {
         let _made = make(alloc, rig, line)?;
+        turns(rig, 16)?;
     }
     Ok(())
 }
@@ -73,6 +74,7 @@ fn load(alloc: Global, rig: &mut Rig, routes: u32) -> Result<(), AllocError>
         let y = number % 256;
         let line = format!(in alloc; "ip route add 100.{x}.{y}.0/24 via 192.168.255.1")?;
         let _made = make(alloc, rig, &line)?;
+        turns(rig, 4)?;
     }
     let _done = settle(rig)?;
     Ok(())
