@@ -22,7 +22,7 @@ ghost use Rattle.fib_control.specs.Controls.{promise_in};
 
 use fib_commands::{Line, read_line};
 use fib_control::Control;
-use fib_plainboard::PlainBoard;
+use fib_core_plainboard::PlainBoard;
 use fib_resolve::Edit;
 use fib_stack::Turn;
 use std::alloc::{AllocError, Global};
@@ -222,9 +222,9 @@ fn main(rt: HostRuntime) -> io::Result<()> {
 MAIN
 cat > "$work/crates/measure/proofs/fresh/Answers.antt" <<'ANSWERS'
 use Rattle.std.proofs.Common.{◌≡◌, ◌∙◌, ap, arith, refl, sym, subst}
-use Rattle.fib_board.specs.Boards.{Board, IsFresh}
-use Rattle.fib_joined.specs.Promise.{Promise}
-use Rattle.fib_shared.specs.Shares.{promise_of}
+use Rattle.fib_core_board.specs.Boards.{Board, IsFresh}
+use Rattle.fib_plane_view.specs.Promise.{Promise}
+use Rattle.fib_plane.specs.Views.{promise_of}
 use Rattle.measure.proofs.fresh.Goals as goal
 
 pub new-requires-2 : goal.new-requires-2

@@ -10,11 +10,12 @@
 # and then each worker forwards packets to random addresses within them: six plies, a balance and an adjacency, ten
 # loads of cells. The walk in C makes the same ten loads by the same numbers, in cells that it lays out itself as the
 # control plane does, prefix by prefix. It stores no pass word and loads no version, which a pass must do: twice more it
-# runs as a pass does, with those words side by side, as the table has them, and each in a cache line of its own. Times
-# are by the clock, and the walks come after the program: beside other work they can't be compared.
+# runs as a pass does, with those words side by side, and each in a cache line of its own, as the table has them. Times
+# are by the clock, and the walks come after the program: beside other work they can't be compared. With INSTRUCTIONS=1
+# (and valgrind) both are run once more with fewer packets, and the instructions a packet are counted.
 set -e
 . "$(dirname "$0")/beside.sh"
-beside fib_live
+beside trial_live
 mkdir -p "$work/crates/measure/specs" "$work/crates/measure/proofs/edits"
 cat > "$work/crates/measure/src/main.rt" <<'MAIN'
 //! Times of whole passes.
@@ -23,15 +24,15 @@ cat > "$work/crates/measure/src/main.rt" <<'MAIN'
 ghost use Rattle.std.specs.Prelude.{IfSome, length, ◌<◌, ◌^◌, ◌≡◌};
 ghost use Rattle.std.specs.List.{AllByRecursion};
 ghost use Rattle.fib_resolve.specs.Reachable.{IsWritten};
-ghost use Rattle.fib_board.specs.Crews.{MaySend, board_sent};
-ghost use Rattle.fib_live.specs.Crewed.{IsManned, SameCrew};
+ghost use Rattle.fib_core_board.specs.Crews.{MaySend, board_sent};
+ghost use Rattle.trial_live.specs.Crewed.{IsManned, SameCrew};
 
 use fib_addr::Addr;
 use fib_cells::{Cells, LiveBoard};
 use fib_control::Control;
 use fib_core::Record;
-use fib_live::alone::fresh;
-use fib_live::live::{change_all, edit_of, pass, settle_home};
+use trial_live::alone::fresh;
+use trial_live::live::{change_all, edit_of, pass, settle_home};
 use fib_resolve::{Edit, End};
 use fib_worker::Worker;
 use std::alloc::Global;
@@ -76,7 +77,7 @@ fn hash_of(state: u64) -> u32 {
 /// One where the packet left by an adjacency.
 fn left_by(answer: &Record) -> u64 {
     match answer.end {
-        End::Hop { .. } => 1,
+        End::Hop { mac: Some(_), .. } => 1,
         _ => 0,
     }
 }
@@ -415,5 +416,23 @@ paste -d ' ' "$work/forward.txt" "$work/walk.txt" "$work/side.txt" "$work/apart.
     $3 != $6 || $3 != $9 || $3 != $12 { print "the answers differ"; exit 1 }
     { printf "%d workers: %.1f ns a packet, %.0f cycles at %.0f MHz; the walk in C %.1f ns; %.2f times that\n",
         $1, $2 / 1000, $2 * mhz / 1000000, mhz, $5 / 1000, $2 / $5
-      printf "   in C with a pass word and the version, in one cache line %.1f ns, each in one of its own %.1f ns\n",
-        $8 / 1000, $11 / 1000 }'
+      printf "   in C with a pass word and the version, in one cache line %.1f ns, each in one of its own %.1f ns; %.2f times that\n",
+        $8 / 1000, $11 / 1000, $2 / $11
+      if ($1 == 1) { alone = $2; walked = $11 }
+      printf "   of one worker\047s packets a second each makes %.2f, in C %.2f\n", alone / $2, walked / $11 }
+'
+[ -n "$INSTRUCTIONS" ] || exit 0
+# Instructions a packet: what 140,000 packets more cost.
+counted() { valgrind --tool=callgrind --callgrind-out-file=/dev/null "$@" 2>&1 | sed -n 's/.*Collected : //p'; }
+sed -i 's/PACKETS: u32 = 4_000_000/PACKETS: u32 = 20_000/' src/main.rt
+rt run > /dev/null 2> "$work/log"
+few=$(counted out/measure)
+sed -i 's/PACKETS: u32 = 20_000/PACKETS: u32 = 40_000/' src/main.rt
+rt run > /dev/null 2> "$work/log"
+echo "forward: $((($(counted out/measure) - few) / 140000)) instructions a packet"
+for packets in 20000 40000; do
+    sed "s/PACKETS = 4000000/PACKETS = $packets/" "$work/walk.c" > "$work/few.c"
+    ${CC:-cc} -O3 -pthread -o "$work/walk$packets" "$work/few.c"
+done
+few=$(counted "$work/walk20000" 8)
+echo "the walk in C as a pass: $((($(counted "$work/walk40000" 8) - few) / 140000)) instructions a packet"

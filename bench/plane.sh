@@ -13,8 +13,9 @@ cat > "$work/crates/measure/src/main.rt" <<'MAIN'
 #![tactic(auto)]
 
 use fib_core::Word;
-use fib_plainboard::PlainBoard;
+use fib_core_plainboard::PlainBoard;
 use fib_plane::{Plane, Put};
+use fib_plane_view::Objects;
 use fib_pool::Kind;
 use std::io;
 use std::io::Print;

@@ -7,17 +7,17 @@
 # proved: it makes calls whose conditions only the layers above can show.
 set -e
 . "$(dirname "$0")/beside.sh"
-beside fib_shared fib_ply
+beside fib_plane fib_ply
 cat > "$work/crates/measure/src/main.rt" <<'MAIN'
 //! Times of adding and removing a prefix.
 #![tactic(auto)]
 
 use fib_addr::{Addr, Prefix};
-use fib_joined::Objects;
-use fib_plainboard::PlainBoard;
+use fib_plane_view::Objects;
+use fib_core_plainboard::PlainBoard;
 use fib_ply::PrefixTable;
 use fib_pool::Kind;
-use fib_shared::Shared;
+use fib_plane::Plane;
 use std::io;
 use std::io::Print;
 use std::time::{Clock, Instant};
@@ -76,7 +76,7 @@ impl Prefixes {
 }
 
 /// A table of that many prefixes, and the greatest address with one.
-fn fill(shared: &mut Shared<PlainBoard>, table: &mut PrefixTable, count: u32) -> io::Result<u32> {
+fn fill(shared: &mut Plane<PlainBoard>, table: &mut PrefixTable, count: u32) -> io::Result<u32> {
     let mut prefixes = Prefixes { numbers: Numbers { state: 7 }, next: 0x0100_0000 };
     let mut added = 1;
     while added < count {
@@ -95,7 +95,7 @@ fn fill(shared: &mut Shared<PlainBoard>, table: &mut PrefixTable, count: u32) ->
 }
 
 /// Adds a /24 within the first that many addresses that isn't there, and removes it again.
-fn measure(rt: &(impl Print + Clock), shared: &mut Shared<PlainBoard>, table: &mut PrefixTable, end: u32) -> io::Result<()> {
+fn measure(rt: &(impl Print + Clock), shared: &mut Plane<PlainBoard>, table: &mut PrefixTable, end: u32) -> io::Result<()> {
     let Some(balance) = shared.take(Kind::Balance) else {
         unreachable!()
     };
@@ -130,7 +130,7 @@ fn measure(rt: &(impl Print + Clock), shared: &mut Shared<PlainBoard>, table: &m
 fn run(rt: &HostRuntime, count: u32) -> io::Result<()> {
     let alloc = rt.alloc();
     let board = PlainBoard::new(alloc, OBJECTS, 8)?;
-    let mut shared = Shared::new(alloc, board)?;
+    let mut shared = Plane::new(alloc, board)?;
     let mut table = PrefixTable::new(alloc);
     table.reserve(alloc, count as usize + 2)?;
     let Some(balance) = shared.take(Kind::Balance) else {

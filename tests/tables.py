@@ -192,7 +192,7 @@ def expected(oracle, crate, words):
 def main():
     oracle = sys.argv[1]
     sys.path.insert(0, str(pathlib.Path(oracle).resolve().parent))
-    crate = pathlib.Path(sys.argv[2] if len(sys.argv) > 2 else "crates/fib_cases")
+    crate = pathlib.Path(sys.argv[2] if len(sys.argv) > 2 else "crates/test_cases")
     runs = [words for words in (crate / "args").read_text().split() if not re.match(r"table_|follow:|drive:|--workers=\d:rounds_", words)]
     for name, lines in worked().items():
         (crate / "data" / name).write_text("\n".join(lines) + "\n")

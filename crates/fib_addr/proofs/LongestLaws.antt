@@ -6,7 +6,7 @@ use Rattle.std.proofs.Math.Pow.{pow_pos}
 use Rattle.fib_addr.specs.Prefixes.{Prefix, IsPrefix, contains, size_of}
 use Rattle.fib_addr.specs.Longest.{everything, longer, longest, IsLongest}
 use Rattle.fib_addr.proofs.PrefixLaws.{same_fields}
-use Rattle.fib_list.proofs.Lists.{either}
+use Rattle.fib_base_list.proofs.Lists.{either}
 
 later : (p q : Prefix) (ps : List Prefix) → Contains ps q → Contains (p ∷ ps) q
 later p q ps h = (suc h.0, omega (arith, h.1), h.2)

@@ -11,7 +11,7 @@ use Rattle.std.proofs.lemmas.Bool.Decides.{nat_tests, Decides-eqb}
 use Rattle.std.proofs.lemmas.List.Sums.{sum_by-cons}
 use Rattle.fib_buckets.specs.Shares.{floor_of, count_before, extra, share_of, buckets, count_of, IsFair}
 use Rattle.fib_buckets.proofs.Sixteen.{length-buckets}
-use Rattle.fib_list.proofs.Booleans.{unit_of}
+use Rattle.fib_base_list.proofs.Booleans.{unit_of}
 
 count-cons : (j x : ℕ) (xs : List ℕ) → count_of (x ∷ xs) j ≡ unit_of (x == j) + count_of xs j
 count-cons j x xs = sum_by-cons (λ y. unit_of (y == j)) x xs

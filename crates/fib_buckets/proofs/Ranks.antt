@@ -13,8 +13,8 @@ use Rattle.std.proofs.lemmas.List.Sums.{length-filter}
 use Rattle.std.proofs.lemmas.Map.Keys.{IsDistinct-from_apart}
 use Rattle.std.proofs.lemmas.Map.Made.{length-le_from_is_member, is_member-filter}
 use Rattle.std.proofs.lemmas.Map.Steps.{length-le_from_distinct_below}
-use Rattle.fib_list.proofs.Lists.{either}
-use Rattle.fib_list.proofs.Booleans.{or_cases, and_both, or_right, unit_of, count_by-cons}
+use Rattle.fib_base_list.proofs.Lists.{either}
+use Rattle.fib_base_list.proofs.Booleans.{or_cases, and_both, or_right, unit_of, count_by-cons}
 
 at_most : (b c : Bool) → (b ≡ true → c ≡ true) → unit_of b ≤ unit_of c
 at_most true c h = rw (h refl) (omega arith)

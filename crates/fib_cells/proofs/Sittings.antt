@@ -1,5 +1,5 @@
 -- What a seat knows before and after each of its steps.
-use Rattle.std.proofs.Common.{◌≡◌, ℕ, ◌+◌, ◌*◌, ◌%◌, ◌<◌, Bool, true, false, List, [], ◌∷◌, length, refl, sym, ap, ◌∙◌, subst, arith, get_or-set_same, get_or-set_other, length-set, length-append, true≢false}
+use Rattle.std.proofs.Common.{◌≡◌, ℕ, ◌+◌, ◌*◌, ◌%◌, ◌^◌, ◌<◌, Bool, true, false, List, [], ◌∷◌, length, refl, sym, ap, ◌∙◌, subst, arith, get_or-set_same, get_or-set_other, length-set, length-append, true≢false}
 use Rattle.std.specs.Prelude.{replicate, slice_index, slice_set, if◌then◌else◌}
 use mathlib.Core.Logic.{dite}
 use native.Mathlib.Decide.{ℕ_discrete}
@@ -7,20 +7,23 @@ use Rattle.std.specs.List.{AllByRecursion}
 use Rattle.atomic_table.specs.Table.{Me}
 use Rattle.atomic_table.specs.Seated.{TableId}
 use Rattle.fib_resolve.specs.declared.types.Tables.{Tables}
-use Rattle.fib_results.specs.declared.record.Version.{Version}
-use Rattle.fib_results.specs.Trails.{version_at}
+use Rattle.fib_core_results.specs.declared.record.Version.{Version}
+use Rattle.fib_core_results.specs.Trails.{version_at}
 use Rattle.fib_core.specs.declared.word.Word.{Word}
+use Rattle.fib_core.specs.declared.word.Word.TheVariants as said
+use Rattle.fib_core.specs.Walk.{asked, object_of}
 use Rattle.fib_core.specs.Words.{IsWord, encoded, decoded, is_edge, value_of, goes, target}
-use Rattle.fib_core.specs.Trails.{Load, stands, visited, arrive_if, IsSoundTrail}
-use Rattle.fib_core.proofs.Numbers.{decoded_encoded, goes_of, owner_of, target_of, zeros}
+use Rattle.fib_core.specs.Trails.{Load, stands, visited, arrive_if, place, IsFormed, IsGoing, IsSoundTrail}
+use Rattle.fib_core.proofs.Numbers.{decoded_encoded, goes_of, owner_of, plain_decoded, target_of, zeros}
 use Rattle.fib_core.proofs.Stands.{stands_moved, stands_stayed}
-use Rattle.fib_lawful.specs.State.{Control, Worker, View, control, worker, hopped, first_control}
-use Rattle.fib_lawful.specs.State.{put, looked, with_log, begun, settled, picking, sent, taken_home}
-use Rattle.fib_rule.specs.May.{MayLoad}
-use Rattle.fib_rule.proofs.Fresh.{fresh_lawful}
-use Rattle.fib_board.specs.Told.{IsWithinLimits}
-use Rattle.fib_board.proofs.Ruling.{told_home}
-use Rattle.fib_cells.specs.Seats.{id_of}
+use Rattle.fib_core_lawful.specs.Layout.{cell_word, words_for}
+use Rattle.fib_core_lawful.specs.State.{Control, Worker, View, control, worker, hopped, first_control}
+use Rattle.fib_core_lawful.specs.State.{put, looked, with_log, begun, settled, picking, sent, taken_home}
+use Rattle.fib_core_rule.specs.May.{MayLoad}
+use Rattle.fib_core_rule.proofs.Fresh.{fresh_lawful}
+use Rattle.fib_core_board.specs.Told.{IsWithinLimits}
+use Rattle.fib_core_board.proofs.Ruling.{told_home}
+use Rattle.fib_cells.specs.Seats.{IsReading, id_of}
 use Rattle.fib_cells.specs.inner.Told.{control_of, worker_of, Becomes, Tells}
 use Rattle.fib_cells.specs.inner.Sits.{IsWalking, IsLive, moved_to}
 
@@ -63,7 +66,7 @@ module _ (words : ℕ) (me : Me Tables View) (number pass : ℕ) (knows : Versio
   pub at_inside : at < (worker_of me.0).objects
   at_inside = subst (λ n. n < (worker_of me.0).objects) r.stays (stands_below (worker_of me.0).objects (worker_of me.0).trail r.sound.below)
 
-  pub cell_inside : (slot : ℕ) → slot < 16 → 16 + (16 * at + slot) < words
+  pub cell_inside : (slot : ℕ) → slot < 16 → cell_word (16 * at + slot) < words
   cell_inside slot low = (let lt = at_inside in let size = r.seat.size in omega arith)
 
   pub may_load : (slot : ℕ) → slot < 16 → MayLoad (worker_of me.0) (16 * at + slot)
@@ -72,6 +75,18 @@ module _ (words : ℕ) (me : Me Tables View) (number pass : ℕ) (knows : Versio
     inside = (let lt = at_inside in omega arith);
     here = owner_of at slot low ∙ sym r.stays;
   }
+
+  -- a word of an adjacency is a number
+  pub number_found : (slot i found : ℕ) → IsReading (worker_of me.0) slot → i ≡ 16 * at + slot
+      → IsSoundTrail (worker_of me.0).objects ((i, found) ∷ (worker_of me.0).trail) → decoded found ≡ said.Plain (found % 2 ^ 56)
+  number_found slot i found reading is sound =
+      let v : Worker = worker_of me.0 in
+      let going : IsGoing (place v.trail) = subst IsGoing (sym reading.at) tt in
+      let here : at ≡ reading.object = sym r.stays ∙ sym (r.sound.stood reading.addr reading.hash reading.follows going) ∙ ap object_of reading.at in
+      let asks : i ≡ asked reading.addr reading.hash (place v.trail) = is ∙ ap (λ o. 16 * o + slot) here ∙ ap (λ n. 16 * reading.object + n) (sym reading.count)
+      ∙ sym (ap (asked reading.addr reading.hash) reading.at) in
+      let formed = (sound.proper reading.addr reading.hash (asks, going, reading.follows)).1 in
+      plain_decoded found (subst (λ p. IsFormed p (decoded found)) reading.at formed)
 
 -- where the seat stands after a load
 pub stands_after : (k found at : ℕ) (t : List Load) → stands t ≡ at → stands ((k, found) ∷ t) ≡ moved_to (decoded found) at
@@ -115,7 +130,7 @@ loaded_is me w k i found W is word told =
 
 -- a fresh seat
 pub fresh_lives : (words objects workers : ℕ) (me : Me Tables View) (copy : List ℕ) (version : Version) → IsWithinLimits objects workers
-    → words ≡ 16 + 16 * objects → me ≡ (control (first_control objects workers), []) → copy ≡ replicate (16 * objects) 0 → version ≡ version_at 0
+    → words ≡ words_for objects → me ≡ (control (first_control objects workers), []) → copy ≡ replicate (16 * objects) 0 → version ≡ version_at 0
     → IsLive words objects workers me copy version (replicate 8 false) (replicate 8 0) 0
 fresh_lives words objects workers me copy version limits size is copied settled =
     subst (λ m. IsLive words objects workers m copy version (replicate 8 false) (replicate 8 0) 0) (sym is)
@@ -133,7 +148,7 @@ fresh_lives words objects workers me copy version limits size is copied settled 
       also = refl;
       even = λ n. ap (λ x. x % 2) (zeros 8 n);
       count = refl;
-      told = λ also id passes. told_home id passes (first_control objects workers) objects (replicate (16 + 16 * objects) 0)
+      told = λ also id passes. told_home id passes (first_control objects workers) objects (replicate (words_for objects) 0)
           (control (first_control objects workers) ∷ []) (fresh_lawful objects workers (let least = limits.least in omega arith) limits.eight) 0 refl also;
     })
 

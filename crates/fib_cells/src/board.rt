@@ -1,13 +1,13 @@
 // The control plane's seat at work.
 ghost use Rattle.std.specs.Prelude.{◌≡◌};
-ghost use Rattle.fib_board.specs.Boards.{IsFresh};
+ghost use Rattle.fib_core_board.specs.Boards.{IsFresh};
 ghost use Rattle.fib_cells.specs.Seats.{id_in};
 
 use crate::cells::{Cells, ControlSeat};
 use crate::table::{Begin, Look, Place, Settle, Store};
-use fib_board::Board;
 use fib_core::{Version, Word};
-use fib_lawful::passes_left;
+use fib_core_board::Board;
+use fib_core_lawful::{cell_word, pass_word, passes_left, version_word};
 use fib_resolve::Tables;
 use std::marker::Model;
 
@@ -43,7 +43,7 @@ impl Drop for LiveBoard<'_> {
 
 impl<'a> Model for LiveBoard<'a> {
     ghost use Rattle.std.specs.Prelude.{[], ◌≡◌};
-    ghost use Rattle.fib_board.specs.Boards.{Board as Seen, board_of};
+    ghost use Rattle.fib_core_board.specs.Boards.{Board as Seen, board_of};
     ghost use Rattle.fib_cells.specs.Seats.{id_of};
     ghost use Rattle.fib_cells.specs.inner.Told.{control_of};
     ghost use Rattle.fib_cells.specs.inner.Sits.{IsLive};
@@ -113,7 +113,7 @@ impl<'a> Board for LiveBoard<'a> {
         self.cells
             .words
             .shared
-            .store::<Store>(&mut self.place, 16 + cell, code);
+            .store::<Store>(&mut self.place, cell_word(object, slot), code);
         self.copy[cell] = code;
     }
 
@@ -128,7 +128,7 @@ impl<'a> Board for LiveBoard<'a> {
         self.cells
             .words
             .shared
-            .compare_exchange_with::<Begin>(&mut self.place, 0, old, new, next);
+            .compare_exchange_with::<Begin>(&mut self.place, version_word(), old, new, next);
         self.version = begun;
     }
 
@@ -138,7 +138,7 @@ impl<'a> Board for LiveBoard<'a> {
         self.cells
             .words
             .shared
-            .store::<Settle>(&mut self.place, 0, code);
+            .store::<Settle>(&mut self.place, version_word(), code);
         self.version = settled;
     }
 
@@ -146,7 +146,7 @@ impl<'a> Board for LiveBoard<'a> {
         self.cells
             .words
             .shared
-            .load::<Look>(&mut self.place, worker as usize + 1)
+            .load::<Look>(&mut self.place, pass_word(worker))
     }
 
     fn passes_left(&self, worker: u32) -> u64 {

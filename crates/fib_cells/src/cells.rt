@@ -1,13 +1,14 @@
 // The words, and the control plane's seat before its work.
 ghost use Rattle.std.specs.Prelude.{IfOk, replicate, ◌*◌, ◌+◌, ◌≡◌};
-ghost use Rattle.fib_board.specs.Told.{IsWithinLimits};
+ghost use Rattle.fib_core_board.specs.Told.{IsWithinLimits};
 ghost use Rattle.fib_cells.specs.Seats.{fresh_live, id_in};
 
 use crate::table::{Place, Room, Words};
+use fib_core_lawful::words_for;
 use std::alloc::{AllocError, Global};
 use std::marker::Model;
 
-/// The words that all seats share: the version, the pass words, the claim word, and from word 16 on the cells.
+/// The words that all seats share: the version, the pass words, the claim word, each in a cache line of its own, and the cells.
 #[derive(Drop)]
 pub struct Cells {
     pub(crate) words: Words,
@@ -24,16 +25,17 @@ pub struct ControlSeat {
 
 impl Model for ControlSeat {
     ghost use Rattle.std.specs.Prelude.{[], replicate, ◌*◌, ◌+◌, ◌≡◌};
-    ghost use Rattle.fib_lawful.specs.State.{control, first_control};
-    ghost use Rattle.fib_board.specs.Boards.{Board};
-    ghost use Rattle.fib_board.specs.Told.{IsWithinLimits};
+    ghost use Rattle.fib_core_lawful.specs.Layout.{words_for};
+    ghost use Rattle.fib_core_lawful.specs.State.{control, first_control};
+    ghost use Rattle.fib_core_board.specs.Boards.{Board};
+    ghost use Rattle.fib_core_board.specs.Told.{IsWithinLimits};
     ghost use Rattle.fib_cells.specs.Seats.{fresh_live, id_of};
 
     ghost Value = { Board };
 
     ghost view = { λ s. fresh_live (id_of s.place.table_id) s.objects s.workers };
 
-    ghost invariant = { λ s. IsWithinLimits s.objects s.workers × (s.place.table_id.words ≡ 16 + 16 * s.objects)
+    ghost invariant = { λ s. IsWithinLimits s.objects s.workers × (s.place.table_id.words ≡ words_for s.objects)
         × (s.place.me ≡ (control (first_control s.objects s.workers), [])) × (s.copy.items ≡ replicate (16 * s.objects) 0) };
 }
 
@@ -57,7 +59,7 @@ impl Cells {
         requires { IsWithinLimits objects workers }
         ensures { IfOk result (λ r. r.1 ≡ fresh_live (id_in r.0) objects workers) }
     {
-        let first = zeros(alloc, 16 + 16 * objects as usize)?;
+        let first = zeros(alloc, words_for(objects))?;
         let (words, place) = Words::of_words(alloc, first.as_slice(), &Room { objects, workers })?;
         let copy = zeros(alloc, 16 * objects as usize)?;
         let seat = ControlSeat {

@@ -2,7 +2,8 @@
 use crate::board::LiveBoard;
 use crate::seats::{Note, WorkerSeat};
 use crate::table::{BringHome, MakeNote, Pick, Recall, SendOut};
-use fib_board::Crew;
+use fib_core_board::Crew;
+use fib_core_lawful::{pass_word, version_word};
 
 impl<'a> Crew for LiveBoard<'a> {
     type Seat = WorkerSeat<'a>;
@@ -16,7 +17,7 @@ impl<'a> Crew for LiveBoard<'a> {
     fn worker(&mut self, number: u32) -> WorkerSeat<'a> {
         let cells = self.cells;
         let shared = &cells.words.shared;
-        shared.load::<Pick>(&mut self.place, number as usize + 1);
+        shared.load::<Pick>(&mut self.place, pass_word(number));
         let place = shared.split_seat::<SendOut>(&mut self.place);
         self.out[number as usize] = true;
         WorkerSeat {
@@ -41,7 +42,7 @@ impl<'a> Crew for LiveBoard<'a> {
         let shared = &self.cells.words.shared;
         shared.join_seat::<BringHome>(&mut self.place, place);
         // A join tells nothing of the rule: the load tells that what came home is right.
-        shared.load::<Recall>(&mut self.place, 0);
+        shared.load::<Recall>(&mut self.place, version_word());
         self.out[number as usize] = false;
         self.rests[number as usize] = pass;
         self.gathered += (u32::MAX - left) as u64;

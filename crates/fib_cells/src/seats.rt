@@ -1,18 +1,20 @@
 // A worker's seat, at rest and walking, and notes.
 ghost use Rattle.std.specs.Prelude.{◌*◌, ◌+◌, ◌<◌, ◌≡◌, ◌≤◌};
-ghost use Rattle.fib_results.specs.Trails.{AtLeast};
+ghost use Rattle.fib_core_results.specs.Trails.{AtLeast};
+ghost use Rattle.fib_core.specs.declared.word.Word.TheVariants.{Plain};
 ghost use Rattle.fib_core.specs.Words.{IsRoomy};
 ghost use Rattle.fib_core.specs.Trails.{IsSoundTrail, stands};
-ghost use Rattle.fib_lawful.specs.State.{greater as greater_of, left_of};
-ghost use Rattle.fib_lawful.specs.Lawful.{IsTold};
-ghost use Rattle.fib_rule.specs.May.{MayDraw};
-ghost use Rattle.fib_cells.specs.Seats.{claims_left_of, seat_claimed, seat_learned, seat_loaded, seat_started, seat_stopped, seat_told};
+ghost use Rattle.fib_core_lawful.specs.State.{greater as greater_of, left_of};
+ghost use Rattle.fib_core_lawful.specs.Lawful.{IsTold};
+ghost use Rattle.fib_core_rule.specs.May.{MayDraw};
+ghost use Rattle.fib_cells.specs.Seats.{IsReading, claims_left_of};
+ghost use Rattle.fib_cells.specs.Seats.{seat_claimed, seat_learned, seat_loaded, seat_started, seat_stopped, seat_told};
 ghost use Rattle.fib_cells.specs.inner.Sits.{moved_to};
 
 use crate::cells::Cells;
 use crate::table::{Claim, Hop, Learn, Place, Start, Stop, Tell};
 use fib_core::{Version, Word};
-use fib_lawful::passes_left;
+use fib_core_lawful::{cell_word, claim_word, pass_word, passes_left, version_word};
 use std::marker::Model;
 
 /// A note of a version, for a worker. It has no bytes but the version's.
@@ -24,7 +26,7 @@ pub struct Note {
 
 impl Model for Note {
     ghost use Rattle.std.specs.Prelude.{◌≡◌};
-    ghost use Rattle.fib_board.specs.Crews.{Noted};
+    ghost use Rattle.fib_core_board.specs.Crews.{Noted};
     ghost use Rattle.fib_cells.specs.Seats.{id_of};
     ghost use Rattle.fib_cells.specs.inner.Told.{IsNote, note_of};
 
@@ -57,7 +59,7 @@ pub struct WorkerSeat<'a> {
 
 impl<'a> Model for WorkerSeat<'a> {
     ghost use Rattle.std.specs.Prelude.{◌≡◌};
-    ghost use Rattle.fib_board.specs.Crews.{Seated};
+    ghost use Rattle.fib_core_board.specs.Crews.{Seated};
     ghost use Rattle.fib_cells.specs.Seats.{id_of};
     ghost use Rattle.fib_cells.specs.inner.Told.{worker_of};
     ghost use Rattle.fib_cells.specs.inner.Sits.{IsResting};
@@ -83,7 +85,7 @@ pub struct WalkingSeat<'a> {
 
 impl<'a> Model for WalkingSeat<'a> {
     ghost use Rattle.std.specs.Prelude.{◌≡◌};
-    ghost use Rattle.fib_board.specs.Crews.{Seated};
+    ghost use Rattle.fib_core_board.specs.Crews.{Seated};
     ghost use Rattle.fib_cells.specs.Seats.{id_of};
     ghost use Rattle.fib_cells.specs.inner.Told.{worker_of};
     ghost use Rattle.fib_cells.specs.inner.Sits.{IsWalking};
@@ -107,6 +109,7 @@ fn greater(one: Version, other: Version) -> Version
 }
 
 // The object to which an edge leads, or else this one.
+#[inline(always)]
 fn moved(word: Word, at: u32) -> u32
     ensures { result ≡ moved_to word at }
 {
@@ -159,7 +162,7 @@ impl<'a> WorkerSeat<'a> {
             .cells
             .words
             .shared
-            .fetch_add::<Claim>(&mut self.place, 9, 1);
+            .fetch_add::<Claim>(&mut self.place, claim_word(), 1);
         self.left -= 1;
         drawn
     }
@@ -211,7 +214,7 @@ impl<'a> WorkerSeat<'a> {
         cells
             .words
             .shared
-            .store::<Start>(&mut place, number as usize + 1, pass + 1);
+            .store::<Start>(&mut place, pass_word(number), pass + 1);
         WalkingSeat {
             cells,
             place,
@@ -233,28 +236,48 @@ impl<'a> WalkingSeat<'a> {
     }
 
     /// Loads the version, which is no earlier than what the seat knew.
+    #[inline(always)]
     pub fn version(&mut self) -> Version
         ensures learned { self.new ≡ seat_learned self.old result }
         ensures later { IsTold result self.old.worker.knows }
     {
-        let found = self.cells.words.shared.load::<Learn>(&mut self.place, 0);
+        let found = self
+            .cells
+            .words
+            .shared
+            .load::<Learn>(&mut self.place, version_word());
         let version = Version::decode(found);
         self.knows = version;
         version
     }
 
     /// Loads the cell of that slot of the object where the seat stands. An edge that it finds moves the seat along.
+    #[inline(always)]
     pub fn word(&mut self, slot: u32) -> Word
         requires { slot < 16 }
         ensures loaded { self.new ≡ seat_loaded self.old slot result }
         ensures roomy { IsRoomy result }
         ensures sound { IsSoundTrail self.new.worker.objects self.new.worker.trail }
     {
-        let cell = 16 + (16 * self.at as usize + slot as usize);
+        let cell = cell_word(self.at, slot);
         let found = self.cells.words.shared.load::<Hop>(&mut self.place, cell);
         let word = Word::decode(found);
         self.at = moved(word, self.at);
         word
+    }
+
+    /// Loads a word of the adjacency on which the seat stands, the next one of a packet's walk. It is a number, so the seat stays.
+    #[inline(always)]
+    pub fn number(&mut self, slot: u32) -> u64
+        requires slot { slot < 16 }
+        requires reading { IsReading self.old.worker slot }
+        ensures loaded { self.new ≡ seat_loaded self.old slot (Plain result) }
+        ensures roomy { IsRoomy (Plain result) }
+        ensures sound { IsSoundTrail self.new.worker.objects self.new.worker.trail }
+    {
+        let at = cell_word(self.at, slot);
+        let found = self.cells.words.shared.load::<Hop>(&mut self.place, at);
+        found % 0x0100_0000_0000_0000
     }
 
     /// Ends the pass. A finished trail is then one of the seat's past.
@@ -273,7 +296,7 @@ impl<'a> WalkingSeat<'a> {
         cells
             .words
             .shared
-            .store::<Stop>(&mut place, number as usize + 1, pass + 1);
+            .store::<Stop>(&mut place, pass_word(number), pass + 1);
         WorkerSeat {
             cells,
             place,

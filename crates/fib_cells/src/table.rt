@@ -8,7 +8,7 @@ use std::marker::Model;
 pub struct Known {}
 
 impl Model for Known {
-    ghost use Rattle.fib_lawful.specs.State.{View, spent};
+    ghost use Rattle.fib_core_lawful.specs.State.{View, spent};
 
     ghost Value = { View };
 
@@ -26,8 +26,8 @@ pub struct Room {
 pub struct Lawful;
 
 impl TableRule<Tables, Known, Room> for Lawful {
-    ghost use Rattle.fib_lawful.specs.State.{control, first_control};
-    ghost use Rattle.fib_rule.specs.Rule.{IsLawful};
+    ghost use Rattle.fib_core_lawful.specs.State.{control, first_control};
+    ghost use Rattle.fib_core_rule.specs.Rule.{IsLawful};
 
     ghost holds = { λ room s. IsLawful room.objects s.words s.views };
 
@@ -154,7 +154,7 @@ impl Split<Known> for MakeNote {
 pub struct Tell;
 
 impl Join<Known> for Tell {
-    ghost use Rattle.fib_lawful.specs.State.{spent};
+    ghost use Rattle.fib_core_lawful.specs.State.{spent};
     ghost use Rattle.fib_cells.specs.inner.Told.{told_of};
 
     ghost both = { told_of };
@@ -166,7 +166,7 @@ impl Join<Known> for Tell {
 pub struct BringHome;
 
 impl Join<Known> for BringHome {
-    ghost use Rattle.fib_lawful.specs.State.{spent};
+    ghost use Rattle.fib_core_lawful.specs.State.{spent};
     ghost use Rattle.fib_cells.specs.inner.Told.{both_of};
 
     ghost both = { both_of };

@@ -1,6 +1,6 @@
 -- How runs end.
 use Rattle.std.proofs.Common.{◌≡◌, ℕ, List, Option, Some, Contains, take, drop, refl, ◌∙◌, ap, lit<, subst, take-append-drop}
-use Rattle.fib_lines.specs.Lines.{lines_of}
+use Rattle.fib_base_lines.specs.Lines.{lines_of}
 use Rattle.fib_resolve.specs.Tables.{fresh}
 use Rattle.fib_rounds.specs.Writes.{AppendsSome, Gains}
 use Rattle.fib_run.specs.Files.{Holds, IsCommands}

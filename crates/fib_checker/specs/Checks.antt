@@ -2,7 +2,7 @@
 use Rattle.std.specs.Prelude.{ℕ, Bool, ◌++◌, List, Option, Some, None, codes, if◌then◌else◌}
 use Rattle.fib_addr.specs.Texts.{◌>>=◌, address_of}
 use Rattle.fib_commands.specs.Names.{Words, word, keyword, finished, name_of}
-use Rattle.fib_lines.specs.LineWords.{words_of}
+use Rattle.fib_base_lines.specs.LineWords.{words_of}
 use Rattle.fib_print.specs.Lines.{message, refusal_text}
 use Rattle.fib_resolve.specs.Tables.{interface_named}
 use Rattle.fib_resolve.specs.declared.types.Refusal.TheVariants as refusals

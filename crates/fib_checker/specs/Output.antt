@@ -3,7 +3,7 @@ use Rattle.std.specs.Prelude.{ℕ, ◌+◌, ◌++◌, [], ◌∷◌, List, Optio
 use Rattle.fib_commands.specs.Lines.{line_of}
 use Rattle.fib_commands.specs.declared.types.Line.{Line}
 use Rattle.fib_commands.specs.declared.types.Line.TheVariants as lines
-use Rattle.fib_lines.specs.Lines.{lines_of}
+use Rattle.fib_base_lines.specs.Lines.{lines_of}
 use Rattle.fib_print.specs.Lines.{message, refusal_text}
 use Rattle.fib_resolve.specs.Edits.{edited}
 use Rattle.fib_resolve.specs.Refusals.{refused}

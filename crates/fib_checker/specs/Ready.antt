@@ -1,6 +1,6 @@
 -- What stands of a checker between two lines.
 use Rattle.std.specs.Prelude.{◌≡◌, ℕ, ◌++◌, [], List, Option, Some, None}
-use Rattle.fib_entries.specs.Known.{StandsFor, rank_of}
+use Rattle.fib_entries_rows.specs.Known.{StandsFor, rank_of}
 use Rattle.fib_resolve.specs.Edits.{edited}
 use Rattle.fib_resolve.specs.Refusals.{refused}
 use Rattle.fib_resolve.specs.declared.types.Edit.{Edit}

@@ -1,7 +1,7 @@
 // Tables with what is kept for checks of them: changes, and turns until nothing waits.
 ghost use Rattle.std.specs.Prelude.{◌≡◌, ◌<◌, ◌≤◌, ℕ, [], IfOk, None, Some, OnOk, true, false};
 ghost use Rattle.fib_config.specs.Config.{Setup};
-ghost use Rattle.fib_entries.specs.Known.{StandsFor, rank_of};
+ghost use Rattle.fib_entries_rows.specs.Known.{StandsFor, rank_of};
 ghost use Rattle.fib_resolve.specs.Edits.{edited};
 ghost use Rattle.fib_resolve.specs.Reachable.{IsWritten};
 ghost use Rattle.fib_resolve.specs.Refusals.{refused};
@@ -13,7 +13,7 @@ ghost use Rattle.fib_checker.specs.Ready.{IsChanged, IsReady};
 use fib_addr::Addr;
 use fib_config::Config;
 use fib_entries::Entries;
-use fib_following::{ChangeError, change_tables};
+use fib_entries_following::{ChangeError, change_tables};
 use fib_resolve::{Edit, Refusal, Tables};
 use fib_urpf::Urpf;
 use std::alloc::{AllocError, Global};

@@ -6,9 +6,9 @@ ghost use Rattle.fib_resolve.specs.Tables.{interface_named};
 ghost use Rattle.fib_checker.specs.Checks.{check_in, check_of, verdict, verdicts};
 
 use fib_addr::{Addr, addr_in};
+use fib_base_lines::Words;
 use fib_commands::LineError;
 use fib_commands::names::{finished, keyword, name, word};
-use fib_lines::Words;
 use fib_print::put_text;
 use fib_resolve::{Name, Tables};
 use std::alloc::{AllocError, Global};

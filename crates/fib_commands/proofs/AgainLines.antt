@@ -3,12 +3,12 @@ use Rattle.std.proofs.Common.{arith, ◌≡◌, ◌++◌, ◌∷◌, [], ℕ, ze
 use Rattle.std.specs.Prelude.{codes, flat_map}
 use Rattle.std.specs.List.{AllByRecursion, list_all}
 use Rattle.std.proofs.Math.Pow.{pow_pos}
-use Rattle.fib_list.proofs.Lists.{each-append}
+use Rattle.fib_base_list.proofs.Lists.{each-append}
 use Rattle.fib_addr.proofs.RoundTrip.{address_again, prefix_again, mac_again}
 use Rattle.fib_addr.proofs.PrefixLaws.{same_fields}
 use Rattle.fib_addr.specs.Texts.{address_text, prefix_text, mac_text}
 use Rattle.fib_addr.specs.Prefixes.{Prefix, IsPrefix, masked, size_of}
-use Rattle.fib_lines.specs.LineWords.{is_idle}
+use Rattle.fib_base_lines.specs.LineWords.{is_idle}
 use Rattle.fib_resolve.specs.declared.types.Edit.{Edit}
 use Rattle.fib_resolve.specs.declared.types.Edit.TheVariants as edits
 use Rattle.fib_resolve.specs.declared.types.Need.{Need}

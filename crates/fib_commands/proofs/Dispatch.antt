@@ -2,7 +2,7 @@
 use Rattle.std.proofs.Common.{◌≡◌, ℕ, true, false, List, [], ◌∷◌, Option, Some, None, refl, sym, subst}
 use Rattle.std.specs.Prelude.{codes}
 use Rattle.std.proofs.lemmas.Slice.Eq.{bytes_eq-Decides}
-use Rattle.fib_lines.specs.LineWords.{next_is}
+use Rattle.fib_base_lines.specs.LineWords.{next_is}
 use Rattle.fib_commands.specs.Names.{Words, keyword}
 use Rattle.fib_commands.specs.Lines.{create_of, state_of, address_words, add_address_of, del_address_of, neighbor_words, set_neighbor_of, del_neighbor_of, add_route_of, del_route_of, api_add_of, api_del_of, lookup_of, show_fib_of, show_lists_of, show_adj_of, forward_of, begin_of, commit_of, forms, set_forms, route_forms, api_forms, show_forms, reading_of, either_of}
 

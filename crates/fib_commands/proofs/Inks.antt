@@ -12,9 +12,9 @@ use Rattle.std.proofs.lemmas.Fmt.{digits_decimal, decimal_nonempty}
 use Rattle.fib_addr.proofs.Reading.{model}
 use Rattle.fib_addr.specs.Texts.{address_text, prefix_text, mac_text, three_text, pair_text, hex_digit}
 use Rattle.fib_addr.specs.Prefixes.{Prefix}
-use Rattle.fib_lines.specs.LineWords.{is_blank, words_of}
-use Rattle.fib_lines.specs.Lines.{is_plain, is_plain_byte}
-use Rattle.fib_lines.proofs.WordLemmas.{words_of_last, words_of_first}
+use Rattle.fib_base_lines.specs.LineWords.{is_blank, words_of}
+use Rattle.fib_base_lines.specs.Lines.{is_plain, is_plain_byte}
+use Rattle.fib_base_lines.proofs.WordLemmas.{words_of_last, words_of_first}
 use Rattle.fib_resolve.specs.Names.{is_letter, is_name_byte, is_reserved}
 use Rattle.fib_commands.specs.Names.{Words, name_of}
 use Rattle.fib_commands.specs.Canonical.{joined, IsName}

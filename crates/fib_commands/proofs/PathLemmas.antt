@@ -4,7 +4,7 @@ use Rattle.std.proofs.lemmas.List.{append_assoc, append-nil}
 use Rattle.fib_resolve.specs.declared.types.PathSpec.{PathSpec}
 use Rattle.fib_commands.specs.declared.types.LineError.{LineError}
 use Rattle.fib_commands.specs.declared.types.LineError.TheVariants.{Memory, Syntax}
-use Rattle.fib_lines.specs.LineWords.{has_word}
+use Rattle.fib_base_lines.specs.LineWords.{has_word}
 use Rattle.fib_commands.specs.Names.{Lacks}
 use Rattle.fib_commands.specs.Paths.{path_of, paths_of}
 

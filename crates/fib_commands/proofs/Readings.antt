@@ -3,7 +3,7 @@ use Rattle.std.proofs.Common.{arith, ◌≡◌, ◌≤◌, ℕ, Bool, true, fals
 use Rattle.std.specs.Prelude.{codes, option_to_list}
 use Rattle.std.specs.Str.{bytes_eq}
 use Rattle.std.proofs.lemmas.Slice.Eq.{bytes_eq-Decides}
-use Rattle.fib_list.proofs.Lists.{either}
+use Rattle.fib_base_list.proofs.Lists.{either}
 use Rattle.fib_commands.specs.declared.types.Line.{Line}
 use Rattle.fib_commands.specs.Names.{Words, keyword, name_of}
 use Rattle.fib_commands.specs.Lines.{create_of, state_of, own_address_of, address_words, add_address_of, del_address_of, neighbor_words, set_neighbor_of, del_neighbor_of, add_route_of, del_route_of, api_add_of, api_del_of, lookup_of, show_fib_of, show_lists_of, show_adj_of, forward_of, begin_of, commit_of, forms, set_forms, api_forms, show_forms, readings}

@@ -3,8 +3,8 @@ use Rattle.std.specs.Prelude.{ℕ, ◌∷◌, [], ◌++◌, List, Bool, true, fa
 use Rattle.std.specs.Str.{bytes_eq}
 use Rattle.fib_addr.specs.Prefixes.{masked}
 use Rattle.fib_addr.specs.Texts.{◌>>=◌, address_of, number_of, prefix_of, mac_of}
-use Rattle.fib_lines.specs.Lines.{is_plain}
-use Rattle.fib_lines.specs.LineWords.{is_idle, words_of}
+use Rattle.fib_base_lines.specs.Lines.{is_plain}
+use Rattle.fib_base_lines.specs.LineWords.{is_idle, words_of}
 use Rattle.fib_resolve.specs.declared.types.Edit.TheVariants as edits
 use Rattle.fib_resolve.specs.declared.types.PathSpec.{PathSpec}
 use Rattle.fib_resolve.specs.Reachable.{IsWritten}

@@ -2,7 +2,7 @@
 use Rattle.std.specs.Prelude.{ℕ, ◌||◌, ◌&&◌, ◌∷◌, [], List, Bool, true, false, not, Option, Some, None, zero, suc, is_none, IfSome, ◌<◌, unwrap_or, nat_lt, if◌then◌else◌, slice_index, codes}
 use Rattle.std.specs.Str.{bytes_eq}
 use Rattle.fib_addr.specs.Texts.{◌>>=◌, address_of, number_of}
-use Rattle.fib_lines.specs.LineWords.{has_word, next_is}
+use Rattle.fib_base_lines.specs.LineWords.{has_word, next_is}
 use Rattle.fib_resolve.specs.declared.types.Need.{Need}
 use Rattle.fib_resolve.specs.declared.types.Need.TheVariants as needs
 use Rattle.fib_resolve.specs.declared.types.PathSpec.{PathSpec}

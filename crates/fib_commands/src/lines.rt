@@ -7,7 +7,7 @@ ghost use Rattle.fib_commands.specs.Lines.{IsWrittenLine, create_of, flag_of, st
 use crate::names::{finished, keyword, name, word};
 use crate::{Line, LineError};
 use fib_addr::{Addr, BadText, addr_in, mac_in, number_in, prefix_in};
-use fib_lines::Words;
+use fib_base_lines::Words;
 use fib_resolve::{Edit, Name};
 use std::alloc::Global;
 

@@ -4,7 +4,7 @@ ghost use Rattle.fib_commands.specs.Names.{Gives, word, keyword, finished, name_
 
 use crate::LineError;
 use fib_addr::BadText;
-use fib_lines::Words;
+use fib_base_lines::Words;
 use fib_resolve::{List, Name};
 use std::alloc::Global;
 

@@ -5,7 +5,7 @@ ghost use Rattle.fib_commands.specs.Paths.{IsWeighted, no_options, value_of, wit
 
 use crate::names::{keyword, word};
 use fib_addr::{BadText, number_in};
-use fib_lines::Words;
+use fib_base_lines::Words;
 use fib_resolve::Need;
 
 /// The options that were given of a path.

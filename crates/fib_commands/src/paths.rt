@@ -10,7 +10,7 @@ use crate::LineError;
 use crate::names::{keyword, name, word};
 use crate::options::{Options, all_options};
 use fib_addr::{Addr, BadText, addr_in};
-use fib_lines::Words;
+use fib_base_lines::Words;
 use fib_resolve::{List, Need, PathSpec, SpecKind, starts_with_letter};
 use std::alloc::Global;
 

@@ -9,7 +9,7 @@ use crate::lines::{
 };
 use crate::routes::{add_route, api_add, api_del, del_route};
 use crate::{Line, LineError};
-use fib_lines::{Words, is_idle, is_plain};
+use fib_base_lines::{Words, is_idle, is_plain};
 use std::alloc::Global;
 
 /// `set` ..

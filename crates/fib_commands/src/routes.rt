@@ -10,7 +10,7 @@ use crate::names::{keyword, word};
 use crate::paths::paths;
 use crate::{Line, LineError};
 use fib_addr::{Addr, BadText, Prefix, prefix_in};
-use fib_lines::Words;
+use fib_base_lines::Words;
 use fib_resolve::{Edit, List, PathSpec};
 use std::alloc::Global;
 

@@ -1,9 +1,9 @@
 // The lines of a command file.
 ghost use Rattle.std.specs.Prelude.{◌≡◌, ◌≤◌, ◌<◌, ◌-◌, List as Items, Some, length, slice_get, IfOk, IsErrOf};
-ghost use Rattle.fib_lines.specs.Lines.{lines_of};
+ghost use Rattle.fib_base_lines.specs.Lines.{lines_of};
 ghost use Rattle.fib_commands.specs.declared.script.ScriptError.TheVariants.{TooManyLines, Memory};
 
-use fib_lines::cut_line;
+use fib_base_lines::cut_line;
 use fib_resolve::List;
 use std::alloc::{AllocError, AllocFailed, Global};
 use std::marker::Model;

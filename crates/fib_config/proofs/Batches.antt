@@ -7,10 +7,10 @@ use Rattle.fib_resolve.specs.Edits.{edited, with_routes}
 use Rattle.fib_resolve.specs.declared.types.Route.{Route}
 use Rattle.fib_resolve.specs.declared.types.Edit.{Edit}
 use Rattle.fib_resolve.specs.declared.types.Tables.{Tables}
-use Rattle.fib_changes.specs.Differ.{Differ, change_of}
-use Rattle.fib_changes.specs.declared.change.Change.{Change}
-use Rattle.fib_changes.specs.declared.change.Change.TheVariants as changes
-use Rattle.fib_changes.proofs.Differing.{edit_differs}
+use Rattle.fib_resolve_changes.specs.Differ.{Differ, change_of}
+use Rattle.fib_resolve_changes.specs.declared.change.Change.{Change}
+use Rattle.fib_resolve_changes.specs.declared.change.Change.TheVariants as changes
+use Rattle.fib_resolve_changes.proofs.Differing.{edit_differs}
 use Rattle.fib_config.specs.declared.undo.Undo.{Undo}
 use Rattle.fib_config.specs.declared.undo.Undo.TheVariants as undos
 use Rattle.fib_config.specs.Undone.{undone, undone_all}

@@ -7,9 +7,9 @@ use Rattle.std.specs.Cmp.{IsEquivalence}
 use Rattle.std.proofs.lemmas.Map.Made.{length-le_from_is_member, distinct_count-le}
 use Rattle.std.proofs.lemmas.Map.Steps.{list_any_congr}
 use Rattle.std.proofs.lemmas.List.Sums.{sum_by-cons}
-use Rattle.fib_list.proofs.Lists.{either, is_member-unique_keys}
+use Rattle.fib_base_list.proofs.Lists.{either, is_member-unique_keys}
 use Rattle.fib_resolve.proofs.PairLaws.{each-unique}
-use Rattle.fib_list.proofs.Booleans.{or_right}
+use Rattle.fib_base_list.proofs.Booleans.{or_right}
 
 apart : {K : Type 0} (eq : K → K → Bool) (x : K) (xs : List K) → is_member eq xs x ≡ false → AllByRecursion (λ y. eq x y ≡ false) xs
 apart eq x [] h = tt

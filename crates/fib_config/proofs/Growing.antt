@@ -8,8 +8,8 @@ use Rattle.std.proofs.lemmas.Map.Made.{is_member-Decides}
 use Rattle.std.proofs.lemmas.List.{length-append}
 use Rattle.std.proofs.lemmas.List.FromFn.{length-map-range_with_len}
 use Rattle.std.proofs.lemmas.List.Elements.{Contains-append_left, Contains-append_right, Contains-append_cases}
-use Rattle.fib_list.proofs.Lists.{either, each-weaker, Contains-flat_map, Contains-nil}
-use Rattle.fib_list.proofs.Booleans.{and_both}
+use Rattle.fib_base_list.proofs.Lists.{either, each-weaker, Contains-flat_map, Contains-nil}
+use Rattle.fib_base_list.proofs.Booleans.{and_both}
 use Rattle.fib_addr.specs.Prefixes.{Prefix, same_prefix, host, masked, size_of}
 use Rattle.fib_addr.specs.Longest.{everything}
 use Rattle.fib_addr.proofs.PrefixLaws.{same_prefix-Decides}
@@ -32,10 +32,10 @@ use Rattle.fib_resolve.specs.declared.types.PathKind.TheVariants as kinds
 use Rattle.fib_resolve.specs.declared.types.Route.{Route}
 use Rattle.fib_resolve.specs.declared.types.Tables.{Tables}
 use Rattle.fib_resolve.proofs.Covering.{filter_from}
-use Rattle.fib_effective.proofs.Members.{filter_map_in, filter_map_from}
-use Rattle.fib_changes.specs.Sources.{all_hops}
-use Rattle.fib_changes.proofs.SamePairs.{flat_map_from, map_in, map_from}
-use Rattle.fib_changes.proofs.Edits.{in_cases, in_front, in_rest}
+use Rattle.fib_resolve_pairs.proofs.Members.{filter_map_in, filter_map_from}
+use Rattle.fib_resolve_changes.specs.Sources.{all_hops}
+use Rattle.fib_resolve_changes.proofs.SamePairs.{flat_map_from, map_in, map_from}
+use Rattle.fib_resolve_changes.proofs.Edits.{in_cases, in_front, in_rest}
 use Rattle.fib_config.specs.inner.Bounds.{own_prefixes, prefix_of_route, host_of, candidates, depth_of, route_ends, neighbor_end, ends, same_number, possible, allowance, growth}
 use Rattle.fib_config.proofs.Counts.{count_within, front_count}
 use Rattle.fib_config.proofs.Within.{each-itself, same_adjacency-Decides, same_number-Decides, kind_length}

@@ -1,16 +1,16 @@
 -- Places found by keys.
-use Rattle.std.proofs.Common.{arith, ◌≡◌, ℕ, suc, ◌≤◌, Bool, true, false, cond, not, ◌&&◌, ◌==◌, List, [], ◌∷◌, ◌++◌, length, map, Option, Some, None, inl, inr, refl, sym, ◌∙◌, ap}
-use Rattle.std.specs.Prelude.{position, nat_lt, filter, slice_set}
+use Rattle.std.proofs.Common.{arith, ◌≡◌, ℕ, zero, suc, ◌-◌, ◌<◌, ◌≤◌, Bool, true, false, cond, not, ◌&&◌, ◌==◌, List, [], ◌∷◌, ◌++◌, length, map, take, Option, Some, None, inl, inr, refl, sym, ◌∙◌, ap}
+use Rattle.std.specs.Prelude.{position, nat_lt, filter, slice_set, slice_index_or}
 use Rattle.std.specs.Cmp.{nat_eq_equiv}
 use Rattle.std.specs.List.{remove, position_or_len, AllByRecursion, IsDistinct}
 use Rattle.std.proofs.lemmas.Bool.{ltb-false}
 use Rattle.std.proofs.lemmas.List.{map-append}
 use Rattle.indexmap.specs.IndexSet.{IndexSet}
 use Rattle.indexmap.proofs.SetLemmas.{map-remove}
-use Rattle.fib_list.proofs.Lists.{either}
+use Rattle.fib_base_list.proofs.Lists.{either}
 use Rattle.fib_addr.specs.Prefixes.{Prefix, same_prefix}
 use Rattle.std.proofs.lemmas.Bool.Decides.{Decides-eqb}
-use Rattle.fib_list.proofs.Booleans.{and_both}
+use Rattle.fib_base_list.proofs.Booleans.{and_both}
 use Rattle.fib_addr.proofs.PrefixLaws.{same_prefix-Decides, same_prefix_equiv}
 use Rattle.fib_resolve.specs.Keys.{source_rank, same_source}
 use Rattle.fib_resolve.specs.Tables.{is_route, same_route, same_neighbor}
@@ -123,6 +123,33 @@ module _ {X K S : Type 0} (key : X → K) where
   fewer_keys xs ys k None (Some new) same are by = absurd by
   fewer_keys xs ys k (Some old) (Some new) same are by = by ∙ ap (λ (ks : List K). remove ks k) are ∙ same
 
+-- an item put where there is no place changes nothing
+pub set_beyond : {X : Type 0} (xs : List X) (k : ℕ) (x : X) → length xs ≤ k → xs ≡ slice_set xs k x
+set_beyond [] k x l = refl
+set_beyond (y ∷ xs) zero x l = absurd (omega (arith, l))
+set_beyond {X} (y ∷ xs) (suc k) x l = ap (λ (ys : List X). y ∷ ys) (set_beyond xs k x (omega (arith, l)))
+
+last_out : {X : Type 0} (xs : List X) (k : ℕ) → length xs ≤ suc k → remove xs k ≡ take k xs
+last_out [] zero l = refl
+last_out [] (suc k) l = refl
+last_out (x ∷ []) zero l = refl
+last_out (x ∷ y ∷ xs) zero l = absurd (omega (arith, l))
+last_out {X} (x ∷ xs) (suc k) l = ap (λ (ys : List X). x ∷ ys) (last_out xs k (omega (arith, l)))
+
+-- another item of the same key in the place of one
+keys_at : {X K : Type 0} (key : X → K) (xs : List X) (k : ℕ) (x y : X) → y ≡ slice_index_or xs k y → key y ≡ key x → k < length xs
+    → map key (slice_set xs k x) ≡ map key xs
+keys_at key [] k x y at same l = refl
+keys_at key (z ∷ xs) zero x y at same l = ap (λ c. c ∷ map key xs) (sym same ∙ ap key at)
+keys_at {X} {K} key (z ∷ xs) (suc k) x y at same l = ap (λ (ks : List K). key z ∷ ks) (keys_at key xs k x y at same (omega (arith, l)))
+
+module _ {X K S : Type 0} (key : X → K) where
+  -- the last item goes, and its key
+  pub keys_shorter : (xs ys : List X) (old new : Option (IndexSet K S)) → ys ≡ take (length xs - 1) xs → AreKeys key xs old
+      → Follows (λ ks. remove ks (length xs - 1)) old new → AreKeys key ys new
+  keys_shorter xs ys old new is are by =
+      fewer_keys key xs ys (length xs - 1) old new (sym (map-remove key xs (length xs - 1)) ∙ ap (map key) (last_out xs (length xs - 1) (omega arith) ∙ sym is)) are by
+
 -- routes
 route_like : (p : Prefix) (s : FibSource) (r : Route) → is_route p s r ≡ true → route_key r ≡ (p, source_rank s)
 route_like p s r is =
@@ -151,6 +178,15 @@ module _ {S : Type 0} where
       → AreKeys route_key (slice_set rs (place_of (is_route new.prefix new.source) rs) new) keys
   route_keys_set new rs keys are = keep_keys route_key rs _ keys (keys_set route_key (is_route new.prefix new.source) new (route_like new.prefix new.source) rs) are
 
+  pub route_keys_put : (rs : List Route) (k : ℕ) (old new : Route) (keys kept : Option (IndexSet (Prefix × ℕ) S)) → new ≡ slice_index_or rs k new → k < length rs
+      → (is_route old.prefix old.source new ≡ true → kept ≡ keys) → (is_route old.prefix old.source new ≡ false → kept ≡ None)
+      → AreKeys route_key rs keys → AreKeys route_key (slice_set rs k old) kept
+  route_keys_put rs k old new keys kept at l right wrong are =
+      elim (either (is_route old.prefix old.source new)) [
+        | inl is ↦ rw (right is) (keep_keys route_key rs _ keys (keys_at route_key rs k old new at (route_like old.prefix old.source new is) l) are)
+        | inr isnt ↦ rw (wrong isnt) tt
+      ]
+
   pub route_keys_without : (p : Prefix) (s : FibSource) (rs : List Route) (old new : Option (IndexSet (Prefix × ℕ) S)) → IsDistinct same_route rs → AreKeys route_key rs old
       → Follows (λ ks. remove ks (place_of (is_route p s) rs)) old new → AreKeys route_key (without_route p s rs) new
   route_keys_without p s rs old new apart are by =
@@ -177,6 +213,15 @@ module _ {S : Type 0} where
   pub neighbor_keys_set : (new : Neighbor) (ns : List Neighbor) (keys : Option (IndexSet (ℕ × ℕ) S)) → AreKeys neighbor_key ns keys
       → AreKeys neighbor_key (slice_set ns (place_of (is_neighbor new.interface new.addr) ns) new) keys
   neighbor_keys_set new ns keys are = keep_keys neighbor_key ns _ keys (keys_set neighbor_key (is_neighbor new.interface new.addr) new (neighbor_like new.interface new.addr) ns) are
+
+  pub neighbor_keys_put : (ns : List Neighbor) (k : ℕ) (old new : Neighbor) (keys kept : Option (IndexSet (ℕ × ℕ) S)) → new ≡ slice_index_or ns k new → k < length ns
+      → (is_neighbor old.interface old.addr new ≡ true → kept ≡ keys) → (is_neighbor old.interface old.addr new ≡ false → kept ≡ None)
+      → AreKeys neighbor_key ns keys → AreKeys neighbor_key (slice_set ns k old) kept
+  neighbor_keys_put ns k old new keys kept at l right wrong are =
+      elim (either (is_neighbor old.interface old.addr new)) [
+        | inl is ↦ rw (right is) (keep_keys neighbor_key ns _ keys (keys_at neighbor_key ns k old new at (neighbor_like old.interface old.addr new is) l) are)
+        | inr isnt ↦ rw (wrong isnt) tt
+      ]
 
   pub neighbor_keys_without : (i a : ℕ) (ns : List Neighbor) (old new : Option (IndexSet (ℕ × ℕ) S)) → IsDistinct same_neighbor ns → AreKeys neighbor_key ns old
       → Follows (λ ks. remove ks (place_of (is_neighbor i a) ns)) old new → AreKeys neighbor_key (filter (λ n. not (same_neighbor n (record { interface = i; addr = a; mac = 0 }))) ns) new

@@ -4,8 +4,8 @@ use Rattle.std.specs.Prelude.{nat_lt}
 use Rattle.std.specs.List.{list_any}
 use Rattle.std.proofs.lemmas.Bool.{lt-ltb}
 use Rattle.std.proofs.lemmas.Bool.Decides.{Decides-eqb}
-use Rattle.fib_list.proofs.Lists.{either}
-use Rattle.fib_list.proofs.Booleans.{and_both}
+use Rattle.fib_base_list.proofs.Lists.{either}
+use Rattle.fib_base_list.proofs.Booleans.{and_both}
 use Rattle.fib_resolve.specs.Keys.{key_of, key_lt, same_key, kind_rank, is_drop_or_local}
 use Rattle.fib_resolve.specs.Edits.{set_path, set_paths, path_of, kind_of}
 use Rattle.fib_resolve.specs.Refusals.{first_reason}

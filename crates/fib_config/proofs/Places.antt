@@ -5,7 +5,7 @@ use Rattle.std.specs.List.{list_any, insert, remove}
 use Rattle.std.proofs.lemmas.Bool.{lt-ltb, le-ltb, le-leb}
 use Rattle.fib_addr.specs.Prefixes.{Prefix}
 use Rattle.fib_resolve.specs.declared.types.FibSource.{FibSource}
-use Rattle.fib_list.proofs.Lists.{either}
+use Rattle.fib_base_list.proofs.Lists.{either}
 use Rattle.fib_resolve.specs.Tables.{is_route, same_neighbor}
 use Rattle.fib_resolve.specs.Edits.{set_route, set_neighbor, paths_at}
 use Rattle.fib_resolve.specs.declared.types.Neighbor.{Neighbor}

@@ -12,7 +12,7 @@ use Rattle.std.proofs.lemmas.Map.Made.{distinct_count-le, is_member-Decides}
 use Rattle.std.proofs.lemmas.List.{length-append}
 use Rattle.std.proofs.lemmas.List.FromFn.{length-map-range_with_len, get_or-map-range_with_len}
 use Rattle.std.proofs.lemmas.List.Elements.{All-contains, All-from_recursion, All-contains_itself, Contains-append_left, Contains-append_right}
-use Rattle.fib_list.proofs.Lists.{either, each-append, each-weaker, each-map, each-flat_map, Contains-flat_map}
+use Rattle.fib_base_list.proofs.Lists.{either, each-append, each-weaker, each-map, each-flat_map, Contains-flat_map}
 use Rattle.fib_addr.specs.Prefixes.{Prefix, same_prefix, host, masked, size_of}
 use Rattle.fib_addr.specs.Longest.{everything}
 use Rattle.fib_addr.proofs.PrefixLaws.{same_prefix-Decides, same_prefix_equiv}
@@ -27,7 +27,7 @@ use Rattle.fib_resolve.specs.declared.types.PathKind.TheVariants as kinds
 use Rattle.fib_resolve.specs.declared.types.FibSource.TheVariants as sources
 use Rattle.fib_resolve.specs.declared.types.Tables.{Tables}
 use Rattle.fib_resolve.proofs.Covering.{unique_in}
-use Rattle.fib_changes.specs.Sources.{all_hops}
+use Rattle.fib_resolve_changes.specs.Sources.{all_hops}
 use Rattle.fib_resolve.proofs.PairLaws.{cond_has, each-all, each-unique, best_has}
 use Rattle.fib_config.specs.inner.Bounds.{own_prefixes, prefix_of_route, host_of, candidates, depth_of, is_shared, left_behind, steps, route_ends, neighbor_end, ends, same_number, possible, allowance, IsBoundFor}
 use Rattle.fib_config.proofs.Counts.{count_within, count_within_length, front_count, one_more, none_more, count_front, each-left, each-right, each-of_map, each-of_flat_map}

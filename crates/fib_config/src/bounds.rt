@@ -7,7 +7,7 @@ ghost use Rattle.fib_resolve.specs.Pairs.{fixed_pairs, prefix_of};
 ghost use Rattle.fib_resolve.specs.Sizes.{same_adjacency};
 ghost use Rattle.std.specs.Set.{unique_keys};
 ghost use Rattle.std.specs.List.Sorted.{IsPermutation};
-ghost use Rattle.fib_changes.specs.Sources.{all_hops};
+ghost use Rattle.fib_resolve_changes.specs.Sources.{all_hops};
 ghost use Rattle.fib_resolve.specs.Tables.{IsSound};
 ghost use Rattle.fib_config.specs.inner.Bounds.{own_prefixes, prefix_of_route, host_of, candidates, depth_of, is_shared, left_behind, steps, route_ends, neighbor_end, ends, same_number, allowance, growth, IsBoundFor};
 
@@ -142,7 +142,7 @@ fn steps(prefixes: &[Prefix]) -> usize
 fn add_ends_of(out: &mut Vec<Adjacency>, route: &Route) -> Result<(), AllocError>
     ensures { OnOk result (out.new.items ≡ out.old.items ++ route_ends route.now) }
 {
-    fib_effective::add_adjacencies(out, route.prefix, route.paths.as_slice())
+    fib_resolve_pairs::add_adjacencies(out, route.prefix, route.paths.as_slice())
 }
 
 fn add_route_ends(out: &mut Vec<Adjacency>, routes: &[Route]) -> Result<(), AllocError>
@@ -174,15 +174,15 @@ fn ends(alloc: Global, tables: &Tables) -> Result<Vec<Adjacency>, AllocError>
     let mut out = Vec::new(alloc);
     add_route_ends(&mut out, tables.routes.as_slice())?;
     add_neighbor_ends(&mut out, tables.neighbors.as_slice())?;
-    fib_effective::distinct(alloc, out.as_slice())
+    fib_resolve_pairs::distinct(alloc, out.as_slice())
 }
 
 // The next hops of all recursive paths, each once.
 fn next_hops(alloc: Global, tables: &Tables) -> Result<Vec<Addr>, AllocError>
     ensures { IfOk result (λ v. v.items ≡ unique_keys same_number (all_hops tables.now)) }
 {
-    let hops = fib_effective::recursive_hops(alloc, tables.routes.as_slice())?;
-    fib_effective::distinct(alloc, hops.as_slice())
+    let hops = fib_resolve_pairs::recursive_hops(alloc, tables.routes.as_slice())?;
+    fib_resolve_pairs::distinct(alloc, hops.as_slice())
 }
 
 // The prefixes that can be effective, in order.

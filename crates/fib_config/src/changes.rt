@@ -1,9 +1,9 @@
 // The parts of edited tables, made anew.
 
-ghost use Rattle.std.specs.Prelude.{◌≡◌, List as ListValue, ℕ, ◌+◌, ◌≤◌, ◌<◌, ◌++◌, [], ◌∷◌, ◌-◌, true, vec_len, vec_capacity, OnOk, OnErr, IfOk, map, filter, not, position, length, unwrap_or, All, take, slice_set, slice_index_or};
+ghost use Rattle.std.specs.Prelude.{◌≡◌, List as ListValue, ℕ, ◌+◌, ◌≤◌, ◌<◌, ◌++◌, [], ◌∷◌, ◌-◌, None, false, true, vec_len, vec_capacity, OnOk, OnErr, IfOk, map, filter, not, position, length, unwrap_or, All, take, slice_set, slice_index_or};
 ghost use Rattle.std.specs.List.{list_any, insert, remove};
 ghost use Rattle.fib_config.specs.Undone.{place_of, put_back, undone, undone_all, IsBackOf, IsNeighborBackOf};
-ghost use Rattle.fib_config.specs.inner.Digest.{AreKeys, HasKeys, route_key, neighbor_key};
+ghost use Rattle.fib_config.specs.inner.Digest.{AreKeys, Follows, HasKeys, is_neighbor, route_key, neighbor_key};
 ghost use Rattle.fib_resolve.specs.Keys.{key_of, key_lt, same_key};
 ghost use Rattle.fib_resolve.specs.Tables.{has_name, interface_named, same_address, same_neighbor, is_route};
 ghost use Rattle.fib_resolve.specs.Edits.{number_of, with_state, set_neighbor, set_path, set_paths, kind_of, path_of, source_of, paths_at, set_route, without_route, lacks_key, without_paths, route_left, routes_without, with_routes};
@@ -20,6 +20,7 @@ use fib_resolve::{
 };
 use indexmap::IndexSet;
 use std::alloc::{AllocError, Global};
+use std::hash::Hash;
 use std::mem;
 
 pub fn interface_named(tables: &Tables, name: &Name) -> Option<usize>
@@ -241,41 +242,129 @@ pub fn put_neighbor(
     Ok(Undo::NeighborAdded)
 }
 
-/// Takes an edit back. Takes no memory.
-#[tactic(auto, unfolding(crate::specs::Undone::undone))]
-pub fn take_back(alloc: Global, tables: &mut Tables, undo: Undo)
-    ensures { tables.new ≡ undone undo tables.old }
+// Takes the last item out, and the last of the keys, where they are known. Takes no memory.
+fn drop_last_keyed<T: Drop, K: Eq + Hash + Drop>(
+    alloc: Global,
+    list: &mut List<T>,
+    keys: &mut Option<IndexSet<K>>,
+)
+    ensures list { list.new ≡ take (length list.old - 1) list.old }
+    ensures keys { Follows (λ ks. remove ks (length list.old - 1)) keys.old keys.new }
+{
+    let last = list.len().saturating_sub(1);
+    drop_last(alloc, list);
+    digest::drop_at(keys, last);
+}
+
+// The keys where they are still right, else none.
+fn keep_where<K: Eq + Hash + Drop>(keys: &mut Option<IndexSet<K>>, are_right: bool)
+    ensures kept { are_right ≡ true → keys.new ≡ keys.old }
+    ensures gone { are_right ≡ false → keys.new ≡ None }
+{
+    if !are_right {
+        *keys = None;
+    }
+}
+
+fn is_neighbor_of(interface: u32, addr: Addr, n: &Neighbor) -> bool
+    ensures { result ≡ is_neighbor interface addr n.now }
+{
+    n.interface == interface && n.addr == addr
+}
+
+// Puts a neighbor in place of another again, where there is that place. Takes no memory.
+#[tactic(auto, using(crate::proofs::Keying::neighbor_keys_put, crate::proofs::Keying::set_beyond))]
+fn put_neighbor_again(
+    alloc: Global,
+    neighbors: &mut List<Neighbor>,
+    keys: &mut Option<IndexSet<(u32, Addr)>>,
+    place: usize,
+    old: Neighbor,
+)
+    requires { AreKeys neighbor_key neighbors.old keys.old }
+    ensures list { neighbors.new ≡ slice_set neighbors.old place old }
+    ensures keys { AreKeys neighbor_key neighbors.new keys.new }
+{
+    if place >= neighbors.len() {
+        return;
+    }
+    let (interface, addr) = (old.interface, old.addr);
+    let new = set_at(alloc, neighbors, place, old);
+    keep_where(keys, is_neighbor_of(interface, addr, &new));
+}
+
+// Puts a route in place of another again, where there is that place. Takes no memory.
+#[tactic(auto, using(crate::proofs::Keying::set_beyond))]
+fn put_route_again(
+    alloc: Global,
+    routes: &mut List<Route>,
+    keys: &mut Option<IndexSet<(Prefix, u8)>>,
+    place: usize,
+    old: Route,
+)
+    requires { AreKeys route_key routes.old keys.old }
+    ensures list { routes.new ≡ slice_set routes.old place old }
+    ensures keys { AreKeys route_key routes.new keys.new }
+{
+    if place >= routes.len() {
+        return;
+    }
+    let (prefix, source) = (old.prefix, old.source);
+    let new = set_at(alloc, routes, place, old);
+    keep_where(keys, is_route(prefix, source, &new));
+}
+
+/// Takes an edit back, and what was known of its keys with it. Takes no memory. The keys of routes are forgotten where a route that went
+/// comes back, or all routes do; those of neighbors where all neighbors do.
+#[tactic(auto, unfolding(crate::specs::Undone::undone), using(crate::proofs::Keying::keys_shorter),)]
+pub fn take_back(alloc: Global, tables: &mut Tables, digest: &mut Digest, undo: Undo)
+    requires { HasKeys tables.old digest.old }
+    ensures tables { tables.new ≡ undone undo tables.old }
+    ensures keys { HasKeys tables.new digest.new }
+    ensures bound { digest.new.bound ≡ digest.old.bound }
 {
     match undo {
         Undo::Interfaces(old) => tables.interfaces = old,
         Undo::Addresses(old) => tables.addresses = old,
-        Undo::Neighbors(old) => tables.neighbors = old,
-        Undo::NeighborAdded => drop_last(alloc, &mut tables.neighbors),
-        Undo::NeighborSet { place, old } => {
-            if place < tables.neighbors.len() {
-                let _new = set_at(alloc, &mut tables.neighbors, place, old);
-            }
+        Undo::Neighbors(old) => {
+            tables.neighbors = old;
+            digest.neighbors = None;
         }
-        Undo::Routes(old) => tables.routes = old,
-        Undo::RouteAdded => drop_last(alloc, &mut tables.routes),
+        Undo::NeighborAdded => {
+            drop_last_keyed(alloc, &mut tables.neighbors, &mut digest.neighbors);
+        }
+        Undo::NeighborSet { place, old } => {
+            let keys = &mut digest.neighbors;
+            put_neighbor_again(alloc, &mut tables.neighbors, keys, place, old);
+        }
+        Undo::Routes(old) => {
+            tables.routes = old;
+            digest.routes = None;
+        }
+        Undo::RouteAdded => {
+            drop_last_keyed(alloc, &mut tables.routes, &mut digest.routes);
+        }
         Undo::RouteSet { place, old } => {
-            if place < tables.routes.len() {
-                let _new = set_at(alloc, &mut tables.routes, place, old);
-            }
+            let keys = &mut digest.routes;
+            put_route_again(alloc, &mut tables.routes, keys, place, old);
         }
         Undo::RouteGone { place, old, spare } => {
             put_back(alloc, &mut tables.routes, place, old, spare);
+            digest.routes = None;
         }
     }
 }
 
 /// Takes edits back, the last one first. Takes no memory.
-pub fn take_all_back(alloc: Global, tables: &mut Tables, undos: Vec<Undo>)
-    ensures { tables.new ≡ undone_all undos.items tables.old }
+pub fn take_all_back(alloc: Global, tables: &mut Tables, digest: &mut Digest, undos: Vec<Undo>)
+    requires { HasKeys tables.old digest.old }
+    ensures tables { tables.new ≡ undone_all undos.items tables.old }
+    ensures keys { HasKeys tables.new digest.new }
+    ensures bound { digest.new.bound ≡ digest.old.bound }
 {
     let mut left = undos;
     while let Some(undo) = left.pop() {
-        take_back(alloc, tables, undo);
+        take_back(alloc, tables, digest, undo);
     }
 }
 
@@ -316,7 +405,8 @@ fn is_within_last(later: &Undo, undos: &[Undo]) -> bool
 /// How a deletion after these edits is to be taken back: by a copy of all routes, unless the last of them has one already. That one gives
 /// the routes back whatever they are by then, so what takes the deletion back won't be kept.
 pub fn back_after(undos: &[Undo]) -> Back
-    ensures { result ≡ Spare → (S : TablesValue) (routes : ListValue RouteValue) → undone_all undos.now (with_routes S routes) ≡ undone_all undos.now S }
+    ensures { result ≡ Spare → (S : TablesValue) (routes : ListValue RouteValue)
+        → undone_all undos.now (with_routes S routes) ≡ undone_all undos.now S }
 {
     match undos.last() {
         Some(Undo::Routes(_)) => Back::Spare,
@@ -424,7 +514,8 @@ pub fn without_neighbor(
     addr: Addr,
     neighbors: &[Neighbor],
 ) -> Result<List<Neighbor>, AllocError>
-    ensures { IfOk result (λ x. x ≡ filter (λ n. not (same_neighbor n (record { interface = interface; addr = addr; mac = 0 }))) neighbors.now) }
+    ensures { IfOk result (λ x. x ≡ filter (λ n. not
+        (same_neighbor n (record { interface = interface; addr = addr; mac = 0 }))) neighbors.now) }
 {
     let kept: Vec<Neighbor> = neighbors
         .iter()

@@ -5,7 +5,7 @@ ghost use Rattle.fib_resolve.specs.Tables.{fresh, IsSound};
 ghost use Rattle.fib_resolve.specs.Edits.{edited, paths_at};
 ghost use Rattle.fib_resolve.specs.Refusals.{refused, edited_in_turn, reasons, first_reason};
 ghost use Rattle.fib_config.specs.Undone.{undone, undone_all};
-ghost use Rattle.fib_changes.specs.Differ.{Differ, change_of};
+ghost use Rattle.fib_resolve_changes.specs.Differ.{Differ, change_of};
 ghost use Rattle.fib_resolve.specs.Reachable.{IsWritten};
 ghost use Rattle.fib_config.specs.Config.{TellsRefusal, TellsFirstRefused};
 
@@ -151,8 +151,8 @@ impl Config {
         ensures tables { self.new.tables ≡ undone undo self.old.tables }
         ensures room { self.new.room ≡ self.old.room }
     {
-        changes::take_back(self.alloc, &mut self.held, undo);
-        self.digest = Digest::unknown();
+        changes::take_back(self.alloc, &mut self.held, &mut self.digest, undo);
+        self.digest.forget_bound();
     }
 
     /// Makes the edits in turn, each judged as `edit` does on the tables that those before it give, and says at which places of the tables
@@ -184,8 +184,8 @@ impl Config {
         ensures tables { self.new.tables ≡ undone_all undos.items self.old.tables }
         ensures room { self.new.room ≡ self.old.room }
     {
-        changes::take_all_back(self.alloc, &mut self.held, undos);
-        self.digest = Digest::unknown();
+        changes::take_all_back(self.alloc, &mut self.held, &mut self.digest, undos);
+        self.digest.forget_bound();
     }
 
     /// Makes the edits in turn, or says which is the first that is refused on the tables that those before it give, and why. After a

@@ -43,6 +43,13 @@ impl Digest {
         Digest::bounded(usize::MAX)
     }
 
+    /// The allowance may be any. What is known of the keys stays.
+    pub fn forget_bound(&mut self)
+        ensures { (S : TablesValue) → HasKeys S self.old → IsDigest S self.new }
+    {
+        self.bound = usize::MAX;
+    }
+
     /// No keys are known.
     pub fn bounded(bound: usize) -> Digest
         ensures { (S : TablesValue) → IsBoundFor bound (allowance S) → IsDigest S result }

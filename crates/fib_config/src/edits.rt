@@ -3,7 +3,7 @@ ghost use Rattle.std.specs.Prelude.{◌≡◌, ◌≤◌, ◌++◌, [], ◌∷�
 ghost use Rattle.std.specs.List.{AllByRecursion, IsDistinct};
 ghost use Rattle.fib_config.specs.Undone.{undone, undone_all, IsBackOf, IsNeighborBackOf};
 ghost use Rattle.fib_config.specs.inner.Digest.{AreKeys, HasKeys, IsDigest, route_key, neighbor_key};
-ghost use Rattle.fib_changes.specs.Differ.{Differ, change_of};
+ghost use Rattle.fib_resolve_changes.specs.Differ.{Differ, change_of};
 ghost use Rattle.fib_resolve.specs.Tables.{IsSound, same_neighbor, same_route};
 ghost use Rattle.fib_resolve.specs.declared.types.Tables.{Tables as TablesValue};
 ghost use Rattle.fib_resolve.specs.Refusals.{refused, edited_in_turn, reasons, first_reason};
@@ -16,11 +16,11 @@ use crate::errors::{BatchError, EditError};
 use crate::undo::{Back, Edited, EditedAll, Undo};
 use crate::{bounds, changes, reasons, sizes};
 use fib_addr::{Addr, Prefix};
-use fib_changes::Change;
 use fib_resolve::{
     Address, Duplicate, Edit, FibSource, Interface, List, Neighbor, Path, PathSpec, Refusal, Route,
     Tables,
 };
+use fib_resolve_changes::Change;
 use indexmap::IndexSet;
 use std::alloc::{AllocError, Global};
 use std::mem;
@@ -126,7 +126,8 @@ fn drop_neighbor(
 ) -> Result<Undo, AllocError>
     requires keys { AreKeys neighbor_key neighbors.old keys.old }
     requires apart { IsDistinct same_neighbor neighbors.old }
-    ensures ok { OnOk result (neighbors.new ≡ filter (λ n. not (same_neighbor n (record { interface = interface; addr = addr; mac = 0 }))) neighbors.old) }
+    ensures ok { OnOk result (neighbors.new ≡ filter
+        (λ n. not (same_neighbor n (record { interface = interface; addr = addr; mac = 0 }))) neighbors.old) }
     ensures back { IfOk result (λ u. IsNeighborBackOf u neighbors.new neighbors.old) }
     ensures err { OnErr result (neighbors.new ≡ neighbors.old) }
     ensures keys { AreKeys neighbor_key neighbors.new keys.new }
@@ -166,7 +167,8 @@ fn rest_of_route(
 ) -> Result<Route, AllocError>
     requires few { length tables.now.interfaces ≤ 256 }
     requires keys { HasKeys tables.now digest.now }
-    ensures { IfOk result (λ r. route_left r.prefix r.source r.paths tables.now.routes ≡ routes_without tables.now prefix source specs.now) }
+    ensures { IfOk result (λ r. route_left r.prefix r.source r.paths tables.now.routes
+        ≡ routes_without tables.now prefix source specs.now) }
 {
     let paths = match specs {
         [] => List::new(alloc),
@@ -191,7 +193,9 @@ fn add_route(
 ) -> Result<Undo, AllocError>
     requires few { length tables.old.interfaces ≤ 256 }
     requires keys { HasKeys tables.old digest.old }
-    ensures ok { OnOk result (tables.new ≡ with_routes tables.old (set_route (record { prefix = prefix; source = source_of api; paths = paths_with tables.old prefix api specs.now }) tables.old.routes)) }
+    ensures ok { OnOk result (tables.new ≡ with_routes tables.old
+        (set_route (record { prefix = prefix; source = source_of api; paths = paths_with tables.old prefix api specs.now })
+        tables.old.routes)) }
     ensures back { IfOk result (λ u. undone u tables.new ≡ tables.old) }
     ensures err { OnErr result (tables.new ≡ tables.old) }
     ensures keys { HasKeys tables.new digest.new }
@@ -381,13 +385,13 @@ fn fitted(
             Ok(edited)
         }
         Ok(None) => {
-            changes::take_back(alloc, tables, edited.undo);
-            *digest = Digest::bounded(before);
+            changes::take_back(alloc, tables, digest, edited.undo);
+            digest.bound = before;
             Err(EditError::Refused(Refusal::TooLarge))
         }
         Err(_) => {
-            changes::take_back(alloc, tables, edited.undo);
-            *digest = Digest::bounded(before);
+            changes::take_back(alloc, tables, digest, edited.undo);
+            digest.bound = before;
             Err(EditError::Memory)
         }
     }
@@ -515,8 +519,8 @@ pub fn changed_in_turn(
         Ok(()) => Ok(kept),
         Err(error) => {
             let EditedAll { undos, .. } = kept;
-            changes::take_all_back(alloc, tables, undos);
-            *digest = Digest::bounded(before);
+            changes::take_all_back(alloc, tables, digest, undos);
+            digest.bound = before;
             Err(error)
         }
     }

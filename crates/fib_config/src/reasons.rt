@@ -178,7 +178,8 @@ fn has_route(tables: &Tables, digest: &Digest, prefix: Prefix, source: FibSource
 fn refused_address(tables: &Tables, a: &Address) -> Option<Refusal>
     requires a { a.now.len ≤ 32 }
     requires all { All (λ b. b.len ≤ 32) tables.now.addresses }
-    ensures { result ≡ first_reason (when (has_address tables.now a.now) Refusal.AddressThere ∷ when (connected_elsewhere tables.now a.now) Refusal.ConnectedElsewhere ∷ []) }
+    ensures { result ≡ first_reason (when (has_address tables.now a.now) Refusal.AddressThere
+        ∷ when (connected_elsewhere tables.now a.now) Refusal.ConnectedElsewhere ∷ []) }
 {
     if has_address(tables, a) {
         Some(Refusal::AddressThere)

@@ -32,7 +32,7 @@ pub fn fitting_bound(
     if counted <= room as usize {
         return Ok(Some(counted));
     }
-    if fib_effective::size(alloc, tables)? <= room {
+    if fib_resolve_pairs::size(alloc, tables)? <= room {
         return Ok(Some(counted));
     }
     Ok(None)

@@ -1,6 +1,6 @@
 // What takes an edit back.
-use fib_changes::Change;
 use fib_resolve::{Address, Interface, List, Neighbor, Route};
+use fib_resolve_changes::Change;
 
 /// What takes an edit back, on the tables that it made: `undone` in `specs/Undone` says what each gives.
 #[derive(Drop)]

@@ -3,8 +3,8 @@ use Rattle.std.proofs.Common.{inl, inr, zero, suc, ◌≡◌, ℕ, ◌+◌, ◌-
 use Rattle.std.specs.Prelude.{Contains, Option, Some, None, count_by, replicate, slice_get}
 use Rattle.std.proofs.lemmas.Map.Made.{is_member-Decides}
 use Rattle.std.proofs.lemmas.List.Folds.{sum_by-replicate}
-use Rattle.fib_list.proofs.Booleans.{count_by-cons}
-use Rattle.fib_list.proofs.Lists.{either}
+use Rattle.fib_base_list.proofs.Booleans.{count_by-cons}
+use Rattle.fib_base_list.proofs.Lists.{either}
 use Rattle.fib_addr.specs.Longest.{everything}
 use Rattle.fib_addr.specs.Prefixes.{Prefix, same_prefix}
 use Rattle.fib_addr.proofs.PrefixLaws.{same_prefix-Decides}
@@ -12,36 +12,36 @@ use Rattle.fib_resolve.specs.Pairs.{all_pairs, base_pairs, best_pair, chosen, en
 use Rattle.fib_resolve.specs.Sizes.{adjacencies, plies, size}
 use Rattle.fib_resolve.specs.Tables.{fresh}
 use Rattle.fib_resolve.specs.declared.types.Tables.{Tables}
-use Rattle.fib_stands.proofs.Nibbles.{everything_entry}
-use Rattle.fib_changes.specs.Ranks.{has_entry}
-use Rattle.fib_changes.proofs.CauseLaws.{any_from}
-use Rattle.fib_changes.proofs.Edits.{any_in}
+use Rattle.fib_core_stands.proofs.Nibbles.{everything_entry}
+use Rattle.fib_resolve_changes.specs.Ranks.{has_entry}
+use Rattle.fib_resolve_changes.proofs.CauseLaws.{any_from}
+use Rattle.fib_resolve_changes.proofs.Edits.{any_in}
 use Rattle.fib_config.specs.Config.{Setup}
-use Rattle.fib_entries.specs.Known.{Known, StandsFor, prefix_of, rank_of}
-use Rattle.fib_board.specs.Boards.{Board, IsFresh}
-use Rattle.fib_ledger.proofs.Books.{times_within}
-use Rattle.fib_ledger.specs.Ledgers.{known_of, total}
-use Rattle.fib_ledger.specs.declared.late.Late.{Late}
-use Rattle.fib_ledger.specs.declared.ledger.Known.{Known as KnownOf}
-use Rattle.fib_queue.specs.declared.order.Queued.{Queued}
+use Rattle.fib_entries_rows.specs.Known.{Known, StandsFor, prefix_of, rank_of}
+use Rattle.fib_core_board.specs.Boards.{Board, IsFresh}
+use Rattle.fib_stack_ledger.proofs.Books.{times_within}
+use Rattle.fib_stack_ledger.specs.Ledgers.{known_of, total}
+use Rattle.fib_stack_ledger.specs.declared.late.Late.{Late}
+use Rattle.fib_stack_ledger.specs.declared.ledger.Known.{Known as KnownOf}
+use Rattle.fib_stack_queue.specs.declared.order.Queued.{Queued}
 use Rattle.fib_pool.specs.Objects as pool
 use Rattle.fib_pool.specs.Objects.{free_in}
 use Rattle.fib_pool.specs.declared.object.Kind.TheVariants as kinds
 use Rattle.fib_pool.specs.declared.object.Object.{Object}
 use Rattle.fib_ply.specs.declared.rows.Row.{Row}
 use Rattle.fib_plane.specs.Planes.{Plane}
-use Rattle.fib_joined.specs.Promise.{Promise}
-use Rattle.fib_joined.specs.View.{IsPlane, IsScanned, View}
-use Rattle.fib_lawful.specs.State.{Log}
+use Rattle.fib_plane_view.specs.Promise.{Promise}
+use Rattle.fib_plane_view.specs.View.{IsPlane, IsScanned, View}
+use Rattle.fib_core_lawful.specs.State.{Log}
 use Rattle.fib_ply.specs.Tables.{Stands, Table}
-use Rattle.fib_shared.specs.Shares.{promise_of, view_of}
+use Rattle.fib_plane.specs.Views.{promise_of, view_of}
 use Rattle.fib_stack.specs.Joined.{Joined, Parts, in_change, table_of}
 use Rattle.fib_stack.proofs.Moving.{moved_joined, scan_moved}
 use Rattle.fib_stack.proofs.Ordering.{begun_in_order}
-use Rattle.fib_quiet.specs.Rest.{IsBeginning}
-use Rattle.fib_quiet.proofs.Early.{same_stands}
-use Rattle.fib_quiet.proofs.Fresh.{begins_joined}
-use Rattle.fib_woken.specs.Waking.{is_among}
+use Rattle.fib_control_quiet.specs.Rest.{IsBeginning}
+use Rattle.fib_control_quiet.proofs.Early.{same_stands}
+use Rattle.fib_control_quiet.proofs.Fresh.{begins_joined}
+use Rattle.fib_stack_waking.specs.Waking.{is_among}
 use Rattle.fib_control.specs.Controls.{Control, parts_in, promise_in, state_now, view_in}
 use Rattle.fib_control.specs.inner.Standing.{IsStanding}
 use Rattle.fib_control.specs.inner.Starting.{IsStarted}

@@ -4,7 +4,7 @@ use Rattle.std.specs.Prelude.{Contains, Option, Some, None, ◌⊎◌}
 use Rattle.std.specs.List.{AllByRecursion}
 use Rattle.std.proofs.lemmas.List.{length-append, length-map}
 use Rattle.std.proofs.lemmas.List.Elements.{Contains-append_left, Contains-append_right}
-use Rattle.fib_list.proofs.Lists.{each-weaker}
+use Rattle.fib_base_list.proofs.Lists.{each-weaker}
 use Rattle.fib_addr.specs.Longest.{everything}
 use Rattle.fib_addr.specs.Prefixes.{Prefix}
 use Rattle.fib_reach.specs.Walks.{AllDiffer}
@@ -15,13 +15,13 @@ use Rattle.fib_resolve.specs.Tables.{fresh}
 use Rattle.fib_resolve.specs.declared.types.Tables.{Tables}
 use Rattle.fib_resolve.proofs.OneList.{each-itself}
 use Rattle.fib_resolve.proofs.TouchedEntries.{touched_effective}
-use Rattle.fib_changes.proofs.SamePairs.{map_from, map_in}
-use Rattle.fib_entries.specs.Known.{Known, StandsFor, prefix_of, rank_in, rank_of, row_of}
-use Rattle.fib_entries.specs.Changes.{AreMoved, AreTouched, prefix_moved}
-use Rattle.fib_entries.specs.declared.changes.Moved.{Moved}
-use Rattle.fib_entries.specs.declared.rows.Row.{Row}
-use Rattle.fib_entries.proofs.Standing.{row_there}
-use Rattle.fib_entries.proofs.Touches.{ascending_differ}
+use Rattle.fib_resolve_changes.proofs.SamePairs.{map_from, map_in}
+use Rattle.fib_entries_rows.specs.Known.{Known, StandsFor, prefix_of, rank_in, rank_of, row_of}
+use Rattle.fib_entries_rows.specs.Changes.{AreMoved, AreTouched, prefix_moved}
+use Rattle.fib_entries_rows.specs.declared.changes.Moved.{Moved}
+use Rattle.fib_entries_rows.specs.declared.rows.Row.{Row}
+use Rattle.fib_entries_rows.proofs.Standing.{row_there}
+use Rattle.fib_entries_rows.proofs.Touches.{ascending_differ}
 
 entries_few : (S : Tables) → length (entries S) ≤ size S
 unfolding size

@@ -2,7 +2,7 @@
 use Rattle.std.proofs.Common.{inl, inr, ⊎_elim, ◌≡◌, ◌⊎◌, ℕ, zero, suc, ◌+◌, ◌-◌, ◌^◌, ◌<◌, ◌≤◌, ◌||◌, Bool, true, false, List, [], ◌∷◌, ◌++◌, length, refl, sym, ap, ◌∙◌, subst, arith}
 use Rattle.std.specs.Prelude.{Contains, Option, Some, None, slice_get}
 use Rattle.fib_addr.specs.Prefixes.{Prefix}
-use Rattle.fib_lawful.proofs.Histories.{get_last}
+use Rattle.fib_core_lawful.proofs.Histories.{get_last}
 use Rattle.fib_resolve.specs.Resolution.{resolve}
 use Rattle.fib_resolve.specs.Sizes.{size}
 use Rattle.fib_resolve.specs.Tables.{IsSound, fresh}
@@ -12,27 +12,27 @@ use Rattle.fib_core.specs.StandsFor.{Stands}
 use Rattle.fib_core.specs.Walk.{IsFlow, walk}
 use Rattle.fib_core.specs.Trails.{Trail}
 use Rattle.fib_config.specs.Config.{Setup}
-use Rattle.fib_entries.specs.Known.{Known, StandsFor, rank_of}
+use Rattle.fib_entries_rows.specs.Known.{Known, StandsFor, rank_of}
 use Rattle.fib_pool.specs.Objects.{free_in}
 use Rattle.fib_pool.proofs.Pools.{free_few}
 use Rattle.fib_ply.specs.Rows.{ArePrefixes}
-use Rattle.fib_board.specs.Boards.{Pass, board_begun, board_settled}
-use Rattle.fib_board.specs.May.{MayBegin, MaySettle}
+use Rattle.fib_core_board.specs.Boards.{Pass, board_begun, board_settled}
+use Rattle.fib_core_board.specs.May.{MayBegin, MaySettle}
 use Rattle.fib_plane.specs.Planes.{Plane}
 use Rattle.fib_plane.specs.Sound.{IsPlane as IsTold}
-use Rattle.fib_queue.specs.Queues.{rank_in}
-use Rattle.fib_queue.specs.declared.order.Queued.{Queued}
-use Rattle.fib_joined.specs.View.{IsPlane}
-use Rattle.fib_serving.specs.Stack.{is_some}
-use Rattle.fib_shared.specs.Shares.{promise_of, view_of}
+use Rattle.fib_stack_queue.specs.Queues.{rank_in}
+use Rattle.fib_stack_queue.specs.declared.order.Queued.{Queued}
+use Rattle.fib_plane_view.specs.View.{IsPlane}
+use Rattle.fib_core_promise.specs.Stack.{is_some}
+use Rattle.fib_plane.specs.Views.{promise_of, view_of}
 use Rattle.fib_stack.specs.Joined.{Joined, queued_in}
 use Rattle.fib_stack.proofs.Ordering.{begun_in_order}
 use Rattle.fib_stack.proofs.Rooming.{room_at_change}
-use Rattle.fib_quiet.specs.Rest.{IsAccounted, IsAtRest, IsSeen}
-use Rattle.fib_quiet.proofs.Versions.{joined_begun, joined_first, joined_settled}
-use Rattle.fib_quiet.proofs.Planed.{stands_at_rest, used_at_rest, walks_at_rest}
-use Rattle.fib_quiet.proofs.Using.{accounted}
-use Rattle.fib_quiet.proofs.Workers.{same_versions}
+use Rattle.fib_control_quiet.specs.Rest.{IsAccounted, IsAtRest, IsSeen}
+use Rattle.fib_control_quiet.proofs.Versions.{joined_begun, joined_first, joined_settled}
+use Rattle.fib_control_quiet.proofs.Planed.{stands_at_rest, used_at_rest, walks_at_rest}
+use Rattle.fib_control_quiet.proofs.Using.{accounted}
+use Rattle.fib_control_quiet.proofs.Workers.{same_versions}
 use Rattle.fib_control.specs.Controls.{Control, IsQuiet, is_queued, parts_in, promise_in, rank_by, state_now, tables_in, view_in}
 use Rattle.fib_control.specs.inner.Standing.{IsStanding}
 use Rattle.fib_control.proofs.Resting.{AreUsed, drained, first_rests, quiet_rests}

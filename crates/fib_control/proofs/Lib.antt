@@ -2,6 +2,7 @@ pub mod Queued
 pub mod Few
 pub mod Resting
 pub mod Kept
+pub mod Taking
 pub mod Turned
 pub mod Telling
 pub mod Started

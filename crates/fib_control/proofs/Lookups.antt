@@ -15,16 +15,16 @@ use Rattle.fib_core.specs.Union.{Goes}
 use Rattle.fib_core.proofs.Numbers.{goes_of, target_of}
 use Rattle.fib_core.proofs.Stands.{adjacency_word}
 use Rattle.fib_core.proofs.Walks.{after_ended}
-use Rattle.fib_hops.specs.declared.stage.Stage.{Stage}
-use Rattle.fib_hops.specs.declared.stage.Stage.TheVariants as stages
-use Rattle.fib_hops.specs.Stages.{StandsAt}
+use Rattle.fib_core.specs.declared.stage.Stage.{Stage}
+use Rattle.fib_core.specs.declared.stage.Stage.TheVariants as stages
+use Rattle.fib_core.specs.Stages.{StandsAt}
 use Rattle.fib_pool.specs.Objects.{free_in}
 use Rattle.fib_pool.proofs.Pools.{free_few, live_in}
-use Rattle.fib_joined.specs.View.{leads}
+use Rattle.fib_plane_view.specs.View.{leads}
 use Rattle.fib_plane.specs.Planes.{Plane}
 use Rattle.fib_plane.specs.Sound.{IsPlane}
-use Rattle.fib_shared.specs.Shares.{view_of}
-use Rattle.fib_shared.proofs.Seeing.{edge_leads, goes_up, live_down}
+use Rattle.fib_plane.specs.Views.{view_of}
+use Rattle.fib_plane.proofs.Views.Seeing.{edge_leads, goes_up, live_down}
 use Rattle.fib_control.specs.inner.Readable.{IsAdjacencyIn, IsReadable}
 
 -- a step more
@@ -138,3 +138,18 @@ module _ (p : Plane) (told : IsPlane p) where
       let few = free_few p.objects in
       let size = told.size in
       omega (arith, u, f, few, size)
+
+-- a step on a ply, and one on a balance, by the word that is in the cell
+pub stepped_ply : (cells : List ℕ) (a h o d : ℕ) (p : Place) (w : Word) (s r : Stage) → s ≡ stages.Ply o d → w ≡ word_at cells o (nibble a d)
+    → StandsAt h (from_ply d w) r → StandsAt h p s → StandsAt h (stepped cells a h p) r
+stepped_ply cells a h o d p w s r on is next at =
+    let here : p ≡ ply o d = subst (λ (t : Stage). StandsAt h p t) on at in
+    subst (λ (q : Place). StandsAt h (stepped cells a h q) r) (sym here) (subst (λ (v : Word). StandsAt h (from_ply d v) r) is next)
+
+pub stepped_balance : (cells : List ℕ) (a h o left : ℕ) (p : Place) (w : Word) (s r : Stage) → s ≡ stages.Balance o left → w ≡ word_at cells o (left % 16)
+    → ((n : ℕ) → halved h n ≡ left → StandsAt h (from_balance n w) r) → StandsAt h p s → StandsAt h (stepped cells a h p) r
+stepped_balance cells a h o left p w s r on is next at =
+    let here : (n : ℕ) × (p ≡ balance o n) × (halved h n ≡ left) = subst (λ (t : Stage). StandsAt h p t) on at in
+    let word : w ≡ word_at cells o (halved h here.0 % 16) = is ∙ ap (λ k. word_at cells o (k % 16)) (sym here.2) in
+    subst (λ (q : Place). StandsAt h (stepped cells a h q) r) (sym here.1)
+    (subst (λ (v : Word). StandsAt h (from_balance here.0 v) r) word (next here.0 here.2))

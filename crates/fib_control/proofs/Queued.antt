@@ -6,17 +6,17 @@ use Rattle.std.specs.List.{list_any}
 use Rattle.std.proofs.lemmas.List.Folds.{list_any_more}
 use Rattle.fib_addr.specs.Prefixes.{Prefix, same_prefix}
 use Rattle.fib_addr.proofs.PrefixLaws.{same_prefix-Decides}
-use Rattle.fib_list.proofs.Lists.{either}
+use Rattle.fib_base_list.proofs.Lists.{either}
 use Rattle.fib_resolve.specs.Touched.{is_touched}
 use Rattle.fib_resolve.specs.declared.types.Tables.{Tables}
-use Rattle.fib_changes.proofs.CauseLaws.{any_from}
-use Rattle.fib_changes.proofs.Edits.{any_in}
-use Rattle.fib_changes.proofs.SamePairs.{map_from}
-use Rattle.fib_serving.specs.Stack.{is_some}
-use Rattle.fib_entries.specs.Known.{rank_of}
-use Rattle.fib_entries.specs.Changes.{AreMoved, AreTouched, prefix_moved}
-use Rattle.fib_entries.specs.declared.changes.Moved.{Moved}
-use Rattle.fib_entries.specs.declared.rows.Row.{Row}
+use Rattle.fib_resolve_changes.proofs.CauseLaws.{any_from}
+use Rattle.fib_resolve_changes.proofs.Edits.{any_in}
+use Rattle.fib_resolve_changes.proofs.SamePairs.{map_from}
+use Rattle.fib_core_promise.specs.Stack.{is_some}
+use Rattle.fib_entries_rows.specs.Known.{rank_of}
+use Rattle.fib_entries_rows.specs.Changes.{AreMoved, AreTouched, prefix_moved}
+use Rattle.fib_entries_rows.specs.declared.changes.Moved.{Moved}
+use Rattle.fib_entries_rows.specs.declared.rows.Row.{Row}
 use Rattle.fib_control.specs.Controls.{is_moved}
 
 -- one more of a list

@@ -3,24 +3,24 @@ use Rattle.std.proofs.Common.{◌≡◌, ℕ, ◌<◌, ◌≤◌, Bool, false, L
 use Rattle.std.specs.Prelude.{Contains, Option, Some, None}
 use Rattle.fib_addr.specs.Prefixes.{Prefix, IsPrefix}
 use Rattle.fib_resolve.specs.Pairs.{entries}
-use Rattle.fib_changes.proofs.SamePairs.{map_from}
-use Rattle.fib_changes.proofs.Ranking.{ranked}
-use Rattle.fib_changes.specs.Ranks.{IsRanked}
+use Rattle.fib_resolve_changes.proofs.SamePairs.{map_from}
+use Rattle.fib_resolve_changes.proofs.Ranking.{ranked}
+use Rattle.fib_resolve_changes.specs.Ranks.{IsRanked}
 use Rattle.fib_core.specs.declared.word.Word.{Word}
 use Rattle.fib_core.specs.Union.{Retired}
-use Rattle.fib_entries.specs.Known.{prefix_of}
+use Rattle.fib_entries_rows.specs.Known.{prefix_of}
 use Rattle.fib_pool.specs.declared.object.AdjacencyRecord.{AdjacencyRecord}
-use Rattle.fib_ledger.specs.Deferred.{late_at}
-use Rattle.fib_ledger.specs.declared.late.Late.{Late}
-use Rattle.fib_ledger.specs.Ledgers.{times, used_by}
-use Rattle.fib_queue.specs.Queues.{rank_in}
-use Rattle.fib_queue.specs.declared.order.Queued.{Queued}
+use Rattle.fib_stack_ledger.specs.Deferred.{late_at}
+use Rattle.fib_stack_ledger.specs.declared.late.Late.{Late}
+use Rattle.fib_stack_ledger.specs.Ledgers.{times, used_by}
+use Rattle.fib_stack_queue.specs.Queues.{rank_in}
+use Rattle.fib_stack_queue.specs.declared.order.Queued.{Queued}
 use Rattle.fib_ply.specs.Rows.{ArePrefixes}
-use Rattle.fib_board.specs.Told.{IsHistory}
-use Rattle.fib_joined.specs.View.{IsPlane}
-use Rattle.fib_serving.specs.Stack.{is_some}
-use Rattle.fib_shared.specs.Shares.{copy_seen}
-use Rattle.fib_quiet.specs.Rest.{IsAtRest, IsDrained}
+use Rattle.fib_core_board.specs.Told.{IsHistory}
+use Rattle.fib_plane_view.specs.View.{IsPlane}
+use Rattle.fib_core_promise.specs.Stack.{is_some}
+use Rattle.fib_plane.specs.Views.{copy_seen}
+use Rattle.fib_control_quiet.specs.Rest.{IsAtRest, IsDrained}
 use Rattle.fib_control.specs.Controls.{Control, IsQuiet, is_queued, parts_in, promise_in, rank_by, tables_in, view_in}
 use Rattle.fib_control.specs.inner.Standing.{IsStanding}
 

@@ -5,24 +5,24 @@ use Rattle.std.proofs.Common.{inl, inr, ⊎_elim, ◌⊎◌, ◌≡◌, ◌≢�
 use Rattle.std.specs.Prelude.{Option, Some, None, slice_get, if◌then◌else◌}
 use Rattle.std.specs.List.{list_any}
 use Rattle.std.proofs.lemmas.List.Folds.{list_any-append}
-use Rattle.fib_list.proofs.Lists.{either}
+use Rattle.fib_base_list.proofs.Lists.{either}
 use Rattle.fib_addr.specs.Longest.{everything}
 use Rattle.fib_addr.specs.Prefixes.{IsPrefix, Prefix, same_prefix}
 use Rattle.fib_addr.proofs.PrefixLaws.{same_prefix-Decides}
 use Rattle.fib_core.specs.declared.word.Word.TheVariants as words
 use Rattle.fib_pool.specs.declared.object.AdjacencyRecord.{AdjacencyRecord}
 use Rattle.fib_pool.specs.declared.object.Kind.TheVariants as kinds
-use Rattle.fib_joined.specs.Frames.{Beside}
-use Rattle.fib_joined.specs.Promise.{Promise}
-use Rattle.fib_joined.specs.View.{HasRoom, IsBalance, IsTaken, View}
+use Rattle.fib_plane_view.specs.Frames.{Beside}
+use Rattle.fib_plane_view.specs.Promise.{Promise}
+use Rattle.fib_plane_view.specs.View.{HasRoom, IsBalance, IsTaken, View}
 use Rattle.fib_ply.specs.Tables.{Stands, Table, object_in}
-use Rattle.fib_serving.specs.Matches.{added}
-use Rattle.fib_serving.specs.Stack.{is_some}
-use Rattle.fib_shared.specs.Shares.{IsBare}
-use Rattle.fib_quiet.specs.Early.{IsEarly, IsTried}
-use Rattle.fib_quiet.proofs.Early.{still_early}
+use Rattle.fib_core_promise.specs.Matches.{added}
+use Rattle.fib_core_promise.specs.Stack.{is_some}
+use Rattle.fib_plane.specs.Views.{IsBare}
+use Rattle.fib_control_quiet.specs.Early.{IsEarly, IsTried}
+use Rattle.fib_control_quiet.proofs.Early.{still_early}
 use Rattle.fib_control.proofs.Queued.{swapped}
-use Rattle.fib_woken.specs.Waking.{is_among}
+use Rattle.fib_stack_waking.specs.Waking.{is_among}
 use Rattle.fib_control.specs.inner.Starting.{IsStarted}
 
 named_more : (named : List Prefix) (x e : Prefix) → is_among (named ++ x ∷ []) e ≡ is_among named e || same_prefix x e

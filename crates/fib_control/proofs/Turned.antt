@@ -4,27 +4,27 @@ use Rattle.std.proofs.Common.{map, inl, inr, ⊎_elim, ◌≡◌, ◌≢◌, ◌
 use Rattle.std.specs.Prelude.{Contains, Option, Some, None, slice_get, if◌then◌else◌}
 use Rattle.std.specs.List.{AllByRecursion, list_any}
 use Rattle.std.proofs.lemmas.List.Folds.{list_any-append}
-use Rattle.fib_list.proofs.Booleans.{and_both, or_cases}
-use Rattle.fib_list.proofs.Lists.{each-weaker, either}
+use Rattle.fib_base_list.proofs.Booleans.{and_both, or_cases}
+use Rattle.fib_base_list.proofs.Lists.{each-weaker, either}
 use Rattle.fib_addr.specs.Prefixes.{Prefix, same_prefix}
 use Rattle.fib_addr.proofs.PrefixLaws.{same_prefix-Decides}
 use Rattle.fib_reach.specs.Walks.{AllDiffer}
 use Rattle.fib_resolve.specs.Sizes.{size}
 use Rattle.fib_resolve.specs.declared.types.Tables.{Tables}
 use Rattle.fib_config.specs.Config.{Setup}
-use Rattle.fib_changes.specs.Ranks.{IsRanked, has_entry}
-use Rattle.fib_changes.proofs.Edits.{any_in}
-use Rattle.fib_entries.specs.Known.{Known, StandsFor, rank_of}
-use Rattle.fib_lawful.specs.State.{Log}
-use Rattle.fib_queue.specs.Queues.{rank_in}
-use Rattle.fib_queue.specs.declared.order.Queued.{Queued}
+use Rattle.fib_resolve_changes.specs.Ranks.{IsRanked, has_entry}
+use Rattle.fib_resolve_changes.proofs.Edits.{any_in}
+use Rattle.fib_entries_rows.specs.Known.{Known, StandsFor, rank_of}
+use Rattle.fib_core_lawful.specs.State.{Log}
+use Rattle.fib_stack_queue.specs.Queues.{rank_in}
+use Rattle.fib_stack_queue.specs.declared.order.Queued.{Queued}
 use Rattle.std.proofs.lemmas.List.{length-map}
-use Rattle.fib_board.specs.Told.{IsHistory}
+use Rattle.fib_core_board.specs.Told.{IsHistory}
 use Rattle.fib_core.specs.Union.{Retired as Copy}
-use Rattle.fib_shared.specs.Shares.{copy_seen}
-use Rattle.fib_joined.specs.Promise.{MayClear, Promise}
+use Rattle.fib_plane.specs.Views.{copy_seen}
+use Rattle.fib_plane_view.specs.Promise.{MayClear, Promise}
 use Rattle.fib_stack.proofs.Joining.{table_names}
-use Rattle.fib_serving.specs.Stack.{is_some}
+use Rattle.fib_core_promise.specs.Stack.{is_some}
 use Rattle.fib_stack.specs.Done.{IsTaken, TurnDone}
 use Rattle.fib_stack.specs.Joined.{Joined, queued_in, table_of}
 use Rattle.fib_stack.specs.Orders.{InOrder, did_also}
@@ -36,7 +36,7 @@ use Rattle.fib_stack.specs.declared.turn.Turn.{Turn}
 use Rattle.fib_stack.specs.declared.turn.Turn.TheVariants as turns
 use Rattle.fib_stack.proofs.Ordering.{removed_in_order, restacked_in_order, was_not_done}
 use Rattle.fib_control.proofs.Queued.{swapped}
-use Rattle.fib_woken.specs.Waking.{is_among}
+use Rattle.fib_stack_waking.specs.Waking.{is_among}
 use Rattle.fib_control.specs.Controls.{Control, IsBeneath, IsDoneAfter, had_turn, is_queued, noted, parts_in, promise_in, rank_by, state_now, tables_in, view_in}
 use Rattle.fib_control.specs.inner.Standing.{IsStanding}
 

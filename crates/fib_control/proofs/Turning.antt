@@ -3,17 +3,17 @@ use Rattle.std.proofs.Common.{inl, inr, ⊎_elim, ◌⊎◌, ◌≡◌, ℕ, ◌
 use Rattle.std.specs.Prelude.{◌↔◌, Some, None}
 use Rattle.std.proofs.lemmas.List.{append_assoc, append-nil}
 use Rattle.std.proofs.lemmas.List.Folds.{list_any-append}
-use Rattle.fib_list.proofs.Booleans.{and_both, or_cases, or_left, or_right}
-use Rattle.fib_list.proofs.Lists.{either}
+use Rattle.fib_base_list.proofs.Booleans.{and_both, or_cases, or_left, or_right}
+use Rattle.fib_base_list.proofs.Lists.{either}
 use Rattle.fib_addr.specs.Prefixes.{Prefix, same_prefix}
 use Rattle.fib_addr.proofs.PrefixLaws.{same_prefix-Decides}
 use Rattle.fib_resolve.specs.Forwarding.{forwards}
 use Rattle.fib_resolve.specs.Touched.{differ}
 use Rattle.fib_resolve.specs.declared.types.Tables.{Tables}
-use Rattle.fib_changes.specs.Ranks.{has_entry, wakes}
+use Rattle.fib_resolve_changes.specs.Ranks.{has_entry, wakes}
 use Rattle.fib_ply.specs.Rows.{held}
 use Rattle.fib_config.specs.Config.{Setup}
-use Rattle.fib_serving.specs.Stack.{is_some}
+use Rattle.fib_core_promise.specs.Stack.{is_some}
 use Rattle.fib_stack.specs.Done.{TurnDone}
 use Rattle.fib_stack.specs.Joined.{Parts, queued_in, was_by}
 use Rattle.fib_stack.specs.States.{State}
@@ -21,8 +21,8 @@ use Rattle.fib_stack.specs.Steps.{Removed}
 use Rattle.fib_stack.specs.Turns.{IsRestacked}
 use Rattle.fib_stack.specs.declared.turn.Turn.{Turn}
 use Rattle.fib_stack.specs.declared.turn.Turn.TheVariants as turns
-use Rattle.fib_woken.specs.Waking.{is_among}
-use Rattle.fib_queue.specs.Queues.{rank_in}
+use Rattle.fib_stack_waking.specs.Waking.{is_among}
+use Rattle.fib_stack_queue.specs.Queues.{rank_in}
 use Rattle.fib_control.specs.Controls.{Control, IsDoneAfter, IsSettled, is_queued, parts_in, state_now, tables_in}
 use Rattle.fib_control.specs.Turning.{HaveTurned, IsDue, IsWoken}
 use Rattle.fib_control.specs.inner.Underway.{AreTurning}

@@ -5,8 +5,8 @@ use Rattle.std.specs.List.{AllByRecursion, list_any}
 use Rattle.std.proofs.lemmas.List.Folds.{list_any-append}
 use Rattle.std.proofs.lemmas.List.{length-append}
 use Rattle.std.proofs.lemmas.Map.Made.{is_member-Decides}
-use Rattle.fib_list.proofs.Booleans.{and_both, or_cases}
-use Rattle.fib_list.proofs.Lists.{each-weaker}
+use Rattle.fib_base_list.proofs.Booleans.{and_both, or_cases}
+use Rattle.fib_base_list.proofs.Lists.{each-weaker}
 use Rattle.fib_addr.specs.Prefixes.{Prefix, same_prefix}
 use Rattle.fib_addr.proofs.PrefixLaws.{same_prefix-Decides}
 use Rattle.fib_reach.specs.Walks.{AllDiffer}
@@ -14,12 +14,12 @@ use Rattle.fib_reach.proofs.Places.{length-le_from_differ}
 use Rattle.fib_resolve.specs.Pairs.{entries}
 use Rattle.fib_resolve.specs.declared.types.Tables.{Tables}
 use Rattle.fib_resolve.proofs.OneList.{each-itself}
-use Rattle.fib_changes.specs.Ranks.{IsRanked, has_entry, wakes}
-use Rattle.fib_changes.proofs.CauseLaws.{any_from}
-use Rattle.fib_changes.proofs.Edits.{any_in}
-use Rattle.fib_queue.specs.Queues.{rank_in}
-use Rattle.fib_queue.specs.declared.order.Queued.{Queued}
-use Rattle.fib_serving.specs.Stack.{is_some}
+use Rattle.fib_resolve_changes.specs.Ranks.{IsRanked, has_entry, wakes}
+use Rattle.fib_resolve_changes.proofs.CauseLaws.{any_from}
+use Rattle.fib_resolve_changes.proofs.Edits.{any_in}
+use Rattle.fib_stack_queue.specs.Queues.{rank_in}
+use Rattle.fib_stack_queue.specs.declared.order.Queued.{Queued}
+use Rattle.fib_core_promise.specs.Stack.{is_some}
 use Rattle.fib_stack.specs.Done.{TurnDone}
 use Rattle.fib_stack.specs.States.{State}
 use Rattle.fib_stack.specs.Steps.{Removed}
@@ -27,7 +27,7 @@ use Rattle.fib_stack.specs.Turns.{IsRestacked}
 use Rattle.fib_stack.specs.declared.turn.Turn.{Turn}
 use Rattle.fib_stack.specs.declared.turn.Turn.TheVariants as turns
 use Rattle.fib_stack.proofs.Ordering.{who_is_queued}
-use Rattle.fib_woken.specs.Waking.{is_among}
+use Rattle.fib_stack_waking.specs.Waking.{is_among}
 use Rattle.fib_control.specs.Controls.{Control, IsBeneath, IsDoneAfter, is_queued, tables_in}
 use Rattle.fib_control.proofs.Turned.{also_among}
 

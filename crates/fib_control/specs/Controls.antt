@@ -10,26 +10,27 @@ use Rattle.fib_resolve.specs.declared.types.Edit.{Edit}
 use Rattle.fib_resolve.specs.declared.types.Refusal.TheVariants as refusals
 use Rattle.fib_resolve.specs.declared.types.Tables.{Tables}
 use Rattle.fib_config.specs.Config.{Setup}
-use Rattle.fib_entries.specs.Known.{Known, rank_of}
-use Rattle.fib_entries.specs.declared.changes.Moved.{Moved}
+use Rattle.fib_entries_rows.specs.Known.{Known, rank_of}
+use Rattle.fib_entries_rows.specs.declared.changes.Moved.{Moved}
 use Rattle.fib_pool.specs.Objects.{free_in}
-use Rattle.fib_board.specs.Boards.{Board, board_begun, board_settled}
-use Rattle.fib_plane.specs.Planes.{Plane}
-use Rattle.fib_queue.specs.declared.order.Queued.{Queued}
-use Rattle.fib_ledger.specs.declared.late.Late.{Late}
-use Rattle.fib_ledger.specs.declared.ledger.Known.{Known as KnownOf}
-use Rattle.fib_ledger.specs.Ledgers.{known_of, total}
+use Rattle.fib_core_board.specs.Boards.{Board, board_begun, board_settled}
+use Rattle.fib_plane.specs.Planes.{AreAtRest, Plane, left_after}
+use Rattle.fib_stack_queue.specs.declared.order.Queued.{Queued}
+use Rattle.fib_stack_ledger.specs.declared.late.Late.{Late}
+use Rattle.fib_stack_ledger.specs.declared.ledger.Known.{Known as KnownOf}
+use Rattle.fib_stack_ledger.specs.Ledgers.{known_of, total}
 use Rattle.fib_ply.specs.declared.rows.Row.{Row as Placed}
-use Rattle.fib_entries.specs.declared.rows.Row.{Row}
-use Rattle.fib_queue.specs.Queues.{rank_in}
-use Rattle.fib_joined.specs.Promise.{Promise}
-use Rattle.fib_joined.specs.View.{View}
-use Rattle.fib_shared.specs.Shares.{but_words, promise_of, view_of}
+use Rattle.fib_entries_rows.specs.declared.rows.Row.{Row}
+use Rattle.fib_stack_queue.specs.Queues.{rank_in}
+use Rattle.fib_plane_view.specs.Promise.{Promise}
+use Rattle.fib_plane_view.specs.View.{View}
+use Rattle.fib_plane.specs.Views.{but_words, promise_of, view_of}
 use Rattle.fib_stack.specs.Joined.{Parts, queued_in, state_in}
+use Rattle.fib_stack.specs.Room.{Took}
 use Rattle.fib_stack.specs.States.{State}
 use Rattle.fib_stack.specs.declared.turn.Turn.{Turn}
 use Rattle.fib_stack.specs.declared.turn.Turn.TheVariants as turns
-use Rattle.fib_woken.specs.Waking.{is_among}
+use Rattle.fib_stack_waking.specs.Waking.{is_among}
 use Rattle.fib_control.specs.declared.errors.ApplyError.{ApplyError}
 use Rattle.fib_control.specs.declared.errors.ApplyError.TheVariants as errors
 use Rattle.fib_control.specs.declared.errors.BatchApplyError.{BatchApplyError}
@@ -54,6 +55,12 @@ pub record Control : Type 0 where
   -- the prefixes that wait for a turn, and those that had one since the last change, the latest last
   pub queue : List Queued
   pub done : List Prefix
+
+-- the pass words of all workers were looked at, one each, even where the worker is at home; and of the copies of replaced edges exactly those left
+-- that were passed for every worker then
+abbrev pub ArePassed : Control → Control → Type 0
+ArePassed c d = (words : List ℕ) × (length words ≡ c.plane.board.workers) × AreAtRest c.plane.board words
+    × (d.plane.board.union.retired ≡ left_after 0 words c.plane.board.union.retired)
 
 abbrev pub tables_in : Control → Tables
 tables_in c = c.setup.tables
@@ -102,7 +109,8 @@ pub record IsChanged (c d : Control) (T : Tables) : Type 0 where
 -- a fault of an edit says why: the first reason; or that fewer objects are free than the edited tables take, with both numbers
 abbrev pub TellsEdit : Tables → Limits → Edit → ApplyError → Type 0
 TellsEdit S l e (errors.Refused r) = refused S l.room e ≡ Some r
-TellsEdit S l e (errors.Crowded free wanted) = (refused S l.room e ≡ None) × (free ≡ l.free) × (wanted ≡ size (edited S e)) × (free < wanted)
+TellsEdit S l e (errors.Crowded free wanted) = (refused S l.room e ≡ None) × (free ≡ l.free) × (wanted ≡ size (edited S e))
+    × (free < wanted)
 TellsEdit S l e errors.Memory = Unit {0}
 
 abbrev pub TellsApply : Control → Edit → ApplyError → Type 0
@@ -146,6 +154,10 @@ pub record IsBeneath (c d : Control) : Type 0 where
   pub setup : d.setup ≡ c.setup
   pub entries : d.entries ≡ c.entries
   pub promise : promise_in d ≡ promise_in c
+
+-- what calls took between two changes they made, things that the size of the tables counts, and what was made stays
+abbrev pub Takes : Control → Control → Type 0
+Takes c d = Took (tables_in c) (state_now c) (state_now d) (view_in c).free (view_in d).free
 
 abbrev pub noted : Turn → List Prefix → List Prefix
 noted turns.Idle done = done

@@ -4,10 +4,10 @@ use Rattle.fib_addr.specs.Prefixes.{Prefix}
 use Rattle.fib_resolve.specs.Forwarding.{forwards}
 use Rattle.fib_resolve.specs.Touched.{differ}
 use Rattle.fib_resolve.specs.declared.types.Tables.{Tables}
-use Rattle.fib_changes.specs.Ranks.{has_entry, wakes}
+use Rattle.fib_resolve_changes.specs.Ranks.{has_entry, wakes}
 use Rattle.fib_ply.specs.Rows.{held}
 use Rattle.fib_stack.specs.States.{State}
-use Rattle.fib_woken.specs.Waking.{is_among}
+use Rattle.fib_stack_waking.specs.Waking.{is_among}
 use Rattle.fib_control.specs.Controls.{Control, is_queued, state_now, tables_in}
 
 -- an entry among those that had a turn forwards now where it didn't before, or the other way round, and e is one of those that it wakes

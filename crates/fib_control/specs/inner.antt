@@ -1,3 +1,4 @@
+-- Relations that carry proofs and no claim: none is needed to believe a public clause.
 pub mod Standing
 pub mod Underway
 pub mod Starting

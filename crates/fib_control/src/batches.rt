@@ -9,19 +9,19 @@ ghost use Rattle.fib_resolve.specs.Touched.{is_touched};
 ghost use Rattle.fib_resolve.specs.declared.types.Edit.{Edit as EditValue};
 ghost use Rattle.fib_resolve.specs.declared.types.Tables.{Tables as TablesValue};
 ghost use Rattle.fib_config.specs.Config.{TellsFirstRefused};
-ghost use Rattle.fib_entries.specs.Known.{StandsFor, rank_of};
-ghost use Rattle.fib_queue.specs.Queues.{rank_in};
-ghost use Rattle.fib_serving.specs.Stack.{is_some};
+ghost use Rattle.fib_entries_rows.specs.Known.{StandsFor, rank_of};
+ghost use Rattle.fib_stack_queue.specs.Queues.{rank_in};
+ghost use Rattle.fib_core_promise.specs.Stack.{is_some};
 ghost use Rattle.fib_control.specs.declared.following.Limits.{Limits as LimitsValue};
-ghost use Rattle.fib_woken.specs.Waking.{AreRanked};
+ghost use Rattle.fib_stack_waking.specs.Waking.{AreRanked};
 ghost use Rattle.fib_control.specs.Controls.{IsTooMuch, TellsBatch, WantsMore};
 
 use crate::errors::{ApplyError, BatchApplyError};
 use crate::following::{Limits, follow_all};
 use fib_config::{BatchError, Config, EditedAll, Undo};
 use fib_entries::Entries;
-use fib_queue::Queue;
 use fib_resolve::Edit;
+use fib_stack_queue::Queue;
 use std::alloc::Global;
 
 // Why edits one of which is refused make no change.

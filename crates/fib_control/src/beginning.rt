@@ -2,19 +2,19 @@
 ghost use Rattle.std.specs.Prelude.{◌≡◌, ◌∷◌, ◌++◌, ◌*◌, ◌+◌, ◌<◌, ◌≤◌, [], IfOk, List, None, OnOk, length, map, true};
 ghost use Rattle.fib_addr.specs.Longest.{everything};
 ghost use Rattle.fib_addr.specs.Prefixes.{Prefix as PrefixValue};
-ghost use Rattle.fib_entries.specs.Known.{StandsFor, prefix_of};
+ghost use Rattle.fib_entries_rows.specs.Known.{StandsFor, prefix_of};
 ghost use Rattle.fib_resolve.specs.Tables.{fresh};
-ghost use Rattle.fib_joined.specs.View.{HasRoom, IsTaken};
+ghost use Rattle.fib_plane_view.specs.View.{HasRoom, IsTaken};
 ghost use Rattle.fib_pool.specs.declared.object.Kind.TheVariants as kinds;
 ghost use Rattle.fib_ply.specs.Tables.{Stands, object_in};
-ghost use Rattle.fib_quiet.specs.Early.{IsTried};
-ghost use Rattle.fib_shared.specs.Shares.{IsBare};
-ghost use Rattle.fib_woken.specs.Waking.{is_among};
+ghost use Rattle.fib_control_quiet.specs.Early.{IsTried};
+ghost use Rattle.fib_plane.specs.Views.{IsBare};
+ghost use Rattle.fib_stack_waking.specs.Waking.{is_among};
 ghost use Rattle.fib_control.specs.inner.Starting.{IsStarted};
 
 use fib_addr::Prefix;
 use fib_entries::Entries;
-use fib_joined::Objects;
+use fib_plane_view::Objects;
 use fib_ply::PrefixTable;
 use fib_pool::Kind;
 use std::alloc::{AllocError, Global};
@@ -52,7 +52,6 @@ fn room_for_one<P: Objects>(
     table: &mut PrefixTable,
 ) -> Result<(), AllocError>
     requires tried { IsTried (P.promise on.old) table.old (P.view on.old) }
-    requires few { table.old.plies ≤ 131072 }
     ensures members { table.new.rows.members ≡ table.old.rows.members }
     ensures plies { table.new.plies ≡ table.old.plies }
     ensures room { OnOk result (0 < table.new.rows.spare) }
@@ -79,6 +78,7 @@ fn add_new<P: Objects>(
         → OnOk result (IsStarted (P.promise on.new) table.new (P.view on.new) (named ++ prefix ∷ [])) }
     ensures promise { P.promise on.new ≡ P.promise on.old }
 {
+    // A length tells that it is a prefix: the bits past it are cleared.
     let _length = prefix.len();
     let object = balance(on);
     room_for_one(alloc, on, table)?;

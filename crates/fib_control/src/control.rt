@@ -3,7 +3,7 @@ ghost use Rattle.std.specs.Prelude.{◌≡◌, ◌+◌, ◌-◌, ◌/◌, ◌^�
 ghost use Rattle.std.specs.List.{AllByRecursion};
 ghost use Rattle.fib_addr.specs.Prefixes.{Prefix as PrefixValue};
 ghost use Rattle.fib_reach.specs.Walks.{AllDiffer};
-ghost use Rattle.fib_changes.specs.Ranks.{IsRanked};
+ghost use Rattle.fib_resolve_changes.specs.Ranks.{IsRanked};
 ghost use Rattle.fib_resolve.specs.Edits.{edited};
 ghost use Rattle.fib_resolve.specs.Reachable.{IsWritten};
 ghost use Rattle.fib_resolve.specs.Refusals.{edited_in_turn, refused};
@@ -11,21 +11,23 @@ ghost use Rattle.fib_resolve.specs.Sizes.{size};
 ghost use Rattle.fib_resolve.specs.Resolution.{resolve};
 ghost use Rattle.fib_resolve.specs.Tables.{IsSound, fresh};
 ghost use Rattle.fib_core.specs.Walk.{walk};
-ghost use Rattle.fib_board.specs.Boards.{IsFresh};
+ghost use Rattle.fib_core_board.specs.Boards.{IsFresh};
 ghost use Rattle.fib_pool.specs.Objects.{free_in};
 ghost use Rattle.fib_ply.specs.Rows.{held};
 ghost use Rattle.fib_core.specs.declared.word.Word.{Word};
-ghost use Rattle.fib_ledger.specs.Deferred.{late_at};
-ghost use Rattle.fib_quiet.specs.Rest.{IsAccounted};
-ghost use Rattle.fib_stack.specs.Done.{IsCounted, IsStored, StaysLate, TurnDone};
-ghost use Rattle.fib_entries.specs.Known.{StandsFor, rank_of};
-ghost use Rattle.fib_shared.specs.Shares.{promise_of, view_of};
-ghost use Rattle.fib_stack.specs.Joined.{Joined, state_in};
-ghost use Rattle.fib_stack.specs.Room.{HasRoomLeft};
-ghost use Rattle.fib_stack.specs.Turns.{parts_of};
+ghost use Rattle.fib_stack_ledger.specs.Deferred.{late_at};
+ghost use Rattle.fib_control_quiet.specs.Rest.{IsAccounted};
+ghost use Rattle.fib_stack.specs.Done.{IsCounted, IsStored, RunDone, StaysLate, StoresDiffering, TurnDone};
+ghost use Rattle.fib_entries_rows.specs.Known.{StandsFor, rank_of};
+ghost use Rattle.fib_plane.specs.Views.{promise_of, view_of};
+ghost use Rattle.fib_stack.specs.Joined.{Joined};
+ghost use Rattle.fib_stack.specs.Room.{HasRoomLeft, Took};
+ghost use Rattle.fib_stack.specs.Turns.{parts_of, state_at};
 ghost use Rattle.fib_stack.specs.Records.{SamePlane};
 ghost use Rattle.fib_stack.specs.Steps.{Retried};
-ghost use Rattle.fib_control.specs.Controls.{IsBatchNotCrowded, IsBeneath, IsBusy, IsChanged, IsDoneAfter, IsNotCrowded, IsQuiet, IsSettled, TellsApply, TellsApplyAll, but_settled, noted, parts_in, promise_in, rank_by, state_now, tables_in, view_in};
+ghost use Rattle.fib_control.specs.Controls.{ArePassed, Control as Value, IsBatchNotCrowded, IsBeneath, IsBusy, IsChanged, IsDoneAfter, IsNotCrowded};
+ghost use Rattle.fib_control.specs.Controls.{IsQuiet, IsSettled, Takes, TellsApply, TellsApplyAll, but_settled, noted, parts_in, promise_in};
+ghost use Rattle.fib_control.specs.Controls.{rank_by, state_now, tables_in, view_in};
 ghost use Rattle.fib_control.specs.Turning.{HaveTurned};
 
 use crate::batches::change_all;
@@ -34,16 +36,16 @@ use crate::errors::{ApplyError, BatchApplyError, Busy};
 use crate::following::{Limits, change};
 use crate::looking::{is_flow, look_up};
 use fib_addr::{Addr, Prefix};
-use fib_board::Board;
 use fib_config::Config;
 use fib_core::Version;
+use fib_core_board::Board;
 use fib_entries::Entries;
-use fib_joined::Objects;
+use fib_plane::Plane;
+use fib_plane_view::Objects;
 use fib_ply::PrefixTable;
-use fib_queue::Queue;
 use fib_resolve::{Edit, End, Tables};
-use fib_shared::Shared;
 use fib_stack::{Stack, Turn, Want};
+use fib_stack_queue::Queue;
 use std::alloc::{AllocError, Global};
 use std::marker::Model;
 
@@ -56,7 +58,7 @@ pub struct Control<B: Board> {
     config: Config,
     room: u32,
     entries: Entries,
-    pub(crate) shared: Shared<B>,
+    pub(crate) shared: Plane<B>,
     table: PrefixTable,
     stack: Stack,
     queue: Queue,
@@ -88,9 +90,31 @@ impl<B: Board> Model for Control<B> {
 
     ghost Value = { Seen };
 
-    ghost view = { λ c. record { setup = c.config; entries = c.entries; plane = c.shared.plane; rows = c.table.rows.members; plies = c.table.plies; known = c.stack.ledger.rows; late = c.stack.late.members; queue = c.queue.members; done = c.done.items } };
+    ghost view = { λ c. record {
+      setup = c.config;
+      entries = c.entries;
+      plane = c.shared.plane;
+      rows = c.table.rows.members;
+      plies =
+          c.table.plies;
+      known = c.stack.ledger.rows;
+      late = c.stack.late.members;
+      queue = c.queue.members;
+      done = c.done.items;
+    } };
 
-    ghost invariant = { λ c. IsStanding (record { setup = c.config; entries = c.entries; plane = c.shared.plane; rows = c.table.rows.members; plies = c.table.plies; known = c.stack.ledger.rows; late = c.stack.late.members; queue = c.queue.members; done = c.done.items }) × (c.room ≡ c.config.room) };
+    ghost invariant = { λ c. IsStanding (record {
+      setup = c.config;
+      entries = c.entries;
+      plane = c.shared.plane;
+      rows = c.table.rows.members;
+      plies = c.table.plies;
+      known =
+          c.stack.ledger.rows;
+      late = c.stack.late.members;
+      queue = c.queue.members;
+      done = c.done.items;
+    }) × (c.room ≡ c.config.room) };
 }
 
 impl<B: Board + Drop> Control<B> {
@@ -107,7 +131,7 @@ impl<B: Board + Drop> Control<B> {
         let room = board.objects() / 2;
         let config = Config::new(alloc, room)?;
         let entries = Entries::new(alloc)?;
-        let mut shared = Shared::new(alloc, board)?;
+        let mut shared = Plane::new(alloc, board)?;
         let table = first_table(alloc, &mut shared, &entries)?;
         shared.scan();
         Ok(Control {
@@ -171,7 +195,7 @@ impl<B: Board> Control<B> {
         self.table.tells();
         self.stack.tells();
         is_flow(addr, hash);
-        look_up(&self.shared.plane, addr, hash)
+        look_up(&self.shared, addr, hash)
     }
 
     /// The number of a prefix's balance; None exactly where the prefix isn't in the prefix table.
@@ -297,10 +321,13 @@ impl<B: Board> Control<B> {
     /// After want of memory the prefix is still queued and all is as before, but for room and the count of stores. An object is always found.
     pub fn turn(&mut self) -> Result<Turn, AllocError>
         ensures turn { IfOk result (λ t. TurnDone (tables_in self.old) (rank_by self.old) t (state_now self.old) (state_now self.new)) }
+        ensures run { IfOk result (λ t. RunDone (tables_in self.old) t (view_in self.old) (view_in self.new) (state_now self.new)) }
         ensures dropped { IfOk result (λ t. IsCounted t self.new.late) }
         ensures stores { IfOk result (λ t. IsStored t self.old.plane.board.stored self.new.plane.board.stored) }
+        ensures exact { IfOk result (λ t. StoresDiffering (tables_in self.old) t (held self.old.rows) (view_in self.old) (view_in self.new)) }
         ensures done { IfOk result (λ t. IsDoneAfter t self.old.done self.new.done) }
         ensures same { IsBeneath self.old self.new }
+        ensures takes { Takes self.old self.new }
         ensures err { OnErr result (SamePlane (view_in self.old) (view_in self.new)) }
         ensures parts { OnErr result ((parts_in self.new ≡ parts_in self.old) × (self.new.done ≡ self.old.done)) }
     {
@@ -326,12 +353,14 @@ impl<B: Board> Control<B> {
         }
     }
 
-    /// Looks which replaced edges no pass stands on any more: they are retired no longer, and what they alone kept is given back. Answers how many
-    /// copies are left; none where no worker is out.
+    /// Looks which replaced edges no pass stands on any more: exactly these are retired no longer, and what they alone kept is given back. Answers how
+    /// many copies are left; none where no worker is out.
     pub fn scan(&mut self) -> u32
         ensures left { result ≡ length self.new.plane.board.union.retired }
+        ensures copies { ArePassed self.old self.new }
         ensures alone { (promise_in self.old).alone ≡ true → self.new.plane.board.union.retired ≡ [] }
         ensures same { IsBeneath self.old self.new }
+        ensures takes { Takes self.old self.new }
         ensures parts { (parts_in self.new ≡ parts_in self.old) × (self.new.done ≡ self.old.done) }
     {
         self.shared.tells();
@@ -350,6 +379,7 @@ impl<B: Board> Control<B> {
         ensures why { (e : PrefixValue) (k : ℕ) (w : Word) → late_at self.new.late e k ≡ Some w
             → StaysLate (view_in self.new) (parts_in self.new) e w }
         ensures same { IsBeneath self.old self.new }
+        ensures takes { Takes self.old self.new }
         ensures parts { (self.new.rows ≡ self.old.rows) × (self.new.plies ≡ self.old.plies) × (self.new.queue ≡ self.old.queue)
             × (self.new.done ≡ self.old.done) }
     {
@@ -365,6 +395,15 @@ impl<B: Board> Control<B> {
         let _room = self.room;
     }
 
+    /// Between two accepted changes calls take and keep at most as many objects as the size of the tables says, less twenty. Does nothing.
+    pub fn takes_few(&self)
+        ensures { (d : Value) → 0 < self.now.plane.board.log.version.applied → Takes self.now d
+            → (view_in self.now).free + 20 ≤ (view_in d).free + size (tables_in self.now) }
+    {
+        // What stands of every control tells it, once a field is used.
+        let _room = self.room;
+    }
+
     /// Turns until nothing is queued. After want of memory the turns that were done stand.
     ///
     /// Those have a turn that were queued, and those that a turn wakes, whose answer it changed; each once. An entry that had an object keeps it.
@@ -372,6 +411,7 @@ impl<B: Board> Control<B> {
         ensures none { OnOk result (self.new.queue ≡ []) }
         ensures turned { HaveTurned self.old self.new }
         ensures same { IsBeneath self.old self.new }
+        ensures takes { Takes self.old self.new }
     {
         'turns: loop {
             if self.queued() == 0 {
@@ -393,6 +433,7 @@ impl<B: Board> Control<B> {
         ensures tables { self.new.setup ≡ self.old.setup }
         ensures entries { self.new.entries ≡ self.old.entries }
         ensures board { but_settled self.new.plane.board ≡ but_settled self.old.plane.board }
+        ensures takes { Takes self.old self.new }
         ensures turned { HaveTurned self.old self.new }
     {
         self.walk()?;
@@ -439,7 +480,7 @@ fn is_calm(busy: &Busy) -> bool
 // A turn of the stack's, with the control's own tables.
 fn restack<B: Board>(
     stack: &mut Stack,
-    shared: &mut Shared<B>,
+    shared: &mut Plane<B>,
     config: &Config,
     entries: &Entries,
     table: &mut PrefixTable,
@@ -449,20 +490,27 @@ fn restack<B: Board>(
     requires joined { Joined config.now.tables (rank_of entries.now.rows) (promise_of shared.old.plane.board) (view_of shared.old.plane)
         (parts_of table.old stack.old queue.old) }
     ensures turn { IfOk result (λ t. TurnDone config.now.tables (rank_of entries.now.rows) t
-        (state_in (view_of shared.old.plane) (parts_of table.old stack.old queue.old))
-        (state_in (view_of shared.new.plane) (parts_of table.new stack.new queue.new))) }
+        (state_at (view_of shared.old.plane) table.old stack.old queue.old)
+        (state_at (view_of shared.new.plane) table.new stack.new queue.new)) }
     ensures joined { Joined config.now.tables (rank_of entries.now.rows) (promise_of shared.new.plane.board) (view_of shared.new.plane)
         (parts_of table.new stack.new queue.new) }
+    ensures run { IfOk result (λ t. RunDone config.now.tables t (view_of shared.old.plane) (view_of shared.new.plane)
+        (state_at (view_of shared.new.plane) table.new stack.new queue.new)) }
     ensures dropped { IfOk result (λ t. IsCounted t stack.new.late.members) }
     ensures stores { IfOk result (λ t. IsStored t shared.old.plane.board.stored shared.new.plane.board.stored) }
+    ensures exact { IfOk result (λ t. StoresDiffering config.now.tables t (held table.old.rows.members) (view_of shared.old.plane)
+        (view_of shared.new.plane)) }
     ensures err { OnErr result (SamePlane (view_of shared.old.plane) (view_of shared.new.plane)) }
     ensures parts { OnErr result (parts_of table.new stack.new queue.new ≡ parts_of table.old stack.old queue.old) }
     ensures finds { HasRoomLeft config.now.tables (view_of shared.old.plane).free
-        (state_in (view_of shared.old.plane) (parts_of table.old stack.old queue.old)) → IsErrOf result Want.Object → ⊥ }
+        (state_at (view_of shared.old.plane) table.old stack.old queue.old) → IsErrOf result Want.Object → ⊥ }
     ensures left { HasRoomLeft config.now.tables (view_of shared.old.plane).free
-        (state_in (view_of shared.old.plane) (parts_of table.old stack.old queue.old))
+        (state_at (view_of shared.old.plane) table.old stack.old queue.old)
         → HasRoomLeft config.now.tables (view_of shared.new.plane).free
-        (state_in (view_of shared.new.plane) (parts_of table.new stack.new queue.new)) }
+        (state_at (view_of shared.new.plane) table.new stack.new queue.new) }
+    ensures takes { Took config.now.tables (state_at (view_of shared.old.plane) table.old stack.old queue.old)
+        (state_at (view_of shared.new.plane) table.new stack.new queue.new) (view_of shared.old.plane).free
+        (view_of shared.new.plane).free }
     ensures promise { promise_of shared.new.plane.board ≡ promise_of shared.old.plane.board }
 {
     let tables = config.tables();

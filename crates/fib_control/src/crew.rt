@@ -1,12 +1,12 @@
 // Workers that leave a control plane's board and come home.
 ghost use Rattle.std.specs.Prelude.{IsTrue, length, slice_index, ◌<◌, ◌↔◌, ◌≡◌};
-ghost use Rattle.fib_lawful.specs.State.{left_of};
-ghost use Rattle.fib_board.specs.Crews.{IsOut, MaySend, board_joined, board_sent, new_seat};
-ghost use Rattle.fib_board.specs.Told.{IsBoard};
+ghost use Rattle.fib_core_lawful.specs.State.{left_of};
+ghost use Rattle.fib_core_board.specs.Crews.{IsOut, MaySend, board_joined, board_sent, new_seat};
+ghost use Rattle.fib_core_board.specs.Told.{IsBoard};
 ghost use Rattle.fib_control.specs.Controls.{with_board};
 
 use crate::control::Control;
-use fib_board::{Board, Crew};
+use fib_core_board::{Board, Crew};
 
 impl<B: Board> Control<B> {
     /// What holds of the board: trails that came home are right and steady, and where nobody is out the claims are the numbers from 0 on, each

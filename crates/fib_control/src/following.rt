@@ -5,26 +5,26 @@ ghost use Rattle.fib_resolve.specs.Edits.{edited};
 ghost use Rattle.fib_resolve.specs.Reachable.{IsWritten};
 ghost use Rattle.fib_resolve.specs.Refusals.{refused};
 ghost use Rattle.fib_resolve.specs.declared.types.Edit.{Edit as EditValue};
-ghost use Rattle.fib_following.specs.Following.{TellsChange};
+ghost use Rattle.fib_entries_following.specs.Following.{TellsChange};
 ghost use Rattle.fib_resolve.specs.Sizes.{size};
 ghost use Rattle.fib_resolve.specs.Touched.{is_touched};
 ghost use Rattle.fib_resolve.specs.declared.types.Tables.{Tables as TablesValue};
-ghost use Rattle.fib_changes.specs.Differ.{Differ};
-ghost use Rattle.fib_entries.specs.Changes.{AreMoved, AreTouched};
-ghost use Rattle.fib_entries.specs.Known.{StandsFor, rank_of};
-ghost use Rattle.fib_queue.specs.Queues.{rank_in};
-ghost use Rattle.fib_serving.specs.Stack.{is_some};
-ghost use Rattle.fib_woken.specs.Waking.{AreRanked};
+ghost use Rattle.fib_resolve_changes.specs.Differ.{Differ};
+ghost use Rattle.fib_entries_rows.specs.Changes.{AreMoved, AreTouched};
+ghost use Rattle.fib_entries_rows.specs.Known.{StandsFor, rank_of};
+ghost use Rattle.fib_stack_queue.specs.Queues.{rank_in};
+ghost use Rattle.fib_core_promise.specs.Stack.{is_some};
+ghost use Rattle.fib_stack_waking.specs.Waking.{AreRanked};
 ghost use Rattle.fib_control.specs.Controls.{IsTooMuch, TellsEdit};
 
 use crate::errors::ApplyError;
 use crate::queueing::queue_all;
-use fib_changes::Change;
 use fib_config::Config;
 use fib_entries::{Entries, FollowError, Followed};
-use fib_following::{ChangeError, change_tables};
-use fib_queue::Queue;
+use fib_entries_following::{ChangeError, change_tables};
 use fib_resolve::{Edit, Refusal};
+use fib_resolve_changes::Change;
+use fib_stack_queue::Queue;
 use std::alloc::Global;
 
 /// How many objects there are for tables.

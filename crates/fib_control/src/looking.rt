@@ -1,33 +1,34 @@
 // The walk of a packet over the cells as they are.
 ghost use Rattle.std.specs.Prelude.{◌≡◌, ℕ};
 ghost use Rattle.fib_core.specs.Walk.{IsFlow, Place, end_at, stepped, walk};
-ghost use Rattle.fib_hops.specs.Stages.{StandsAt};
+ghost use Rattle.fib_core.specs.Stages.{StandsAt};
 ghost use Rattle.fib_control.specs.inner.Readable.{IsReadable};
 
 use fib_addr::{Addr, nibble};
-use fib_board::Board;
-use fib_hops::{Stage, adjacency_end, after_balance, after_ply};
+use fib_core::{Stage, adjacency_end, after_balance, after_ply};
+use fib_core_board::Board;
 use fib_plane::Plane;
+use fib_plane_view::Objects;
 use fib_resolve::End;
 
 // One step of the walk: an adjacency is read whole.
 fn step<B: Board>(plane: &Plane<B>, addr: Addr, hash: u32, stage: Stage) -> Stage
-    requires { IsReadable plane.now.board stage }
-    ensures { (p : Place) → StandsAt hash p stage → StandsAt hash (stepped plane.now.board.union.cells addr hash p) result }
+    requires { IsReadable plane.now.plane.board stage }
+    ensures { (p : Place) → StandsAt hash p stage → StandsAt hash (stepped plane.now.plane.board.union.cells addr hash p) result }
 {
     match stage {
         Stage::Ply { object, depth } => {
-            let word = plane.word(object, nibble(addr, depth) as u32);
+            let word = plane.load(object, nibble(addr, depth) as u32);
             after_ply(word, depth, hash)
         }
         Stage::Balance { object, left } => {
-            let word = plane.word(object, left % 16);
+            let word = plane.load(object, left % 16);
             after_balance(word, left)
         }
         Stage::Adjacency { object } => {
-            let interface = plane.word(object, 0);
-            let hop = plane.word(object, 1);
-            let mac = plane.word(object, 2);
+            let interface = plane.load(object, 0);
+            let hop = plane.load(object, 1);
+            let mac = plane.load(object, 2);
             Stage::Ended(adjacency_end(interface, hop, mac))
         }
         Stage::Ended(end) => Stage::Ended(end),
@@ -61,7 +62,7 @@ pub fn is_flow(addr: Addr, hash: u32)
 
 /// The end of the walk of an address and a flow hash over the plane's cells.
 pub fn look_up<B: Board>(plane: &Plane<B>, addr: Addr, hash: u32) -> End
-    ensures { result ≡ walk plane.now.board.union.cells addr hash }
+    ensures { result ≡ walk plane.now.plane.board.union.cells addr hash }
 {
     plane.tells();
     // A walk over cells without a cycle loads no more edges than there are objects.

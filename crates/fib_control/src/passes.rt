@@ -1,17 +1,17 @@
 // Passes beneath a control plane over a plain board, each step of which is a call.
 ghost use Rattle.std.specs.Prelude.{IfNone, IfSome, IsTrue, None, Some, slice_index, slice_index_or, false, ◌<◌, ◌↔◌, ◌≡◌};
 ghost use Rattle.fib_resolve.specs.declared.types.End.{End as Ending};
-ghost use Rattle.fib_results.specs.Steady.{IsSteady};
-ghost use Rattle.fib_results.specs.Trails.{IsRecordOk};
-ghost use Rattle.fib_lawful.specs.State.{left_of};
-ghost use Rattle.fib_board.specs.Boards.{Pass};
-ghost use Rattle.fib_plainboard.specs.Passes.{FoundEdge, HasEnd, IsOnItsWay, IsRunning, answer_of, hopped_on, loads_in, pass_begun, pass_ended, pass_of};
+ghost use Rattle.fib_core_results.specs.Steady.{IsSteady};
+ghost use Rattle.fib_core_results.specs.Trails.{IsRecordOk};
+ghost use Rattle.fib_core_lawful.specs.State.{left_of};
+ghost use Rattle.fib_core_board.specs.Boards.{Pass};
+ghost use Rattle.fib_core_plainboard.specs.Passes.{FoundEdge, HasEnd, IsOnItsWay, IsRunning, answer_of, hopped_on, loads_in, pass_begun, pass_ended, pass_of};
 ghost use Rattle.fib_control.specs.Controls.{with_board};
 
 use crate::control::Control;
 use fib_addr::Addr;
 use fib_core::Record;
-use fib_plainboard::PlainBoard;
+use fib_core_plainboard::PlainBoard;
 use fib_resolve::End;
 
 impl Control<PlainBoard> {
@@ -33,7 +33,8 @@ impl Control<PlainBoard> {
         requires { IsOnItsWay self.old.plane.board worker }
         ensures pass { self.new ≡ with_board self.old (hopped_on self.old.plane.board worker) }
         ensures on { IfNone result (IsOnItsWay self.new.plane.board worker × FoundEdge (loads_in (pass_of self.new.plane.board worker))) }
-        ensures ended { IfSome result (λ e. HasEnd self.new.plane.board worker e) }
+        ensures ended { IfSome result (λ e. HasEnd self.new.plane.board worker e
+            × (FoundEdge (loads_in (pass_of self.new.plane.board worker)) → ⊥)) }
     {
         self.shared.hop(worker)
     }

@@ -1,17 +1,17 @@
 // What a change touches is queued.
 ghost use Rattle.std.specs.Prelude.{◌≡◌, ◌⊎◌, ◌+◌, ◌≤◌, ◌||◌, ℕ, List, Some, false, length};
 ghost use Rattle.fib_addr.specs.Prefixes.{Prefix as PrefixValue};
-ghost use Rattle.fib_queue.specs.Queues.{rank_in};
-ghost use Rattle.fib_serving.specs.Stack.{is_some};
-ghost use Rattle.fib_entries.specs.Known.{rank_of};
-ghost use Rattle.fib_entries.specs.Changes.{AreMoved};
-ghost use Rattle.fib_entries.specs.declared.rows.Row.{Row};
-ghost use Rattle.fib_woken.specs.Waking.{is_among};
+ghost use Rattle.fib_stack_queue.specs.Queues.{rank_in};
+ghost use Rattle.fib_core_promise.specs.Stack.{is_some};
+ghost use Rattle.fib_entries_rows.specs.Known.{rank_of};
+ghost use Rattle.fib_entries_rows.specs.Changes.{AreMoved};
+ghost use Rattle.fib_entries_rows.specs.declared.rows.Row.{Row};
+ghost use Rattle.fib_stack_waking.specs.Waking.{is_among};
 ghost use Rattle.fib_control.specs.Controls.{is_moved};
 
 use fib_entries::{Entries, Followed, Moved};
-use fib_queue::Queue;
-use fib_woken::enqueue;
+use fib_stack_queue::Queue;
+use fib_stack_waking::enqueue;
 
 // Keys queued prefixes anew that have another rank than before. There must be room.
 fn rekey(queue: &mut Queue, entries: &Entries, moved: &[Moved])

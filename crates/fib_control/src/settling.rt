@@ -1,10 +1,10 @@
 // Settling beside workers that are out.
 ghost use Rattle.std.specs.Prelude.{IfOk, OnOk, ◌≡◌};
-ghost use Rattle.fib_control.specs.Controls.{IsQuiet, but_settled};
+ghost use Rattle.fib_control.specs.Controls.{IsQuiet, Takes, but_settled};
 ghost use Rattle.fib_control.specs.Turning.{HaveTurned};
 
 use crate::control::Control;
-use fib_board::Board;
+use fib_core_board::Board;
 use std::alloc::AllocError;
 use std::sync::Wait;
 
@@ -19,6 +19,7 @@ impl<B: Board> Control<B> {
         ensures tables { self.new.setup ≡ self.old.setup }
         ensures entries { self.new.entries ≡ self.old.entries }
         ensures board { but_settled self.new.plane.board ≡ but_settled self.old.plane.board }
+        ensures takes { Takes self.old self.new }
         ensures turned { HaveTurned self.old self.new }
     {
         self.walk()?;

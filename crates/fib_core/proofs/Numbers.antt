@@ -1,11 +1,11 @@
 -- Words and their numbers.
-use Rattle.std.specs.Prelude.{slice_index, replicate}
+use Rattle.std.specs.Prelude.{Bool, true, slice_index, replicate, ◌==◌, if◌then◌else◌}
 use Rattle.std.proofs.Common.{zero, suc, ◌≡◌, ℕ, ◌+◌, ◌*◌, ◌/◌, ◌%◌, ◌^◌, ◌<◌, ◌≤◌, false, refl, sym, ap, ◌∙◌, subst, arith}
 use Rattle.fib_core.specs.declared.word.Word.{Word}
 use Rattle.fib_core.specs.declared.word.Word.TheVariants as words
 use Rattle.fib_union.specs.Unions.{owner}
 use Rattle.fib_union.specs.Marks.{is_even}
-use Rattle.fib_core.specs.Words.{IsRoomy, IsWord, value_of, encoded, word_of, decoded, is_edge, goes, target}
+use Rattle.fib_core.specs.Words.{IsRoomy, IsWord, tag_of, value_of, encoded, word_of, decoded, is_edge, goes, target}
 
 split_number : (t v : ℕ) → v < 2 ^ 56 → word_of ((t * 2 ^ 56 + v) / 2 ^ 56) ((t * 2 ^ 56 + v) % 2 ^ 56) ≡ word_of t v
 split_number t v lt =
@@ -62,6 +62,25 @@ number_cases n (words.Plain i, room, is) = (omega arith, λ ne. absurd (ne (omeg
 
 pub roomy_decoded : (n : ℕ) → IsWord n → IsRoomy (decoded n)
 roomy_decoded n (w, room, is) = subst IsRoomy (sym (ap decoded is ∙ decoded_encoded w room)) room
+
+-- a word with the last tag is its number
+other_word : (b : Bool) (w u : Word) (v : ℕ) → (tag_of w ≡ 6 → ⊥) → (tag_of u ≡ 6 → u ≡ words.Plain v) → tag_of (if b then w else u) ≡ 6 → (if b then w else u) ≡ words.Plain v
+other_word true w u v ne rest e = absurd (ne e)
+other_word false w u v ne rest e = rest e
+
+plain_word : (t v : ℕ) → tag_of (word_of t v) ≡ 6 → word_of t v ≡ words.Plain v
+plain_word t v =
+    other_word (t == 0) words.Drop _ v (λ e. none 0 (omega arith) e) (other_word (t == 1) words.Receive _ v (λ e. none 1 (omega arith) e)
+    (other_word (t == 2) (words.Glean v) _ v (λ e. none 2 (omega arith) e) (other_word (t == 3) (words.ToPly v) _ v (λ e. none 3 (omega arith) e)
+    (other_word (t == 4) (words.ToBalance v) _ v (λ e. none 4 (omega arith) e) (other_word (t == 5) (words.ToAdjacency v) _ v (λ e. none 5 (omega arith) e)
+    (λ e. refl))))))
+  where
+    none : (n : ℕ) → n < 6 → n ≡ 6 → ⊥
+    none n lt e = omega arith
+
+pub plain_decoded : (n : ℕ) → tag_of (decoded n) ≡ 6 → decoded n ≡ words.Plain (n % 2 ^ 56)
+unfolding decoded
+plain_decoded n = plain_word (n / 2 ^ 56) (n % 2 ^ 56)
 
 -- cells of a fresh table
 pub zeros : (n k : ℕ) → slice_index (replicate n 0) k ≡ 0

@@ -1,5 +1,5 @@
 -- A pass walks along usable edges, and visits no object twice.
-use Rattle.std.proofs.Common.{◌≡◌, ℕ, ◌<◌, ◌⊎◌, inl, inr, Bool, true, false, List, [], ◌∷◌, refl, sym, subst}
+use Rattle.std.proofs.Common.{◌≡◌, ℕ, ◌<◌, ◌⊎◌, inl, inr, ⊎_elim, Bool, true, false, List, [], ◌∷◌, refl, sym, subst}
 use Rattle.std.specs.Prelude.{slice_index}
 use Rattle.std.specs.List.{AllByRecursion}
 use Rattle.fib_reach.specs.Walks.{Leads, IsAcyclic, AllDiffer}
@@ -53,6 +53,16 @@ module _ (Ok : ℕ → ℕ → Type 0) where
       by_cases true is rest = inr (stands t, (l.0, l.1, w.0, refl, is, w.1 is))
       by_cases false is rest = rest
 
+  -- each object that it has visited is the start, or an edge leads there
+  pub each_reached : (t : List Load) → Walked Ok t → AllByRecursion (λ y. (y ≡ 0) ⊎ ((x : ℕ) × Along Ok x y)) (visited t)
+  each_reached [] w = (inl refl, tt)
+  each_reached (l ∷ t) w = by_cases (goes l.1) refl (each_reached t w.2)
+    where
+      by_cases : (b : Bool) → goes l.1 ≡ b → AllByRecursion (λ y. (y ≡ 0) ⊎ ((x : ℕ) × Along Ok x y)) (visited t)
+          → AllByRecursion (λ y. (y ≡ 0) ⊎ ((x : ℕ) × Along Ok x y)) (arrive_if b (target l.1) (visited t))
+      by_cases true is rest = (inr (stands t, (l.0, l.1, w.0, refl, is, w.1 is)), rest)
+      by_cases false is rest = rest
+
 module _ (Ok Ok' : ℕ → ℕ → Type 0) where
   -- it is enough that the edges out of object 0 and of objects with an edge into them stay usable
   pub walked-map : ((k w : ℕ) → goes w ≡ true → (owner k ≡ 0) ⊎ ((x : ℕ) × Along Ok x (owner k)) → Ok k w → Ok' k w) → (t : List Load) → Walked Ok t → Walked Ok' t
@@ -65,3 +75,12 @@ along_edge u n p x y (k, w, from, to, going, ok) = (k, w, from, to, (going, usab
 -- no object is visited twice
 pub visits_once : (u : Union) (n p : ℕ) (t : List Load) → IsAcyclic (Edge u) → Walked (Usable u n p) t → AllDiffer (visited t)
 visits_once u n p t calm w = differs (Usable u n p) (acyclic_part (Along (Usable u n p)) (Edge u) (along_edge u n p) calm) t w
+
+-- each visited object is object 0, or an edge of the union leads there
+pub visits_live : (u : Union) (n p : ℕ) (t : List Load) → Walked (Usable u n p) t → AllByRecursion (λ y. (y ≡ 0) ⊎ ((x : ℕ) × Edge u x y)) (visited t)
+visits_live u n p t w = each-map
+    (λ y (r : (y ≡ 0) ⊎ ((x : ℕ) × Along (Usable u n p) x y)). ⊎_elim
+    (λ (z : y ≡ 0). inl z)
+    (λ (e : (x : ℕ) × Along (Usable u n p) x y). inr (e.0, along_edge u n p e.0 y e.1))
+    r)
+    (visited t) (each_reached (Usable u n p) t w)

@@ -46,30 +46,21 @@ impl Word {
     }
 
     /// The word that these 64 bits code. They must be the code of one, as all bits are that lie in a cell.
+    #[inline(always)]
     #[tactic(auto, using(crate::proofs::Numbers::number_cases), unfolding(crate::specs::Words::decoded))]
     pub fn decode(word: u64) -> Word
         requires { IsWord word }
         ensures { result ≡ decoded word }
     {
-        let tag = word / 0x0100_0000_0000_0000;
         let value = word % 0x0100_0000_0000_0000;
-        if tag == 0 {
-            Word::Drop
-        } else if tag == 1 {
-            Word::Receive
-        } else if tag == 6 {
-            Word::Plain(value)
-        } else {
-            let small = value as u32;
-            if tag == 2 {
-                Word::Glean(small)
-            } else if tag == 3 {
-                Word::ToPly(small)
-            } else if tag == 4 {
-                Word::ToBalance(small)
-            } else {
-                Word::ToAdjacency(small)
-            }
+        match word / 0x0100_0000_0000_0000 {
+            3 => Word::ToPly(value as u32),
+            4 => Word::ToBalance(value as u32),
+            5 => Word::ToAdjacency(value as u32),
+            2 => Word::Glean(value as u32),
+            0 => Word::Drop,
+            1 => Word::Receive,
+            _ => Word::Plain(value),
         }
     }
 }

@@ -1,8 +1,8 @@
 -- How counts end.
 use Rattle.std.proofs.Common.{◌≡◌, ◌/◌, ℕ, List, Option, Some, None, Contains, take, drop, refl, ◌∙◌, lit<, ap, subst, Ok, take-append-drop}
-use Rattle.fib_lines.specs.Lines.{lines_of}
+use Rattle.fib_base_lines.specs.Lines.{lines_of}
 use Rattle.fib_capture.specs.Captures.{Capture}
-use Rattle.fib_settings.specs.declared.sizes.Settings.{Settings}
+use Rattle.fib_core.specs.declared.settings.Settings.{Settings}
 use Rattle.fib_words.specs.Words.{soak, files}
 use Rattle.fib_rounds.specs.Writes.{AppendsSome, Gains}
 use Rattle.fib_run.specs.Files.{Holds, IsCapture, IsCommands, IsRead, Wanted, statuses}

@@ -2,8 +2,8 @@
 use Rattle.std.proofs.Common.{◌≡◌, ◌≤◌, ◌+◌, ◌++◌, ◌∷◌, [], ℕ, List, length, drop, ap, ◌∙◌, sym, Some}
 use Rattle.std.specs.Prelude.{slice_get}
 use Rattle.std.proofs.lemmas.List.{append_assoc, append-nil, drop_all}
-use Rattle.fib_crew.proofs.Spans.{drop_at}
-use Rattle.fib_turns.specs.Routers.{Router}
+use Rattle.fib_worker_crew.proofs.Spans.{drop_at}
+use Rattle.fib_rounds_turns.specs.Routers.{Router}
 use Rattle.fib_counter.specs.CountOutput.{count_turn, lines_turn}
 
 -- one line more

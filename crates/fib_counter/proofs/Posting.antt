@@ -4,12 +4,12 @@ use Rattle.std.specs.Prelude.{All, map, slice_index_or}
 use Rattle.std.specs.List.{AllByRecursion}
 use Rattle.std.proofs.lemmas.List.{append_assoc, append-nil, length-map, map-append}
 use Rattle.std.proofs.lemmas.List.Elements.{All-cons, All-head, All-nil, All-tail}
-use Rattle.fib_list.proofs.Lists.{each-append}
+use Rattle.fib_base_list.proofs.Lists.{each-append}
 use Rattle.fib_capture.specs.declared.packet.Packet.{Packet}
-use Rattle.fib_board.specs.Boards.{Board}
-use Rattle.fib_homing.specs.Stations.{AreBack, HasDone, IsCrew, IsReady}
-use Rattle.fib_homing.specs.declared.station.Station.{Station}
-use Rattle.fib_homing.proofs.Mustering.{back_all}
+use Rattle.fib_core_board.specs.Boards.{Board}
+use Rattle.fib_rounds_homing.specs.Stations.{AreBack, HasDone, IsCrew, IsReady}
+use Rattle.fib_rounds_homing.specs.declared.station.Station.{Station}
+use Rattle.fib_rounds_homing.proofs.Mustering.{back_all}
 use Rattle.fib_counter.specs.declared.posts.Post.{Post}
 use Rattle.fib_counter.specs.inner.Posts.{HasCounted, HasWorkedPost, IsCountedPost, IsFreshPost, IsReadyPost, counted_by, results_by, station_of, words_of}
 

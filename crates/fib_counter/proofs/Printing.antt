@@ -4,7 +4,7 @@ use Rattle.std.proofs.lemmas.List.{append_assoc, append-nil}
 use Rattle.fib_resolve.specs.declared.types.Tables.{Tables}
 use Rattle.fib_capture.specs.Captures.{Capture}
 use Rattle.fib_capture.specs.declared.packet.Packet.{Packet}
-use Rattle.fib_turns.specs.Routers.{new_router}
+use Rattle.fib_rounds_turns.specs.Routers.{new_router}
 use Rattle.fib_rounds.specs.Packets.{last_text}
 use Rattle.fib_counter.specs.CountOutput.{all_totals, class_count, count_output, lines_turn, total_line, totals_text}
 

@@ -6,24 +6,24 @@ use Rattle.std.proofs.lemmas.List.{drop_all, map-append}
 use Rattle.std.proofs.lemmas.List.Elements.{filter-append}
 use Rattle.fib_resolve.specs.Resolution.{resolve}
 use Rattle.fib_resolve.specs.declared.types.Tables.{Tables}
-use Rattle.fib_results.specs.declared.record.Record.{Record}
+use Rattle.fib_core_results.specs.declared.record.Record.{Record}
 use Rattle.fib_capture.specs.declared.packet.Packet.{Packet}
 use Rattle.fib_capture.specs.declared.packet.Packet.TheVariants.{Flow, NotIpv4, BadHeader}
 use Rattle.fib_core.specs.Trails.{Trail, place}
 use Rattle.fib_core.specs.Walk.{end_at}
-use Rattle.fib_lawful.specs.Claims.{times}
-use Rattle.fib_board.specs.Boards.{Board}
-use Rattle.fib_crew.specs.Claims.{IsDrawnOnce}
-use Rattle.fib_crew.specs.Frames.{frame, frames}
-use Rattle.fib_crew.specs.Packets.{IsOf, Matched, span}
-use Rattle.fib_crew.specs.Results.{Kept, Told, results_of}
-use Rattle.fib_crew.specs.Work.{results_in, steps_of}
-use Rattle.fib_crew.specs.declared.claims.Frame.{Frame}
+use Rattle.fib_core_lawful.specs.Claims.{times}
+use Rattle.fib_core_board.specs.Boards.{Board}
+use Rattle.fib_worker_crew.specs.Claims.{IsDrawnOnce}
+use Rattle.fib_worker_crew.specs.Frames.{frame, frames}
+use Rattle.fib_worker_crew.specs.Packets.{IsOf, Matched, span}
+use Rattle.fib_worker_crew.specs.Results.{Kept, Told, results_of}
+use Rattle.fib_worker_crew.specs.Work.{results_in, steps_of}
+use Rattle.fib_worker_crew.specs.declared.claims.Frame.{Frame}
 use Rattle.fib_counts.specs.Counts.{word_of}
-use Rattle.fib_homing.specs.Homes.{IsHome, claimed, claims_of}
-use Rattle.fib_homing.specs.Places.{joined, parts_of}
-use Rattle.fib_homing.specs.Stations.{AreBack, IsBack, past_of, pasts_of}
-use Rattle.fib_homing.proofs.Drawing.{drawn_counts}
+use Rattle.fib_rounds_homing.specs.Homes.{IsHome, claimed, claims_of}
+use Rattle.fib_rounds_homing.specs.Places.{joined, parts_of}
+use Rattle.fib_rounds_homing.specs.Stations.{AreBack, IsBack, past_of, pasts_of}
+use Rattle.fib_rounds_homing.proofs.Drawing.{drawn_counts}
 use Rattle.fib_rounds.specs.Closed.{ends_over}
 use Rattle.fib_rounds.specs.Packets.{answers}
 use Rattle.fib_rounds.proofs.Quiet.{all_settled}

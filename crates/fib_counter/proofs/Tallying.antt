@@ -7,11 +7,11 @@ use Rattle.std.proofs.lemmas.List.{append_assoc, map-append}
 use Rattle.std.proofs.lemmas.List.Elements.{filter-append}
 use Rattle.std.proofs.lemmas.List.Recursion.{is_count_by}
 use Rattle.fib_resolve.specs.declared.types.End.{End}
-use Rattle.fib_results.specs.declared.record.Record.{Record}
-use Rattle.fib_crew.specs.Results.{results_of}
-use Rattle.fib_crew.specs.declared.claims.Frame.{Frame}
-use Rattle.fib_crew.proofs.Spans.{drop_at}
-use Rattle.fib_lawful.specs.Claims.{times}
+use Rattle.fib_core_results.specs.declared.record.Record.{Record}
+use Rattle.fib_worker_crew.specs.Results.{results_of}
+use Rattle.fib_worker_crew.specs.declared.claims.Frame.{Frame}
+use Rattle.fib_worker_crew.proofs.Spans.{drop_at}
+use Rattle.fib_core_lawful.specs.Claims.{times}
 use Rattle.fib_counts.specs.Counts.{word_of}
 use Rattle.fib_counter.specs.inner.Posts.{end_word, is_word, kept_words, results_by, words_of}
 

@@ -2,13 +2,13 @@
 use Rattle.std.specs.Prelude.{ℕ, zero, suc, ◌≡◌, ◌+◌, ◌-◌, ◌/◌, ◌==◌, ◌++◌, ◌∷◌, [], List, Some, nat_lt, codes, decimal, if◌then◌else◌}
 use Rattle.std.specs.List.{count_by}
 use Rattle.fib_resolve.specs.declared.types.Tables.{Tables}
-use Rattle.fib_lines.specs.Lines.{lines_of}
+use Rattle.fib_base_lines.specs.Lines.{lines_of}
 use Rattle.fib_capture.specs.Captures.{Capture}
 use Rattle.fib_capture.specs.declared.packet.Packet.{Packet}
 use Rattle.fib_words.specs.Words.{files}
 use Rattle.fib_print.specs.Ends.{name_of}
-use Rattle.fib_turns.specs.Routers.{Router, new_router}
-use Rattle.fib_turns.specs.Turns.{Turn, change_turn_of}
+use Rattle.fib_rounds_turns.specs.Routers.{Router, new_router}
+use Rattle.fib_rounds_turns.specs.Turns.{Turn, change_turn_of}
 use Rattle.fib_counts.specs.Counts.{word_of}
 use Rattle.fib_rounds.specs.Closed.{ends_over}
 use Rattle.fib_rounds.specs.Packets.{last_text}

@@ -1,12 +1,12 @@
 // All lines of a script, and then the totals of all packets.
 ghost use Rattle.std.specs.Prelude.{◌≡◌, ◌<◌, ◌≤◌, ◌/◌, ◌++◌, ◌∷◌, [], ℕ, IfOk, OnOk, OnErr, length};
-ghost use Rattle.fib_lawful.specs.Claims.{times};
+ghost use Rattle.fib_core_lawful.specs.Claims.{times};
 ghost use Rattle.fib_control.specs.Controls.{tables_in};
 ghost use Rattle.fib_counts.specs.Counts.{outs};
-ghost use Rattle.fib_homing.specs.Homes.{NoneOut};
-ghost use Rattle.fib_settings.specs.Ranges.{InRange};
+ghost use Rattle.fib_rounds_homing.specs.Homes.{NoneOut};
+ghost use Rattle.fib_core.specs.Ranges.{InRange};
 ghost use Rattle.fib_rounds.specs.Runs.{IsNew};
-ghost use Rattle.fib_turns.specs.Routers.{new_router};
+ghost use Rattle.fib_rounds_turns.specs.Routers.{new_router};
 ghost use Rattle.fib_counter.specs.CountOutput.{all_totals, class_count, count_output, lines_turn};
 ghost use Rattle.fib_counter.specs.inner.Settled.{IsSettledRun};
 
@@ -16,11 +16,11 @@ use crate::totals::put_totals;
 use fib_cells::{Cells, LiveBoard};
 use fib_control::Control;
 use fib_counts::{Counters, Keeper};
-use fib_crew::Taken;
-use fib_homing::{bring_home, send_out};
 use fib_outside::Gate;
 use fib_rounds::{Task, places_for, put_last, settle_home};
-use fib_turns::Progress;
+use fib_rounds_homing::{bring_home, send_out};
+use fib_rounds_turns::Progress;
+use fib_worker_crew::Taken;
 use std::alloc::AllocError;
 use std::sync::Wait;
 use std::thread::Threads;

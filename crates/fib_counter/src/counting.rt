@@ -1,13 +1,13 @@
 // Results, counted by a seat.
 ghost use Rattle.std.specs.Prelude.{◌≡◌, ◌++◌, ◌∷◌, [], true, map};
-ghost use Rattle.fib_crew.specs.Results.{results_of};
+ghost use Rattle.fib_worker_crew.specs.Results.{results_of};
 ghost use Rattle.fib_counts.specs.Counts.{word_of};
 ghost use Rattle.fib_counter.specs.inner.Posts.{end_word, kept_words, results_by, words_of};
 
 use fib_core::Record;
 use fib_counts::{CountSeat, is_counted};
-use fib_crew::Frame;
 use fib_resolve::End;
+use fib_worker_crew::Frame;
 
 // Counts an end, where there is a word for it. Answers false where the seat has counted as often as it may.
 fn count_end(seat: &mut CountSeat<'_>, end: &End) -> bool

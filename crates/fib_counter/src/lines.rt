@@ -1,20 +1,20 @@
 // The lines of a script, all of them.
 ghost use Rattle.std.specs.Prelude.{◌≡◌, OnOk, ◌++◌};
-ghost use Rattle.fib_turns.specs.Routers.{KeepsCrew, applied_in, new_progress, router_of};
+ghost use Rattle.fib_rounds_turns.specs.Routers.{KeepsCrew, applied_in, new_progress, router_of};
 ghost use Rattle.fib_rounds.specs.Stages.{IsHistory};
 ghost use Rattle.fib_rounds.specs.Rounds.{stage_of};
 ghost use Rattle.fib_counter.specs.CountOutput.{lines_turn};
 
-use fib_board::Board;
 use fib_commands::Script;
 use fib_control::Control;
+use fib_core_board::Board;
 use fib_outside::Gate;
-use fib_turns::{Means, Progress, run_change_line};
+use fib_rounds_turns::{Means, Progress, run_change_line};
 use std::alloc::AllocError;
 use std::sync::Wait;
 
 /// Runs all lines of a script from the first on, and appends what they print.
-#[tactic(auto, using(fib_turns::proofs::Keeping::keeps_then))]
+#[tactic(auto, using(fib_rounds_turns::proofs::Keeping::keeps_then))]
 pub fn run_script<R: Wait, G: Gate, B: Board>(
     means: &Means<'_, R, G>,
     control: &mut Control<B>,

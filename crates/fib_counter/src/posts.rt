@@ -1,19 +1,18 @@
 // Workers at posts, each in a thread of its own with a seat to count by.
 ghost use Rattle.std.specs.Prelude.{◌≡◌, ◌<◌, ◌≤◌, ◌+◌, ◌^◌, ◌++◌, [], ℕ, All, true, length, map, slice_index_or, vec_capacity};
 ghost use Rattle.std.specs.List.{AllByRecursion};
-ghost use Rattle.fib_crew.specs.Frames.{frames};
-ghost use Rattle.fib_crew.specs.Packets.{span};
+ghost use Rattle.fib_worker_crew.specs.Taking.{frames_taken, packets_taken};
 ghost use Rattle.fib_counts.specs.Counts.{outs};
-ghost use Rattle.fib_homing.specs.Stations.{IsReady};
+ghost use Rattle.fib_rounds_homing.specs.Stations.{IsReadyFor};
 ghost use Rattle.fib_counter.specs.declared.posts.Post.{Post as PostValue};
 ghost use Rattle.fib_counter.specs.inner.Posts.{HasCounted, HasWorkedPost, IsCountedPost, IsFreshPost, IsReadyPost, counted_by, station_of};
 
 use crate::counting::count_frames;
 use fib_capture::Capture;
 use fib_counts::{CountSeat, Keeper};
-use fib_crew::Taken;
-use fib_homing::{Station, work_at};
 use fib_outside::Gate;
+use fib_rounds_homing::{Station, work_at};
+use fib_worker_crew::Taken;
 use std::alloc::Global;
 use std::thread::{Threads, for_each_mut};
 
@@ -36,8 +35,8 @@ fn work_post<'a, 'b, G: Gate>(
 )
     requires order { taken.first ≤ taken.to }
     requires inside { taken.to ≤ length packets.now.packets }
-    requires ready { IsReady taken.opened (frames (span packets.now.packets taken.first taken.to)) post.old.station }
-    ensures { HasWorkedPost taken.opened taken.first taken.base (span packets.now.packets taken.first taken.to) post.old post.new }
+    requires ready { IsReadyFor packets.now taken post.old.station }
+    ensures { HasWorkedPost taken.opened taken.first taken.base (packets_taken packets.now taken) post.old post.new }
 {
     work_at(alloc, packets, taken, gate, &mut post.station);
     post.counted = count_frames(&mut post.seat, &post.station.frames);
@@ -54,10 +53,10 @@ pub fn work_posts<'a, 'b, R: Threads + Sync, G: Gate>(
 )
     requires order { taken.first ≤ taken.to }
     requires inside { taken.to ≤ length packets.now.packets }
-    requires ready { All (IsReadyPost taken.opened (frames (span packets.now.packets taken.first taken.to))) posts.old }
+    requires ready { All (IsReadyPost taken.opened (frames_taken packets.now taken)) posts.old }
     ensures long { length posts.new ≡ length posts.old }
     ensures each { (i : ℕ) (d : PostValue) → i < length posts.old → HasWorkedPost taken.opened taken.first taken.base
-        (span packets.now.packets taken.first taken.to) (slice_index_or posts.old i d) (slice_index_or posts.new i d) }
+        (packets_taken packets.now taken) (slice_index_or posts.old i d) (slice_index_or posts.new i d) }
 {
     for_each_mut(
         rt,
@@ -65,9 +64,9 @@ pub fn work_posts<'a, 'b, R: Threads + Sync, G: Gate>(
         8,
         &|_, post: &mut Post| -> ()
             requires { (taken.first ≤ taken.to) × (taken.to ≤ length packets.now.packets)
-                × IsReady taken.opened (frames (span packets.now.packets taken.first taken.to)) post.now.station }
+                × IsReadyFor packets.now taken post.now.station }
             ensures { HasWorkedPost taken.opened taken.first taken.base
-                (span packets.entry.now.packets taken.first taken.to) post.entry.now post.exit.now }
+                (packets_taken packets.entry.now taken) post.entry.now post.exit.now }
         { work_post(alloc, packets, taken, gate, post) },
     );
 }

@@ -2,7 +2,7 @@
 ghost use Rattle.std.specs.Prelude.{◌≡◌, ◌⊎◌, Some, OnOk, OnErr, IsErrOf};
 ghost use Rattle.fib_outside.specs.Outside.{HasRisen};
 ghost use Rattle.fib_outside.specs.declared.part.Part.{Part};
-ghost use Rattle.fib_settings.specs.Ranges.{InRange};
+ghost use Rattle.fib_core.specs.Ranges.{InRange};
 ghost use Rattle.fib_rounds.specs.Writes.{Gains};
 ghost use Rattle.fib_run.specs.declared.files.Fault.{Fault as FaultValue};
 ghost use Rattle.fib_run.specs.Files.{MayBeLong, MayOpen, MayRefuse};

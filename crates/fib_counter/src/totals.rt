@@ -1,6 +1,6 @@
 // The lines of totals.
 ghost use Rattle.std.specs.Prelude.{◌≡◌, ◌<◌, ◌++◌, OnOk, codes, decimal};
-ghost use Rattle.fib_lawful.specs.Claims.{times};
+ghost use Rattle.fib_core_lawful.specs.Claims.{times};
 ghost use Rattle.fib_counts.specs.Counts.{outs};
 ghost use Rattle.fib_print.specs.Ends.{name_of};
 ghost use Rattle.fib_counter.specs.CountOutput.{all_totals, class_text, total_line};

@@ -2,12 +2,12 @@
 ghost use Rattle.std.specs.Prelude.{◌≡◌, map, string_bytes, IfOk, IfSome, is_some, option_map};
 ghost use Rattle.fib_addr.specs.Texts.{Reads};
 ghost use Rattle.clap.specs.Words.{app_of, first_of, found_of, rows_of};
-ghost use Rattle.fib_settings.specs.Ranges.{InRange};
+ghost use Rattle.fib_core.specs.Ranges.{InRange};
 ghost use Rattle.fib_counter.specs.Words.{accepts, asked_by, asked_in, count_command, settings_of, wanted};
 
 use clap::{ArgMatches, Command};
 use fib_addr::BadText;
-use fib_settings::Settings;
+use fib_core::Settings;
 use fib_words::parts::{bare_command, given, matches_in, name, number_or, objects_or, option};
 use std::alloc::{AllocError, Global};
 

@@ -8,8 +8,8 @@ use lib.ListN.{get_elem?}
 use Rattle.atomic_table.specs.Table.{State, Me, step, keeps, Allows, Splits, Joins}
 use Rattle.fib_counts.specs.Counts.{View, keeper, seat, spent, Keep, Tally, counted, times_in, total, one_if, sits, outs_at, outs, free_in, first_keep, no_number, added, sent, new_tally, taken_home, IsCounted}
 use Rattle.fib_counts.specs.Counts as counts
-use Rattle.fib_lawful.specs.Claims.{times}
-use Rattle.fib_lawful.proofs.Claiming.{times_append}
+use Rattle.fib_core_lawful.specs.Claims.{times}
+use Rattle.fib_core_lawful.proofs.Claiming.{times_append}
 use Rattle.atomic_table.specs.Seated.{TableId}
 use Rattle.fib_counts.specs.Seats.{id_of}
 use Rattle.fib_counts.specs.inner.Told.{is_seat, outs_in, came_in, made_in, count_in, left_in, spare_of, spare_in, IsRoomy, IsRuled, keep_of, tally_of, IsKeeper, IsSeat, Adds, IsFit, Reads, left_at_home, sent_out, both_of}

@@ -7,7 +7,7 @@ use native.Mathlib.Decide.{ℕ_discrete}
 use lib.ListN.{get_elem?}
 use Rattle.fib_counts.specs.Counts.{View, keeper, seat, spent, times_in, total, one_if, keeps, outs, free_in}
 use Rattle.fib_counts.specs.inner.Told.{is_seat}
-use Rattle.fib_lawful.specs.Claims.{times}
+use Rattle.fib_core_lawful.specs.Claims.{times}
 
 module _ {V : Type 0} (f : V → ℕ) where
   pub total_set : (views : List V) (id : ℕ) (v w : V) → get_elem? views id ≡ some v → total f (slice_set views id w) + f v ≡ total f views + f w

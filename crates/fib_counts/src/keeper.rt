@@ -1,7 +1,7 @@
 // The counters, and the seat that makes seats and takes them home.
 ghost use Rattle.std.specs.Prelude.{◌≡◌, ◌<◌, ◌+◌, ◌^◌, ◌++◌, [], IfOk, IfSome, replicate, true, false, slice_set, length};
 ghost use Rattle.fib_counts.specs.Counts.{free_in, no_number, outs};
-ghost use Rattle.fib_lawful.specs.Claims.{times};
+ghost use Rattle.fib_core_lawful.specs.Claims.{times};
 ghost use Rattle.fib_counts.specs.Seats.{id_in};
 
 use crate::seat::CountSeat;

@@ -14,7 +14,7 @@ use Rattle.std.proofs.Math.Pow.{pow_pos}
 use Rattle.fib_addr.specs.Prefixes.{Prefix, IsPrefix, contains, host, size_of}
 use Rattle.fib_cover.specs.Covers.{prefix_cmp, is_inside, ArePrefixes}
 use Rattle.fib_cover.proofs.Order.{prefix_total}
-use Rattle.fib_list.proofs.Booleans.{and_both}
+use Rattle.fib_base_list.proofs.Booleans.{and_both}
 
 true_from : (b c : Bool) → (b ≡ true → c ≡ true) → (c ≡ true → b ≡ true) → b ≡ c
 true_from true c f g = sym (f refl)

@@ -12,7 +12,7 @@ use Rattle.std.proofs.lemmas.Map.Views.{btree_set_contains_iff}
 use Rattle.fib_addr.specs.Prefixes.{Prefix, IsPrefix}
 use Rattle.fib_addr.proofs.PrefixLaws.{same_fields}
 use Rattle.fib_cover.specs.Covers.{prefix_cmp, ArePrefixes}
-use Rattle.fib_list.proofs.Lists.{either}
+use Rattle.fib_base_list.proofs.Lists.{either}
 
 pub prefix_total : IsTotalOrder prefix_cmp
 prefix_total = then_total (on_total (λ (p : Prefix). p.bits) nat_cmp_total) (on_total (λ (p : Prefix). p.len) nat_cmp_total)

@@ -168,7 +168,8 @@ fn between(
     last: Prefix,
 ) -> Result<Vec<Prefix>, AllocError>
     requires { IsLeBy prefix_cmp first last }
-    ensures { IfOk result (λ v. v.items ≡ filter (range_contains prefix_cmp (Bound.Included first) (Bound.Included last)) members.now.keys) }
+    ensures { IfOk result (λ v. v.items ≡ filter
+        (range_contains prefix_cmp (Bound.Included first) (Bound.Included last)) members.now.keys) }
 {
     gather(alloc, members.range(first..=last))
 }

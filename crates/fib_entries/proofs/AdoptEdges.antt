@@ -6,7 +6,7 @@ use Rattle.std.specs.List.{AllByRecursion}
 use Rattle.std.specs.Set.{is_member}
 use Rattle.std.proofs.lemmas.Bool.{false≢true}
 use Rattle.std.proofs.lemmas.Map.Views.{Contains-from_any}
-use Rattle.fib_list.proofs.Lists.{either, Contains-flat_map, Contains-nil, each-weaker}
+use Rattle.fib_base_list.proofs.Lists.{either, Contains-flat_map, Contains-nil, each-weaker}
 use Rattle.fib_reach.specs.Walks.{Walk, Leads, Next, Reaches}
 use Rattle.fib_reach.proofs.Walking.{edge_leads, leads_then, then_edge, then_reaches}
 use Rattle.fib_addr.specs.Prefixes.{Prefix, contains, host, same_prefix}
@@ -30,16 +30,16 @@ use Rattle.fib_resolve.proofs.Entries.{chosen-no_entry}
 use Rattle.fib_resolve.proofs.KeptEdges.{kept_target}
 use Rattle.fib_resolve.proofs.LoopTests.{looped-Decides}
 use Rattle.fib_resolve.proofs.PairLaws.{best_has, cover_at_host, pairs_have}
-use Rattle.fib_changes.specs.Ranks.{Falls}
-use Rattle.fib_changes.proofs.Cycles.{path_edge}
-use Rattle.fib_changes.proofs.Edits.{in_front}
-use Rattle.fib_changes.proofs.SamePairs.{flat_map_from, map_in, same_met, same_targets}
-use Rattle.fib_entries.specs.Known.{kind_met}
+use Rattle.fib_resolve_changes.specs.Ranks.{Falls}
+use Rattle.fib_resolve_changes.proofs.Cycles.{path_edge}
+use Rattle.fib_resolve_changes.proofs.Edits.{in_front}
+use Rattle.fib_resolve_changes.proofs.SamePairs.{flat_map_from, map_in, same_met, same_targets}
+use Rattle.fib_entries_rows.specs.Known.{kind_met}
 use Rattle.fib_entries.specs.inner.Adopting.{ComesOver, IsOpen, cover_mark, drop_list, drop_mark, dropping}
 use Rattle.fib_entries.proofs.AdoptLaws.{open_chosen, open_chosen_own, open_cover_back, open_cover_in, open_cover_out, open_pairs, open_sound}
 use Rattle.fib_entries.proofs.Doubled.{AreAlike}
-use Rattle.fib_entries.proofs.Leafing.{each_has, is_not, only_one, short_other}
-use Rattle.fib_entries.proofs.Replacing.{maps_same}
+use Rattle.fib_entries_rows.proofs.Leafing.{each_has, is_not, only_one, short_other}
+use Rattle.fib_entries_rows.proofs.Replacing.{maps_same}
 use Rattle.fib_entries.proofs.WithHost.{no_list}
 
 -- a list with a path to the cover has no other path

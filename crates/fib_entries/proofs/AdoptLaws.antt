@@ -9,8 +9,8 @@ use Rattle.std.proofs.lemmas.Bool.{false≢true, ltb-true, cases_lt}
 use Rattle.std.proofs.lemmas.Bool.Decides.{Decides-eqb}
 use Rattle.std.proofs.lemmas.Nat.{pow-add}
 use Rattle.std.proofs.Math.Nat.{div-div-eq-div-mul}
-use Rattle.fib_list.proofs.Booleans.{and_both}
-use Rattle.fib_list.proofs.Lists.{either, each-weaker}
+use Rattle.fib_base_list.proofs.Booleans.{and_both}
+use Rattle.fib_base_list.proofs.Lists.{either, each-weaker}
 use Rattle.fib_addr.specs.Prefixes.{Prefix, IsPrefix, contains, host, same_prefix, size_of}
 use Rattle.fib_addr.specs.Longest.{IsLongest}
 use Rattle.fib_addr.proofs.LongestLaws.{longest_is_longest, longest_is_unique}
@@ -28,22 +28,22 @@ use Rattle.fib_resolve.specs.declared.types.Route.{Route}
 use Rattle.fib_resolve.specs.declared.types.Tables.{Tables}
 use Rattle.fib_resolve.proofs.Covering.{attached_by_chosen, filter_from}
 use Rattle.fib_resolve.proofs.OneList.{each-itself, source_by_rank}
-use Rattle.fib_changes.specs.Differ.{Differ}
-use Rattle.fib_changes.specs.Sources.{ArePrefixes, BaseCaught, SamePairs}
-use Rattle.fib_changes.specs.declared.change.Change.TheVariants as changes
-use Rattle.fib_changes.proofs.Covers.{attached_agrees, short_from, whole_there}
-use Rattle.fib_changes.proofs.Edits.{in_cases, in_front, in_rest}
-use Rattle.fib_changes.proofs.SamePairs.{Origin, origin, from_origin, base, neighbor, derived, near_from, near_host, derived_host, same_chosen, same_pairs_from}
-use Rattle.fib_entries.specs.Known.{holders}
+use Rattle.fib_resolve_changes.specs.Differ.{Differ}
+use Rattle.fib_resolve_changes.specs.Sources.{ArePrefixes, BaseCaught, SamePairs}
+use Rattle.fib_resolve_changes.specs.declared.change.Change.TheVariants as changes
+use Rattle.fib_resolve_changes.proofs.Covers.{attached_agrees, short_from, whole_there}
+use Rattle.fib_resolve_changes.proofs.Edits.{in_cases, in_front, in_rest}
+use Rattle.fib_resolve_changes.proofs.SamePairs.{Origin, origin, from_origin, base, neighbor, derived, near_from, near_host, derived_host, same_chosen, same_pairs_from}
+use Rattle.fib_entries_rows.specs.Known.{holders}
 use Rattle.fib_entries.specs.inner.Adopting.{IsOpen, drop_list, dropping}
-use Rattle.fib_entries.proofs.Apart.{short_pair}
-use Rattle.fib_entries.proofs.Counting.{counts_have, holders_step}
+use Rattle.fib_entries_rows.proofs.Apart.{short_pair}
+use Rattle.fib_entries_rows.proofs.Counting.{counts_have, holders_step}
 use Rattle.fib_entries.proofs.Doubling.{drop_sound, no_host}
-use Rattle.fib_entries.proofs.Leafing.{base_beside, came_beside, entry_of_pair, from_route, good_beside, host_is, is_it, is_not, its_prefix, not_it, pair_at}
+use Rattle.fib_entries_rows.proofs.Leafing.{base_beside, came_beside, entry_of_pair, from_route, good_beside, host_is, is_it, is_not, its_prefix, not_it, pair_at}
 use Rattle.fib_entries.proofs.LedLaws.{IsOwnBest, own_chosen}
 use Rattle.fib_entries.proofs.LedPairs.{is_own, own_counted, own_entry, own_is, own_passes, own_there, passes_own}
-use Rattle.fib_entries.proofs.Listing.{listed_route, pair_of, source_of_route}
-use Rattle.fib_entries.proofs.Using.{once}
+use Rattle.fib_entries_rows.proofs.Listing.{listed_route, pair_of, source_of_route}
+use Rattle.fib_entries_rows.proofs.Using.{once}
 
 -- a prefix that is no longer has all addresses of another or none
 pub block_same : (q p : Prefix) (a : ℕ) → q.len ≤ p.len → p.len ≤ 32 → contains p a ≡ true → contains q a ≡ contains q p.bits

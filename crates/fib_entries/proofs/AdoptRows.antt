@@ -2,19 +2,19 @@
 -- it, by those of the tables with it. The rows of the hosts that lead to the prefix lead to the cover, which they lead to too.
 use Rattle.std.proofs.Common.{◌≡◌, ◌≢◌, ℕ, ◌<◌, true, false, List, map, Some, ◌⊎◌, inl, inr, sym, ◌∙◌, ap, subst, ◌↔◌}
 use Rattle.std.specs.Prelude.{Contains}
-use Rattle.fib_list.proofs.Lists.{either}
+use Rattle.fib_base_list.proofs.Lists.{either}
 use Rattle.fib_reach.specs.Walks.{AllDiffer}
 use Rattle.fib_addr.specs.Prefixes.{Prefix, contains}
 use Rattle.fib_resolve.specs.Loops.{targets}
 use Rattle.fib_resolve.specs.declared.types.FibSource.{FibSource}
 use Rattle.fib_resolve.specs.declared.types.Path.{Path}
 use Rattle.fib_resolve.specs.declared.types.Tables.{Tables}
-use Rattle.fib_entries.specs.Known.{PathKept, IsRow, ArePairs, content_of, holders}
+use Rattle.fib_entries_rows.specs.Known.{PathKept, IsRow, ArePairs, content_of, holders}
 use Rattle.fib_entries.specs.inner.Adopting.{ComesOver, IsOpen, aimed, aimed_mark, dropping, with_dependants}
-use Rattle.fib_entries.specs.Rows.{Row}
+use Rattle.fib_entries_rows.specs.Rows.{Row}
 use Rattle.fib_entries.proofs.AdoptEdges.{over_other, open_edges, open_edges_cover, open_looped_list, open_marks, open_marks_over, open_met_list}
 use Rattle.fib_entries.proofs.AdoptLaws.{open_pairs}
-use Rattle.fib_entries.proofs.PartRows.{pairs_kept}
+use Rattle.fib_entries_rows.proofs.PartRows.{pairs_kept}
 
 module _ (U : Tables) (p c : Prefix) (source : FibSource) (o : IsOpen U p c source) (lists later : List PathKept)
     (stays : (id : ℕ) (paths : List Path) → 0 < holders U paths → content_of lists id ≡ Some paths → content_of later id ≡ Some paths) where

@@ -3,8 +3,8 @@
 use Rattle.std.proofs.Common.{arith, ◌≡◌, ◌≢◌, ℕ, suc, ◌+◌, true, not, List, [], length, Some, ◌⊎◌, inl, inr, sym, ◌∙◌, ap, subst, slice_get, ◌↔◌}
 use Rattle.std.specs.Prelude.{Contains}
 use Rattle.std.specs.List.{insert, list_any, remove}
-use Rattle.fib_list.proofs.Booleans.{or_right}
-use Rattle.fib_list.proofs.Lists.{either, Contains-nil}
+use Rattle.fib_base_list.proofs.Booleans.{or_right}
+use Rattle.fib_base_list.proofs.Lists.{either, Contains-nil}
 use Rattle.fib_addr.specs.Prefixes.{Prefix}
 use Rattle.fib_cover.specs.Covers.{IsAscending}
 use Rattle.fib_resolve.specs.Pairs.{chosen, cover, entries}
@@ -16,17 +16,17 @@ use Rattle.fib_resolve.specs.declared.types.Path.{Path}
 use Rattle.fib_resolve.specs.declared.types.PathKind.TheVariants as kinds
 use Rattle.fib_resolve.specs.declared.types.Tables.{Tables}
 use Rattle.fib_resolve.proofs.Touching.{untouched_pairs}
-use Rattle.fib_changes.proofs.Edits.{any_in}
-use Rattle.fib_changes.proofs.SamePairs.{same_chosen}
-use Rattle.fib_interned.proofs.Finding.{contains_at, some_is}
+use Rattle.fib_resolve_changes.proofs.Edits.{any_in}
+use Rattle.fib_resolve_changes.proofs.SamePairs.{same_chosen}
+use Rattle.fib_base_interned.proofs.Finding.{contains_at, some_is}
 use Rattle.fib_entries.specs.inner.Adopting.{IsOpen, drop_list, dropping}
-use Rattle.fib_entries.specs.inner.Plies.{IsGap, before_of, own_size}
+use Rattle.fib_entries_rows.specs.inner.Plies.{IsGap, before_of, own_size}
 use Rattle.fib_entries.proofs.AdoptLaws.{open_chosen, open_chosen_own, open_entries}
-use Rattle.fib_entries.proofs.Leafing.{not_it}
-use Rattle.fib_entries.proofs.LeafSizes.{ends_by, ends_same}
-use Rattle.fib_entries.proofs.Orders.{inserted_members, order_grown, order_size, size_of_order}
-use Rattle.fib_entries.proofs.Placing.{before_removed, gap_absent, gap_removed, get_removed_high, inserted_ascending, removed_ascending, removed_from, removed_in}
-use Rattle.fib_entries.proofs.PlyOrder.{index_of}
+use Rattle.fib_entries_rows.proofs.Leafing.{not_it}
+use Rattle.fib_entries_rows.proofs.LeafSizes.{ends_by, ends_same}
+use Rattle.fib_entries_rows.proofs.Orders.{inserted_members, order_grown, order_size, size_of_order}
+use Rattle.fib_entries_rows.proofs.Placing.{before_removed, gap_absent, gap_removed, get_removed_high, inserted_ascending, removed_ascending, removed_from, removed_in}
+use Rattle.fib_entries_rows.proofs.PlyOrder.{index_of}
 use Rattle.fib_entries.proofs.WithHost.{no_list}
 
 -- an entry with a path to its cover is touched where that is another

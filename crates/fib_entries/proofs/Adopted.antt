@@ -4,7 +4,7 @@ use Rattle.std.specs.Prelude.{Contains, IsSome, nat_lt}
 use Rattle.std.specs.List.{insert, list_any}
 use Rattle.std.specs.Set.{is_member}
 use Rattle.std.proofs.lemmas.Bool.{false≢true, ltb-true}
-use Rattle.fib_list.proofs.Lists.{either, Contains-nil}
+use Rattle.fib_base_list.proofs.Lists.{either, Contains-nil}
 use Rattle.fib_addr.specs.Prefixes.{Prefix, same_prefix}
 use Rattle.fib_addr.proofs.PrefixLaws.{same_prefix-Decides}
 use Rattle.fib_cover.specs.Covers.{IsAscending}
@@ -17,54 +17,54 @@ use Rattle.fib_resolve.specs.declared.types.Neighbor.{Neighbor}
 use Rattle.fib_resolve.specs.declared.types.Path.{Path}
 use Rattle.fib_resolve.specs.declared.types.PathKind.TheVariants as kinds
 use Rattle.fib_resolve.specs.declared.types.Tables.{Tables}
-use Rattle.fib_changes.specs.Differ.{Differ}
-use Rattle.fib_changes.specs.declared.change.Change.TheVariants as changes
-use Rattle.fib_changes.proofs.Edits.{any_in, in_cases, in_front, in_rest}
-use Rattle.fib_changes.proofs.SamePairs.{map_in}
-use Rattle.fib_interned.specs.Interned.{AreInterned, Takes, kept_of}
-use Rattle.fib_interned.proofs.Finding.{contains_at}
-use Rattle.fib_entries.specs.Changes.{AreMoved}
-use Rattle.fib_entries.specs.Known.{Known, PathKept, StandsFor, content_of, prefix_of, rank_of}
+use Rattle.fib_resolve_changes.specs.Differ.{Differ}
+use Rattle.fib_resolve_changes.specs.declared.change.Change.TheVariants as changes
+use Rattle.fib_resolve_changes.proofs.Edits.{any_in, in_cases, in_front, in_rest}
+use Rattle.fib_resolve_changes.proofs.SamePairs.{map_in}
+use Rattle.fib_base_interned.specs.Interned.{AreInterned, Takes, kept_of}
+use Rattle.fib_base_interned.proofs.Finding.{contains_at}
+use Rattle.fib_entries_rows.specs.Changes.{AreMoved}
+use Rattle.fib_entries_rows.specs.Known.{Known, PathKept, StandsFor, content_of, prefix_of, rank_of}
 use Rattle.fib_entries.specs.inner.Above.{IsPlanned}
 use Rattle.fib_entries.specs.inner.Adopting.{ComesOver, IsAdopted, IsBetween, IsKin, IsOpen, IsTurnedOver, aimed, aimed_in, aimed_mark, cover_mark, drop_list, dropping, open_row, opened, with_dependants}
-use Rattle.fib_entries.specs.inner.Building.{AreHeld}
-use Rattle.fib_entries.specs.inner.Ends.{aim_exit, has_exit}
-use Rattle.fib_entries.specs.inner.Fields.{AreAmong, AreFields, AreNamed, Index, IsForgotten, IsIndexed, IsNoted, are_several, count_in, has_several}
-use Rattle.fib_entries.specs.inner.Leaf.{IsFollowed}
-use Rattle.fib_entries.specs.inner.Led.{IsReaching}
-use Rattle.fib_entries.specs.inner.Plies.{IsGap, entry_at, entry_before, own_size}
-use Rattle.fib_entries.specs.inner.Reaching.{HasReached}
-use Rattle.fib_entries.specs.Rows.{Row}
+use Rattle.fib_entries_rows.specs.inner.Building.{AreHeld}
+use Rattle.fib_entries_rows.specs.inner.Ends.{aim_exit, has_exit}
+use Rattle.fib_entries_rows.specs.inner.Fields.{AreAmong, AreFields, AreNamed, Index, IsForgotten, IsIndexed, IsNoted, are_several, count_in, has_several}
+use Rattle.fib_entries_rows.specs.inner.Leaf.{IsFollowed}
+use Rattle.fib_entries_rows.specs.inner.Led.{IsReaching}
+use Rattle.fib_entries_rows.specs.inner.Plies.{IsGap, entry_at, entry_before, own_size}
+use Rattle.fib_entries_rows.specs.inner.Reaching.{HasReached}
+use Rattle.fib_entries_rows.specs.Rows.{Row}
 use Rattle.fib_entries.specs.declared.adopting.Gap.{Gap}
 use Rattle.fib_entries.specs.declared.adopting.Kin.{Kin}
-use Rattle.fib_entries.specs.declared.changes.Followed.{Followed}
-use Rattle.fib_entries.specs.declared.hosting.Late.{Late}
-use Rattle.fib_entries.specs.declared.parting.Last.{Last}
-use Rattle.fib_entries.specs.declared.reaching.Course.{Course}
-use Rattle.fib_entries.specs.declared.replace.Own.{Own}
+use Rattle.fib_entries_rows.specs.declared.changes.Followed.{Followed}
+use Rattle.fib_entries_rows.specs.declared.hosting.Late.{Late}
+use Rattle.fib_entries_rows.specs.declared.parting.Last.{Last}
+use Rattle.fib_entries_rows.specs.declared.reaching.Course.{Course}
+use Rattle.fib_entries_rows.specs.declared.replace.Own.{Own}
 use Rattle.fib_entries.proofs.AdoptEdges.{open_alike, open_is_over}
 use Rattle.fib_entries.proofs.AdoptLaws.{open_cover_after, open_differ_from, open_paths}
 use Rattle.fib_entries.proofs.AdoptSizes.{cover_touches}
-use Rattle.fib_entries.proofs.Arriving.{set_back}
+use Rattle.fib_entries_rows.proofs.Arriving.{set_back}
 use Rattle.fib_entries.proofs.Doubled.{touched_alike}
-use Rattle.fib_entries.proofs.Exits.{IsIn, exit_alike, fields_with, in_alike, in_index, in_own, indexed_each, indexed_more, none_hosted}
-use Rattle.fib_entries.proofs.Hosts.{came_touched}
-use Rattle.fib_entries.proofs.Leafing.{is_not, near_beside, only_one}
+use Rattle.fib_entries_rows.proofs.Exits.{IsIn, exit_alike, fields_with, in_alike, in_index, in_own, indexed_each, indexed_more, none_hosted}
+use Rattle.fib_entries_rows.proofs.Hosts.{came_touched}
+use Rattle.fib_entries_rows.proofs.Leafing.{is_not, near_beside, only_one}
 use Rattle.fib_entries.proofs.LedPairs.{led_touched, own_entry}
 use Rattle.fib_entries.proofs.LedReach.{reach_best}
-use Rattle.fib_entries.proofs.Linking.{member_in}
-use Rattle.fib_entries.proofs.Listing.{pair_of}
-use Rattle.fib_entries.proofs.Naming.{named_held, once_more}
+use Rattle.fib_entries_rows.proofs.Linking.{member_in}
+use Rattle.fib_entries_rows.proofs.Listing.{pair_of}
+use Rattle.fib_entries_rows.proofs.Naming.{named_held, once_more}
 use Rattle.fib_entries.proofs.Opened.{adopted_stands, comes, drop_apart, open_is, over_in, ranks, with_row}
 use Rattle.fib_entries.proofs.Opening.{aimed_out, aimed_pairs, aimed_prefix, aimed_there, opened_from, ordered_opened, over_marks, over_row, own_opened, with_opened}
-use Rattle.fib_entries.proofs.Placing.{gap_absent, same_order}
+use Rattle.fib_entries_rows.proofs.Placing.{gap_absent, same_order}
 use Rattle.fib_entries.proofs.ReachFields.{fields_reached}
 use Rattle.fib_entries.proofs.ReachedBy.{followed_reached}
 use Rattle.fib_entries.proofs.Relent.{lent, lent_contents, lent_interned, lent_takes}
-use Rattle.fib_entries.proofs.Sharing.{each_true}
-use Rattle.fib_entries.proofs.Standing.{row_there}
-use Rattle.fib_entries.proofs.Telling.{kept_some}
-use Rattle.fib_entries.proofs.Using.{counted_taken, once, recounted}
+use Rattle.fib_entries_rows.proofs.Sharing.{each_true}
+use Rattle.fib_entries_rows.proofs.Standing.{row_there}
+use Rattle.fib_entries_rows.proofs.Telling.{kept_some}
+use Rattle.fib_entries_rows.proofs.Using.{counted_taken, once, recounted}
 use Rattle.fib_entries.proofs.Turnover.{made_none, reached_lent, turned_reaching}
 
 module _ (v w : Known) (T : Tables) (p : Prefix) (source : FibSource) (new : List Path) (g : Gap) (k : Kin) (f : Followed) (n : ℕ) (b : IsBetween v.rows v.lists (map prefix_of v.rows) p source g) (kin : IsKin v.rows p b.cover k) (list : new ≡ paths_at p source T.routes)

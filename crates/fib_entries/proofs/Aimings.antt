@@ -6,14 +6,14 @@ use Rattle.std.proofs.lemmas.List.Folds.{list_any-append}
 use Rattle.fib_addr.specs.Prefixes.{Prefix, same_prefix}
 use Rattle.fib_cover.specs.Covers.{IsAscending}
 use Rattle.fib_resolve.specs.declared.aims.Marked.{Marked}
-use Rattle.fib_changes.proofs.Edits.{in_front, in_rest}
-use Rattle.fib_interned.proofs.Finding.{some_is, none_some}
-use Rattle.fib_entries.specs.Known.{prefix_of}
-use Rattle.fib_entries.specs.Rows.{Row}
+use Rattle.fib_resolve_changes.proofs.Edits.{in_front, in_rest}
+use Rattle.fib_base_interned.proofs.Finding.{some_is, none_some}
+use Rattle.fib_entries_rows.specs.Known.{prefix_of}
+use Rattle.fib_entries_rows.specs.Rows.{Row}
 use Rattle.fib_entries.specs.inner.Adopting.{aimed, aimed_in, aimed_mark}
-use Rattle.fib_entries.proofs.Climbing.{same_not, same_self}
-use Rattle.fib_entries.proofs.Looking.{one_place}
-use Rattle.fib_entries.proofs.PlyOrder.{index_of}
+use Rattle.fib_entries_rows.proofs.Climbing.{same_not, same_self}
+use Rattle.fib_entries_rows.proofs.Looking.{one_place}
+use Rattle.fib_entries_rows.proofs.PlyOrder.{index_of}
 
 module _ (p t : Prefix) where
   one_own : (r : Row) → r.prefix ≡ p → aimed_in (p ∷ []) t r ≡ aimed t r

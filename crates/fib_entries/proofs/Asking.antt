@@ -5,12 +5,12 @@ use Rattle.std.specs.List.{list_any}
 use Rattle.std.proofs.lemmas.Bool.{cases_eq}
 use Rattle.fib_resolve.specs.declared.types.FibSource.TheVariants as sources
 use Rattle.fib_resolve.specs.declared.types.Path.{Path}
-use Rattle.fib_interned.specs.Interned.{AreInterned, kept_of}
-use Rattle.fib_interned.proofs.Finding.{contains_at, get_or_at, none_some, some_is}
-use Rattle.fib_changes.proofs.Edits.{in_front, in_rest}
-use Rattle.fib_entries.specs.Known.{PathKept, content_of}
+use Rattle.fib_base_interned.specs.Interned.{AreInterned, kept_of}
+use Rattle.fib_base_interned.proofs.Finding.{contains_at, get_or_at, none_some, some_is}
+use Rattle.fib_resolve_changes.proofs.Edits.{in_front, in_rest}
+use Rattle.fib_entries_rows.specs.Known.{PathKept, content_of}
 use Rattle.fib_entries.specs.inner.Hop.{NoneAsks, NoneAsksBelow, asks_host, hop_pairs}
-use Rattle.fib_entries.proofs.Taking.{found_by}
+use Rattle.fib_entries_rows.proofs.Taking.{found_by}
 
 -- the list at a place is kept under its number
 pub kept_at : (lists : List PathKept) → AreInterned lists → (place id : ℕ) → Some id ≡ option_map (λ k. k.id) (slice_get lists place) → (k : PathKept) × (slice_get lists place ≡ Some k) × (kept_of lists id ≡ Some k)

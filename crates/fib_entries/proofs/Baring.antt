@@ -7,27 +7,27 @@ use Rattle.std.proofs.lemmas.Bool.{false≢true}
 use Rattle.std.proofs.lemmas.Bool.Decides.{Decides-eqb}
 use Rattle.fib_addr.specs.Prefixes.{Prefix}
 use Rattle.fib_cover.specs.Covers.{IsAscending}
-use Rattle.fib_interned.specs.Interned.{AreInterned, Gives}
+use Rattle.fib_base_interned.specs.Interned.{AreInterned, Gives}
 use Rattle.fib_resolve.specs.Keys.{same_path, same_source, source_rank}
 use Rattle.fib_resolve.specs.declared.pairs.Pair.{Pair}
 use Rattle.fib_resolve.specs.declared.types.FibSource.{FibSource}
 use Rattle.fib_resolve.specs.declared.types.Path.{Path}
-use Rattle.fib_changes.proofs.Edits.{any_in, in_front, in_rest}
-use Rattle.fib_changes.proofs.SamePairs.{map_in}
-use Rattle.fib_interned.proofs.Finding.{contains_at, none_some, some_is}
-use Rattle.fib_entries.specs.Known.{PathKept, content_of, prefix_of, row_of, IsHeld}
-use Rattle.fib_entries.specs.inner.Coming.{with_pairs}
-use Rattle.fib_entries.specs.inner.Ends.{has_exit}
-use Rattle.fib_entries.specs.inner.Fields.{AreFields, AreNamed, Index, IsIndexed, are_several, count_in}
-use Rattle.fib_entries.specs.inner.Under.{HasBest, IsBared, best_in}
-use Rattle.fib_entries.specs.Rows.{Row}
-use Rattle.fib_entries.proofs.Counting.{without, counted_in, kept_in, counts_some}
-use Rattle.fib_entries.proofs.Exits.{IsIn, in_index, indexed_each}
-use Rattle.fib_entries.proofs.Naming.{named_held}
-use Rattle.fib_entries.proofs.PartRows.{listed_row, row_by}
-use Rattle.fib_entries.proofs.Putting.{paired_names, paired_ordered, paired_from}
-use Rattle.fib_entries.proofs.Taking.{list_self}
-use Rattle.fib_entries.proofs.Using.{once, counted_given, given_stays}
+use Rattle.fib_resolve_changes.proofs.Edits.{any_in, in_front, in_rest}
+use Rattle.fib_resolve_changes.proofs.SamePairs.{map_in}
+use Rattle.fib_base_interned.proofs.Finding.{contains_at, none_some, some_is}
+use Rattle.fib_entries_rows.specs.Known.{PathKept, content_of, prefix_of, row_of, IsHeld}
+use Rattle.fib_entries_rows.specs.inner.Coming.{with_pairs}
+use Rattle.fib_entries_rows.specs.inner.Ends.{has_exit}
+use Rattle.fib_entries_rows.specs.inner.Fields.{AreFields, AreNamed, Index, IsIndexed, are_several, count_in}
+use Rattle.fib_entries_rows.specs.inner.Under.{HasBest, IsBared, best_in}
+use Rattle.fib_entries_rows.specs.Rows.{Row}
+use Rattle.fib_entries_rows.proofs.Counting.{without, counted_in, kept_in, counts_some}
+use Rattle.fib_entries_rows.proofs.Exits.{IsIn, in_index, indexed_each}
+use Rattle.fib_entries_rows.proofs.Naming.{named_held}
+use Rattle.fib_entries_rows.proofs.PartRows.{listed_row, row_by}
+use Rattle.fib_entries_rows.proofs.Putting.{paired_names, paired_ordered, paired_from}
+use Rattle.fib_entries_rows.proofs.Taking.{list_self}
+use Rattle.fib_entries_rows.proofs.Using.{once, counted_given, given_stays}
 
 -- the first list is found where it is the only one of its source
 best_in_some : (source : FibSource) (id : ℕ) (rest : List (FibSource × ℕ)) → list_any (λ q. same_source q.0 source) rest ≡ false → best_in source ((source, id) ∷ rest) ≡ Some id

@@ -3,8 +3,8 @@ use Rattle.std.proofs.Common.{arith, ◌≡◌, ◌≢◌, ℕ, ◌<◌, ◌^◌
 use Rattle.std.specs.Prelude.{Contains, filter_map}
 use Rattle.std.specs.List.{list_all}
 use Rattle.std.proofs.lemmas.Bool.{false≢true}
-use Rattle.fib_list.proofs.Lists.{either, Contains-nil, Contains-flat_map}
-use Rattle.fib_list.proofs.Booleans.{and_both}
+use Rattle.fib_base_list.proofs.Lists.{either, Contains-nil, Contains-flat_map}
+use Rattle.fib_base_list.proofs.Booleans.{and_both}
 use Rattle.fib_addr.specs.Prefixes.{Prefix, IsPrefix, same_prefix, host}
 use Rattle.fib_addr.proofs.PrefixLaws.{same_prefix-Decides}
 use Rattle.fib_resolve.specs.Aims.{marked, marked_list}
@@ -19,23 +19,23 @@ use Rattle.fib_resolve.specs.declared.types.PathKind.TheVariants as kinds
 use Rattle.fib_resolve.specs.declared.types.Route.{Route}
 use Rattle.fib_resolve.specs.declared.types.Tables.{Tables}
 use Rattle.fib_resolve.proofs.OneList.{one_list}
-use Rattle.fib_changes.specs.Differ.{Differ}
-use Rattle.fib_changes.specs.Sources.{all_hops}
-use Rattle.fib_changes.specs.declared.change.Change.TheVariants as changes
-use Rattle.fib_changes.proofs.Edits.{in_cases, in_front}
-use Rattle.fib_changes.proofs.SamePairs.{map_from, from_origin, base}
-use Rattle.fib_changes.proofs.Targets.{edge_entry}
-use Rattle.fib_entries.specs.Known.{PathKept, Known, content_of, prefix_of, IsRow, StandsFor, kind_met}
-use Rattle.fib_entries.specs.inner.Clear.{IsApart}
-use Rattle.fib_entries.specs.inner.Coming.{IsBelonging, blank_row, with_pairs}
-use Rattle.fib_entries.specs.inner.Leaf.{IsLeafEdit, IsButFor, goals_of, is_plain, plain_kind, plain_mark, plain_own}
-use Rattle.fib_entries.specs.Rows.{Row}
-use Rattle.fib_entries.proofs.LeafSizes.{each_plain, plain_targets}
-use Rattle.fib_entries.proofs.Leafing.{from_route, entry_of_pair, leaf_after}
-use Rattle.fib_entries.proofs.Listing.{listed_route, source_of_route, own_list, own_there, own_after, chosen_after, unlooped_path, pair_of}
-use Rattle.fib_entries.proofs.Placing.{gap_absent}
-use Rattle.fib_entries.proofs.Ready.{clear_alone, clear_far}
-use Rattle.fib_entries.proofs.Replacing.{met_is, loop_is, mark_is, maps_same}
+use Rattle.fib_resolve_changes.specs.Differ.{Differ}
+use Rattle.fib_resolve_changes.specs.Sources.{all_hops}
+use Rattle.fib_resolve_changes.specs.declared.change.Change.TheVariants as changes
+use Rattle.fib_resolve_changes.proofs.Edits.{in_cases, in_front}
+use Rattle.fib_resolve_changes.proofs.SamePairs.{map_from, from_origin, base}
+use Rattle.fib_resolve_changes.proofs.Targets.{edge_entry}
+use Rattle.fib_entries_rows.specs.Known.{PathKept, Known, content_of, prefix_of, IsRow, StandsFor, kind_met}
+use Rattle.fib_entries_rows.specs.inner.Clear.{IsApart}
+use Rattle.fib_entries_rows.specs.inner.Coming.{IsBelonging, blank_row, with_pairs}
+use Rattle.fib_entries_rows.specs.inner.Leaf.{IsLeafEdit, IsButFor, goals_of, is_plain, plain_kind, plain_mark, plain_own}
+use Rattle.fib_entries_rows.specs.Rows.{Row}
+use Rattle.fib_entries_rows.proofs.LeafSizes.{each_plain, plain_targets}
+use Rattle.fib_entries_rows.proofs.Leafing.{from_route, entry_of_pair, leaf_after}
+use Rattle.fib_entries_rows.proofs.Listing.{listed_route, source_of_route, own_list, own_there, own_after, chosen_after, unlooped_path, pair_of}
+use Rattle.fib_entries_rows.proofs.Placing.{gap_absent}
+use Rattle.fib_entries_rows.proofs.Ready.{clear_alone, clear_far}
+use Rattle.fib_entries_rows.proofs.Replacing.{met_is, loop_is, mark_is, maps_same}
 
 module _ (v : Known) (S T : Tables) (p : Prefix) (source : FibSource) (place : ℕ) (k : StandsFor v S) (m : IsBelonging v.rows T p source place) (after : IsSound T) where
   -- the prefix is no entry

@@ -2,23 +2,23 @@
 use Rattle.std.proofs.Common.{◌≡◌, ◌≢◌, ℕ, Bool, false, List, [], ◌∷◌, map, Some, ◌⊎◌, inl, inr, sym, ◌∙◌, ap, subst, slice_get, ◌↔◌}
 use Rattle.std.specs.Prelude.{Contains, slice_set}
 use Rattle.std.specs.List.{insert}
-use Rattle.fib_list.proofs.Lists.{either, Contains-nil}
+use Rattle.fib_base_list.proofs.Lists.{either, Contains-nil}
 use Rattle.fib_addr.specs.Prefixes.{Prefix, same_prefix}
 use Rattle.fib_addr.proofs.PrefixLaws.{same_prefix-Decides}
 use Rattle.fib_reach.specs.Walks.{AllDiffer}
 use Rattle.fib_cover.specs.Covers.{IsAscending}
 use Rattle.fib_resolve.specs.declared.types.FibSource.{FibSource}
-use Rattle.fib_changes.proofs.Edits.{in_front}
-use Rattle.fib_interned.proofs.Finding.{contains_at}
-use Rattle.fib_entries.specs.Known.{prefix_of, rank_of}
-use Rattle.fib_entries.specs.inner.Coming.{blank_row, with_pairs}
-use Rattle.fib_entries.specs.inner.Leaf.{IsButFor, AreAttached}
-use Rattle.fib_entries.specs.inner.Part.{IsButForPart}
-use Rattle.fib_entries.specs.inner.Plies.{IsGap}
-use Rattle.fib_entries.specs.declared.replace.Own.{Own}
-use Rattle.fib_entries.specs.Rows.{Row}
-use Rattle.fib_entries.proofs.Leafing.{is_not, only_one}
-use Rattle.fib_entries.proofs.Putting.{put_row, put_names, put_ordered, put_with, put_from, put_rank, put_ranks, paired_names, paired_ordered, paired_from, paired_ranks}
+use Rattle.fib_resolve_changes.proofs.Edits.{in_front}
+use Rattle.fib_base_interned.proofs.Finding.{contains_at}
+use Rattle.fib_entries_rows.specs.Known.{prefix_of, rank_of}
+use Rattle.fib_entries_rows.specs.inner.Coming.{blank_row, with_pairs}
+use Rattle.fib_entries_rows.specs.inner.Leaf.{IsButFor, AreAttached}
+use Rattle.fib_entries_rows.specs.inner.Part.{IsButForPart}
+use Rattle.fib_entries_rows.specs.inner.Plies.{IsGap}
+use Rattle.fib_entries_rows.specs.declared.replace.Own.{Own}
+use Rattle.fib_entries_rows.specs.Rows.{Row}
+use Rattle.fib_entries_rows.proofs.Leafing.{is_not, only_one}
+use Rattle.fib_entries_rows.proofs.Putting.{put_row, put_names, put_ordered, put_with, put_from, put_rank, put_ranks, paired_names, paired_ordered, paired_from, paired_ranks}
 
 -- the row of h came, and then that of p
 pub record AreBoth (old new : List Row) (h p cover : Prefix) (goals : List Prefix) (h_own p_own : Own) (h_pairs p_pairs : List (FibSource × ℕ)) : Type 0 where

@@ -11,11 +11,11 @@ use Rattle.fib_resolve.specs.Pairs.{entries, cover, is_short}
 use Rattle.fib_resolve.specs.declared.types.Tables.{Tables}
 use Rattle.fib_resolve.proofs.Covering.{cover_longest, filter_in, filter_from}
 use Rattle.fib_resolve.proofs.PairLaws.{cover_short}
-use Rattle.fib_changes.proofs.SamePairs.{map_from}
-use Rattle.fib_changes.proofs.Targets.{cover_entry}
+use Rattle.fib_resolve_changes.proofs.SamePairs.{map_from}
+use Rattle.fib_resolve_changes.proofs.Targets.{cover_entry}
 use Rattle.std.proofs.lemmas.Map.Views.{Contains-from_any}
 use Rattle.fib_addr.proofs.PrefixLaws.{same_prefix-Decides}
-use Rattle.fib_entries.specs.Known.{Known, StandsFor, prefix_of}
+use Rattle.fib_entries_rows.specs.Known.{Known, StandsFor, prefix_of}
 
 module _ (v : Known) (S : Tables) (h : StandsFor v S) where
   good : (e : Prefix) → Contains (map prefix_of v.rows) e → IsPrefix e

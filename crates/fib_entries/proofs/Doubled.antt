@@ -3,7 +3,7 @@ use Rattle.std.proofs.Common.{arith, ◌≡◌, ◌≢◌, ℕ, ◌+◌, Bool, t
 use Rattle.std.specs.Prelude.{Contains}
 use Rattle.std.specs.List.{list_all, list_any}
 use Rattle.std.proofs.lemmas.Bool.{false≢true}
-use Rattle.fib_list.proofs.Lists.{either, Contains-nil}
+use Rattle.fib_base_list.proofs.Lists.{either, Contains-nil}
 use Rattle.fib_addr.specs.Prefixes.{Prefix, same_prefix}
 use Rattle.fib_addr.proofs.PrefixLaws.{same_prefix-Decides}
 use Rattle.fib_cover.specs.Covers.{IsAscending}
@@ -23,21 +23,21 @@ use Rattle.fib_resolve.specs.declared.types.PathKind.{PathKind}
 use Rattle.fib_resolve.specs.declared.types.PathKind.TheVariants as kinds
 use Rattle.fib_resolve.specs.declared.types.Tables.{Tables}
 use Rattle.fib_resolve.proofs.Touching.{untouched_pairs}
-use Rattle.fib_changes.specs.Sources.{SamePairs}
-use Rattle.fib_changes.proofs.CauseLaws.{any_from, both_halves}
-use Rattle.fib_changes.proofs.Edits.{any_in}
-use Rattle.fib_changes.proofs.SamePairs.{same_chosen}
-use Rattle.fib_entries.specs.Known.{kind_met}
-use Rattle.fib_entries.specs.inner.Leaf.{is_plain}
-use Rattle.fib_entries.specs.inner.Part.{IsQuietEdit}
+use Rattle.fib_resolve_changes.specs.Sources.{SamePairs}
+use Rattle.fib_resolve_changes.proofs.CauseLaws.{any_from, both_halves}
+use Rattle.fib_resolve_changes.proofs.Edits.{any_in}
+use Rattle.fib_resolve_changes.proofs.SamePairs.{same_chosen}
+use Rattle.fib_entries_rows.specs.Known.{kind_met}
+use Rattle.fib_entries_rows.specs.inner.Leaf.{is_plain}
+use Rattle.fib_entries_rows.specs.inner.Part.{IsQuietEdit}
 use Rattle.fib_entries.proofs.Doubling.{IsBelow, over, over_chosen, over_edit, over_looped, over_own, over_pairs, over_sound, over_still}
-use Rattle.fib_entries.proofs.Leafing.{entry_of_pair, is_not, outside}
-use Rattle.fib_entries.proofs.LeafSizes.{adjacencies_same}
+use Rattle.fib_entries_rows.proofs.Leafing.{entry_of_pair, is_not, outside}
+use Rattle.fib_entries_rows.proofs.LeafSizes.{adjacencies_same}
 use Rattle.fib_entries.proofs.LedLaws.{led_covers, led_entry, led_met}
-use Rattle.fib_entries.proofs.Listing.{pair_of}
-use Rattle.fib_entries.proofs.Orders.{order_size, size_of_order}
-use Rattle.fib_entries.proofs.PartRows.{entry_beside, wakes_kept, wakes_same, kept_wakes}
-use Rattle.fib_entries.proofs.Replacing.{maps_same}
+use Rattle.fib_entries_rows.proofs.Listing.{pair_of}
+use Rattle.fib_entries_rows.proofs.Orders.{order_size, size_of_order}
+use Rattle.fib_entries_rows.proofs.PartRows.{entry_beside, wakes_kept, wakes_same, kept_wakes}
+use Rattle.fib_entries_rows.proofs.Replacing.{maps_same}
 
 -- what tables mean to one prefix is the same in two
 pub record AreAlike (U V : Tables) (e : Prefix) : Type 0 where

@@ -6,8 +6,8 @@ use Rattle.std.specs.List.{AllByRecursion, IsDistinct, list_all, list_any}
 use Rattle.std.specs.Cmp.Lexicographic.{pointwise}
 use Rattle.std.proofs.lemmas.Bool.{false≢true}
 use Rattle.std.proofs.lemmas.Bool.Decides.{Decides-eqb}
-use Rattle.fib_list.proofs.Booleans.{and_both}
-use Rattle.fib_list.proofs.Lists.{either, Contains-nil, Contains-flat_map, each-append, each-flat_map, each-weaker}
+use Rattle.fib_base_list.proofs.Booleans.{and_both}
+use Rattle.fib_base_list.proofs.Lists.{either, Contains-nil, Contains-flat_map, each-append, each-flat_map, each-weaker}
 use Rattle.fib_reach.specs.Walks.{Leads, Next}
 use Rattle.fib_reach.proofs.Walking.{leads-map}
 use Rattle.fib_addr.specs.Prefixes.{Prefix, IsPrefix, host, same_prefix}
@@ -35,24 +35,24 @@ use Rattle.fib_resolve.proofs.LoopTests.{looped-Decides}
 use Rattle.fib_resolve.proofs.OneList.{each-itself, groups_have, one_if, one_unless, source_by_rank}
 use Rattle.fib_resolve.proofs.PairLaws.{each-all}
 use Rattle.fib_resolve.specs.Touched.{is_touched}
-use Rattle.fib_changes.specs.Differ.{Differ}
-use Rattle.fib_changes.specs.Sources.{all_hops, SamePairs}
-use Rattle.fib_changes.specs.declared.change.Change.TheVariants as changes
-use Rattle.fib_changes.proofs.Cycles.{path_edge}
-use Rattle.fib_changes.proofs.Edits.{in_cases, in_front, in_rest}
-use Rattle.fib_changes.proofs.SamePairs.{Origin, origin, from_origin, base, neighbor, derived, near_from, near_host, derived_host}
-use Rattle.fib_entries.specs.Known.{holders}
-use Rattle.fib_entries.specs.inner.Leaf.{goals_of, is_plain}
-use Rattle.fib_entries.specs.inner.Led.{IsLedEdit}
-use Rattle.fib_entries.specs.inner.Part.{in_part}
-use Rattle.fib_entries.proofs.Counting.{counts_have, holders_step}
-use Rattle.fib_entries.proofs.Leafing.{came_beside, each_has, from_route, hop_route, is_it, outside}
-use Rattle.fib_entries.proofs.LeafSizes.{plain_targets}
+use Rattle.fib_resolve_changes.specs.Differ.{Differ}
+use Rattle.fib_resolve_changes.specs.Sources.{all_hops, SamePairs}
+use Rattle.fib_resolve_changes.specs.declared.change.Change.TheVariants as changes
+use Rattle.fib_resolve_changes.proofs.Cycles.{path_edge}
+use Rattle.fib_resolve_changes.proofs.Edits.{in_cases, in_front, in_rest}
+use Rattle.fib_resolve_changes.proofs.SamePairs.{Origin, origin, from_origin, base, neighbor, derived, near_from, near_host, derived_host}
+use Rattle.fib_entries_rows.specs.Known.{holders}
+use Rattle.fib_entries_rows.specs.inner.Leaf.{goals_of, is_plain}
+use Rattle.fib_entries_rows.specs.inner.Led.{IsLedEdit}
+use Rattle.fib_entries_rows.specs.inner.Part.{in_part}
+use Rattle.fib_entries_rows.proofs.Counting.{counts_have, holders_step}
+use Rattle.fib_entries_rows.proofs.Leafing.{came_beside, each_has, from_route, hop_route, is_it, outside}
+use Rattle.fib_entries_rows.proofs.LeafSizes.{plain_targets}
 use Rattle.fib_entries.proofs.LedLaws.{IsOwnBest, led_pairs, led_still, led_targets, own_base, own_chosen}
 use Rattle.fib_entries.proofs.LedPairs.{is_own, led_others, own_counted, own_is, own_there, passes_own}
-use Rattle.fib_entries.proofs.Listing.{pair_of, source_of_route}
-use Rattle.fib_entries.proofs.Sharing.{hop_from}
-use Rattle.fib_entries.proofs.Using.{once}
+use Rattle.fib_entries_rows.proofs.Listing.{pair_of, source_of_route}
+use Rattle.fib_entries_rows.proofs.Sharing.{hop_from}
+use Rattle.fib_entries_rows.proofs.Using.{once}
 use Rattle.fib_resolve.proofs.Covering.{filter_from}
 
 -- the tables with that route too

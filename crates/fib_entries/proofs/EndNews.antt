@@ -4,8 +4,8 @@ use Rattle.std.specs.Prelude.{Contains, IsSome, find, option_map, flat_map, nat_
 use Rattle.std.specs.List.{AllByRecursion}
 use Rattle.std.proofs.lemmas.Bool.{false≢true}
 use Rattle.std.proofs.lemmas.Bool.Decides.{Decides-eqb}
-use Rattle.fib_list.proofs.Lists.{either, Contains-nil, each-append, each-flat_map}
-use Rattle.fib_list.proofs.Booleans.{and_both}
+use Rattle.fib_base_list.proofs.Lists.{either, Contains-nil, each-append, each-flat_map}
+use Rattle.fib_base_list.proofs.Booleans.{and_both}
 use Rattle.fib_addr.specs.Prefixes.{Prefix, IsPrefix, host}
 use Rattle.fib_addr.proofs.PrefixLaws.{same_prefix-Decides}
 use Rattle.fib_resolve.specs.Aims.{kind_aim, kind_counts, marked}
@@ -33,22 +33,22 @@ use Rattle.fib_resolve.specs.declared.types.Route.{Route}
 use Rattle.fib_resolve.specs.declared.types.Tables.{Tables}
 use Rattle.fib_resolve.proofs.OneList.{one_if, one_unless}
 use Rattle.fib_resolve.proofs.PairLaws.{each-all}
-use Rattle.fib_changes.specs.Differ.{Differ}
-use Rattle.fib_changes.specs.Sources.{HasNeighbor}
-use Rattle.fib_changes.specs.declared.change.Change.{Change}
-use Rattle.fib_changes.specs.declared.change.Change.TheVariants as changes
-use Rattle.fib_changes.proofs.SamePairs.{map_from, Origin, origin, base, neighbor, derived}
-use Rattle.fib_interned.proofs.Finding.{contains_at, find_place, some_is}
-use Rattle.fib_entries.specs.Known.{Known, prefix_of, StandsFor}
-use Rattle.fib_entries.specs.declared.ends.News.{News}
-use Rattle.fib_entries.specs.declared.ends.News.TheVariants as news
-use Rattle.fib_entries.specs.declared.changes.Followed.{Followed}
-use Rattle.fib_entries.specs.inner.Ends.{IsEndEdit, IsNews, HasNear, end_over, has_flag, renewed, is_old, is_old_row}
-use Rattle.fib_entries.specs.inner.Leaf.{IsFollowed}
-use Rattle.fib_entries.proofs.Comparing.{differ_not}
-use Rattle.fib_entries.proofs.Ending.{cover_same, looped_same, met_same}
-use Rattle.fib_entries.proofs.Leafing.{base_cases, each_has, front, near_half, only_one}
-use Rattle.fib_entries.proofs.Renewing.{followed_renewed, renewed_in}
+use Rattle.fib_resolve_changes.specs.Differ.{Differ}
+use Rattle.fib_resolve_changes.specs.Sources.{HasNeighbor}
+use Rattle.fib_resolve_changes.specs.declared.change.Change.{Change}
+use Rattle.fib_resolve_changes.specs.declared.change.Change.TheVariants as changes
+use Rattle.fib_resolve_changes.proofs.SamePairs.{map_from, Origin, origin, base, neighbor, derived}
+use Rattle.fib_base_interned.proofs.Finding.{contains_at, find_place, some_is}
+use Rattle.fib_entries_rows.specs.Known.{Known, prefix_of, StandsFor}
+use Rattle.fib_entries_rows.specs.declared.ends.News.{News}
+use Rattle.fib_entries_rows.specs.declared.ends.News.TheVariants as news
+use Rattle.fib_entries_rows.specs.declared.changes.Followed.{Followed}
+use Rattle.fib_entries_rows.specs.inner.Ends.{IsEndEdit, IsNews, HasNear, end_over, has_flag, renewed, is_old, is_old_row}
+use Rattle.fib_entries_rows.specs.inner.Leaf.{IsFollowed}
+use Rattle.fib_entries_rows.proofs.Comparing.{differ_not}
+use Rattle.fib_entries_rows.proofs.Ending.{cover_same, looped_same, met_same}
+use Rattle.fib_entries_rows.proofs.Leafing.{base_cases, each_has, front, near_half, only_one}
+use Rattle.fib_entries_rows.proofs.Renewing.{followed_renewed, renewed_in}
 
 flag_address : (i : ℕ) (a : Address) → changes.Flag i ≡ changes.Address a → ⊥
 flag_address i a e = (cc)

@@ -3,7 +3,7 @@ use Rattle.std.proofs.Common.{arith, ◌≡◌, ◌≢◌, ℕ, ◌+◌, ◌-◌
 use Rattle.std.specs.Prelude.{Contains, min, option_map}
 use Rattle.std.proofs.lemmas.Bool.{false≢true, cases_lt}
 use Rattle.std.proofs.lemmas.Bool.Decides.{Decides-eqb}
-use Rattle.fib_list.proofs.Lists.{either, Contains-nil}
+use Rattle.fib_base_list.proofs.Lists.{either, Contains-nil}
 use Rattle.fib_addr.specs.Prefixes.{Prefix, IsPrefix, same_prefix, host}
 use Rattle.fib_addr.proofs.PrefixLaws.{same_prefix-Decides}
 use Rattle.fib_cover.specs.Covers.{IsAscending}
@@ -21,44 +21,44 @@ use Rattle.fib_resolve.specs.declared.types.FibSource.TheVariants as sources
 use Rattle.fib_resolve.specs.declared.types.Path.{Path}
 use Rattle.fib_resolve.specs.declared.types.Tables.{Tables}
 use Rattle.fib_resolve.proofs.Covering.{attached_by_chosen}
-use Rattle.fib_changes.specs.Differ.{Differ}
-use Rattle.fib_changes.specs.Sources.{all_hops}
-use Rattle.fib_changes.specs.declared.change.Change.TheVariants as changes
-use Rattle.fib_changes.proofs.Edits.{in_cases, in_front, in_rest}
-use Rattle.fib_changes.proofs.SamePairs.{map_from, map_in, from_origin, derived, derived_host}
-use Rattle.fib_interned.specs.Interned.{AreInterned}
-use Rattle.fib_interned.proofs.Finding.{contains_at}
-use Rattle.fib_entries.specs.Known.{Known, content_of, prefix_of, rank_of, rank_in, ArePairs, IsRow, StandsFor, holders, kind_met}
-use Rattle.fib_entries.specs.Changes.{AreTouched, AreMoved}
-use Rattle.fib_entries.specs.inner.Clear.{IsApart}
-use Rattle.fib_entries.specs.inner.Coming.{blank_row, with_pairs}
-use Rattle.fib_entries.specs.inner.Fields.{AreCounted}
-use Rattle.fib_entries.specs.inner.Gateway.{IsGaining, HasGained}
-use Rattle.fib_entries.specs.inner.Leaf.{IsLeafEdit, IsFollowed, IsButFor, goals_of, plain_own, moved_at}
-use Rattle.fib_entries.specs.inner.Part.{in_part, IsButForPart, IsPartEdit, IsPartMade}
-use Rattle.fib_entries.specs.inner.Plies.{own_size, entry_at, entry_before}
-use Rattle.fib_entries.specs.declared.changes.Followed.{Followed}
-use Rattle.fib_entries.specs.declared.gateway.Gateway.{Gateway}
-use Rattle.fib_entries.specs.Rows.{Row}
-use Rattle.fib_entries.proofs.Arriving.{mid_own, with_it, row_from, ordered_came}
+use Rattle.fib_resolve_changes.specs.Differ.{Differ}
+use Rattle.fib_resolve_changes.specs.Sources.{all_hops}
+use Rattle.fib_resolve_changes.specs.declared.change.Change.TheVariants as changes
+use Rattle.fib_resolve_changes.proofs.Edits.{in_cases, in_front, in_rest}
+use Rattle.fib_resolve_changes.proofs.SamePairs.{map_from, map_in, from_origin, derived, derived_host}
+use Rattle.fib_base_interned.specs.Interned.{AreInterned}
+use Rattle.fib_base_interned.proofs.Finding.{contains_at}
+use Rattle.fib_entries_rows.specs.Known.{Known, content_of, prefix_of, rank_of, rank_in, ArePairs, IsRow, StandsFor, holders, kind_met}
+use Rattle.fib_entries_rows.specs.Changes.{AreTouched, AreMoved}
+use Rattle.fib_entries_rows.specs.inner.Clear.{IsApart}
+use Rattle.fib_entries_rows.specs.inner.Coming.{blank_row, with_pairs}
+use Rattle.fib_entries_rows.specs.inner.Fields.{AreCounted}
+use Rattle.fib_entries_rows.specs.inner.Gateway.{IsGaining, HasGained}
+use Rattle.fib_entries_rows.specs.inner.Leaf.{IsLeafEdit, IsFollowed, IsButFor, goals_of, plain_own, moved_at}
+use Rattle.fib_entries_rows.specs.inner.Part.{in_part, IsButForPart, IsPartEdit, IsPartMade}
+use Rattle.fib_entries_rows.specs.inner.Plies.{own_size, entry_at, entry_before}
+use Rattle.fib_entries_rows.specs.declared.changes.Followed.{Followed}
+use Rattle.fib_entries_rows.specs.declared.gateway.Gateway.{Gateway}
+use Rattle.fib_entries_rows.specs.Rows.{Row}
+use Rattle.fib_entries_rows.proofs.Arriving.{mid_own, with_it, row_from, ordered_came}
 use Rattle.fib_entries.proofs.Belonging.{no_entry, none_was, belonging_edit, came_is_row}
 use Rattle.fib_entries.proofs.Covering.{cover_found}
 use Rattle.fib_entries.proofs.GatePairs.{better_pairs, gained_list}
-use Rattle.fib_entries.proofs.Ready.{rows_apart}
-use Rattle.fib_entries.proofs.Gateways.{IsGained, derived_source, derived_paths, gained_pairs, gained_there, gained_new, gained_chosen, gateway_holders, gateway_kept, gateway_looped, gateway_marked, gateway_met, gateway_targets, gateway_touched, pair_counted, pair_uncounted}
+use Rattle.fib_entries_rows.proofs.Ready.{rows_apart}
+use Rattle.fib_entries_rows.proofs.Gateways.{IsGained, derived_source, derived_paths, gained_pairs, gained_there, gained_new, gained_chosen, gateway_holders, gateway_kept, gateway_looped, gateway_marked, gateway_met, gateway_targets, gateway_touched, pair_counted, pair_uncounted}
 use Rattle.fib_entries.proofs.Growing.{IsGrown, size_more}
-use Rattle.fib_entries.proofs.HopEnds.{ends_others_but, glean_short}
-use Rattle.fib_entries.proofs.LeafRows.{entry_own}
-use Rattle.fib_entries.proofs.Leafing.{base_beside, chosen_same, entry_of_pair, is_not, late_attached, late_hop, late_led, late_led_before, leaf_after, near_beside, not_it, only_one, pair_at, part_cases, part_edit, part_host, part_not}
-use Rattle.fib_entries.proofs.LeafSizes.{ends_by, plain_targets}
-use Rattle.fib_entries.proofs.Listing.{chosen_before, chosen_after, counted_none, counted_own, own_after, own_before, own_touched}
-use Rattle.fib_entries.proofs.PartRows.{no_row, entry_beside, stands_part, touched_inside, moved_inside}
-use Rattle.fib_entries.proofs.Placing.{gap_absent, size_came}
-use Rattle.fib_entries.proofs.Putting.{paired_from, paired_names, paired_ordered, paired_ranks, put_rank, put_ranks, put_ordered}
-use Rattle.fib_entries.proofs.Settling.{counted_by}
-use Rattle.fib_entries.proofs.Sharing.{led_but}
-use Rattle.fib_entries.proofs.Standing.{first_chosen}
-use Rattle.fib_entries.proofs.Using.{once, recounted, counted_taken, taken_stays, content_taken}
+use Rattle.fib_entries_rows.proofs.HopEnds.{ends_others_but, glean_short}
+use Rattle.fib_entries_rows.proofs.LeafRows.{entry_own}
+use Rattle.fib_entries_rows.proofs.Leafing.{base_beside, chosen_same, entry_of_pair, is_not, late_attached, late_hop, late_led, late_led_before, leaf_after, near_beside, not_it, only_one, pair_at, part_cases, part_edit, part_host, part_not}
+use Rattle.fib_entries_rows.proofs.LeafSizes.{ends_by, plain_targets}
+use Rattle.fib_entries_rows.proofs.Listing.{chosen_before, chosen_after, counted_none, counted_own, own_after, own_before, own_touched}
+use Rattle.fib_entries_rows.proofs.PartRows.{no_row, entry_beside, stands_part, touched_inside, moved_inside}
+use Rattle.fib_entries_rows.proofs.Placing.{gap_absent, size_came}
+use Rattle.fib_entries_rows.proofs.Putting.{paired_from, paired_names, paired_ordered, paired_ranks, put_rank, put_ranks, put_ordered}
+use Rattle.fib_entries_rows.proofs.Settling.{counted_by}
+use Rattle.fib_entries_rows.proofs.Sharing.{led_but}
+use Rattle.fib_entries_rows.proofs.Standing.{first_chosen}
+use Rattle.fib_entries_rows.proofs.Using.{once, recounted, counted_taken, taken_stays, content_taken}
 use Rattle.fib_entries.proofs.WithHost.{head_is, list_hop}
 
 module _ (v : Known) (S T : Tables) (p : Prefix) (source : FibSource) (place : ℕ) (g : Gateway) (k : StandsFor v S) (m : IsGaining v.rows v.lists (map prefix_of v.rows) T p source place g) (differ : Differ (changes.Route p source ∷ []) S T) (after : IsSound T) where

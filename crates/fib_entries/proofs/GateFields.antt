@@ -8,26 +8,26 @@ use Rattle.fib_resolve.specs.declared.types.FibSource.{FibSource}
 use Rattle.fib_resolve.specs.declared.types.FibSource.TheVariants as sources
 use Rattle.fib_resolve.specs.declared.types.Path.{Path}
 use Rattle.fib_resolve.specs.declared.types.Tables.{Tables}
-use Rattle.fib_changes.proofs.Edits.{in_front, in_rest}
-use Rattle.fib_changes.proofs.SamePairs.{map_in}
-use Rattle.fib_interned.proofs.Finding.{contains_at}
-use Rattle.fib_entries.specs.Known.{PathKept, content_of, prefix_of}
-use Rattle.fib_entries.specs.inner.Ends.{has_exit}
-use Rattle.fib_entries.specs.inner.Fields.{AreFields, AreNamed, Index, IsForgotten, IsIndexed, IsNoted, count_in}
-use Rattle.fib_entries.specs.inner.Gateway.{HasGained, IsJoined, IsSeveral}
-use Rattle.fib_entries.specs.inner.Leaf.{plain_own}
-use Rattle.fib_entries.specs.inner.Plies.{IsGap}
-use Rattle.fib_entries.specs.declared.changes.Followed.{Followed}
-use Rattle.fib_entries.specs.declared.gateway.Gateway.{Gateway}
-use Rattle.fib_entries.specs.Rows.{Row}
-use Rattle.fib_entries.proofs.Arriving.{fields_came, indexed_came, set_back}
-use Rattle.fib_entries.proofs.Exits.{IsIn, fields_with, in_index, indexed_each, indexed_less, indexed_more}
-use Rattle.fib_entries.proofs.Leafing.{only_one}
-use Rattle.fib_entries.proofs.Listing.{pair_of}
-use Rattle.fib_entries.proofs.Naming.{named_held, once_more}
-use Rattle.fib_entries.proofs.Placing.{gap_absent}
-use Rattle.fib_entries.proofs.Putting.{paired_names, paired_ordered, paired_from}
-use Rattle.fib_entries.proofs.Using.{once, recounted, counted_taken, taken_stays}
+use Rattle.fib_resolve_changes.proofs.Edits.{in_front, in_rest}
+use Rattle.fib_resolve_changes.proofs.SamePairs.{map_in}
+use Rattle.fib_base_interned.proofs.Finding.{contains_at}
+use Rattle.fib_entries_rows.specs.Known.{PathKept, content_of, prefix_of}
+use Rattle.fib_entries_rows.specs.inner.Ends.{has_exit}
+use Rattle.fib_entries_rows.specs.inner.Fields.{AreFields, AreNamed, Index, IsForgotten, IsIndexed, IsNoted, count_in, IsSeveral}
+use Rattle.fib_entries_rows.specs.inner.Gateway.{HasGained, IsJoined}
+use Rattle.fib_entries_rows.specs.inner.Leaf.{plain_own}
+use Rattle.fib_entries_rows.specs.inner.Plies.{IsGap}
+use Rattle.fib_entries_rows.specs.declared.changes.Followed.{Followed}
+use Rattle.fib_entries_rows.specs.declared.gateway.Gateway.{Gateway}
+use Rattle.fib_entries_rows.specs.Rows.{Row}
+use Rattle.fib_entries_rows.proofs.Arriving.{fields_came, indexed_came, set_back}
+use Rattle.fib_entries_rows.proofs.Exits.{IsIn, fields_with, in_index, indexed_each, indexed_less, indexed_more}
+use Rattle.fib_entries_rows.proofs.Leafing.{only_one}
+use Rattle.fib_entries_rows.proofs.Listing.{pair_of}
+use Rattle.fib_entries_rows.proofs.Naming.{named_held, once_more}
+use Rattle.fib_entries_rows.proofs.Placing.{gap_absent}
+use Rattle.fib_entries_rows.proofs.Putting.{paired_names, paired_ordered, paired_from}
+use Rattle.fib_entries_rows.proofs.Using.{once, recounted, counted_taken, taken_stays}
 
 -- the host's row got its pair
 module _ (old new : List Row) (lists later : List PathKept) (g : Gateway) (list : List Path) (t : IsJoined old new lists later g list) (asc : IsAscending (map prefix_of old)) where

@@ -5,7 +5,7 @@ use Rattle.std.specs.Cmp.Lexicographic.{pointwise}
 use Rattle.std.specs.List.{list_all}
 use Rattle.std.proofs.lemmas.Bool.{ltb-true}
 use Rattle.std.proofs.lemmas.List.Elements.{Contains-append_left, Contains-append_right, Contains-append_cases}
-use Rattle.fib_list.proofs.Lists.{each-append}
+use Rattle.fib_base_list.proofs.Lists.{each-append}
 use Rattle.fib_addr.specs.Prefixes.{Prefix, host}
 use Rattle.fib_resolve.specs.Keys.{same_path, source_rank}
 use Rattle.fib_resolve.specs.Pairs.{pairs, derived_pair}
@@ -15,15 +15,15 @@ use Rattle.fib_resolve.specs.declared.types.FibSource.{FibSource}
 use Rattle.fib_resolve.specs.declared.types.FibSource.TheVariants as sources
 use Rattle.fib_resolve.specs.declared.types.Path.{Path}
 use Rattle.fib_resolve.specs.declared.types.Tables.{Tables}
-use Rattle.fib_changes.proofs.Edits.{in_front, in_rest}
-use Rattle.fib_changes.proofs.SamePairs.{derived_host}
-use Rattle.fib_entries.specs.Known.{PathKept, content_of, AreBestFirst, ArePairs, holders}
-use Rattle.fib_entries.specs.inner.Gateway.{is_better}
-use Rattle.fib_entries.proofs.Counting.{counts_some}
-use Rattle.fib_entries.proofs.Gateways.{IsGained, derived_source, gained_there}
-use Rattle.fib_entries.proofs.Leafing.{only_one}
-use Rattle.fib_entries.proofs.Sharing.{each_true}
-use Rattle.fib_entries.proofs.Taking.{list_self}
+use Rattle.fib_resolve_changes.proofs.Edits.{in_front, in_rest}
+use Rattle.fib_resolve_changes.proofs.SamePairs.{derived_host}
+use Rattle.fib_entries_rows.specs.Known.{PathKept, content_of, AreBestFirst, ArePairs, holders}
+use Rattle.fib_entries_rows.specs.inner.Gateway.{is_better}
+use Rattle.fib_entries_rows.proofs.Counting.{counts_some}
+use Rattle.fib_entries_rows.proofs.Gateways.{IsGained, derived_source, gained_there}
+use Rattle.fib_entries_rows.proofs.Leafing.{only_one}
+use Rattle.fib_entries_rows.proofs.Sharing.{each_true}
+use Rattle.fib_entries_rows.proofs.Taking.{list_self}
 
 -- what the sources of a row are, those of the tables' pairs are
 pub better_pairs : (lists : List PathKept) (S : Tables) (e : Prefix) (held : List (FibSource × ℕ)) → ArePairs lists S e held → list_all is_better held ≡ true → (x : Pair) → Contains (pairs S) x → e ≡ x.prefix → source_rank x.source < 5

@@ -4,7 +4,7 @@ use Rattle.std.specs.Prelude.{Contains}
 use Rattle.std.specs.List.{insert}
 use Rattle.std.specs.Set.{is_member}
 use Rattle.std.proofs.lemmas.Map.Views.{Contains-from_any}
-use Rattle.fib_list.proofs.Lists.{either, Contains-nil}
+use Rattle.fib_base_list.proofs.Lists.{either, Contains-nil}
 use Rattle.fib_addr.specs.Prefixes.{Prefix, IsPrefix, same_prefix}
 use Rattle.fib_addr.proofs.PrefixLaws.{same_prefix-Decides}
 use Rattle.fib_cover.specs.Covers.{IsAscending, ArePrefixes}
@@ -13,11 +13,11 @@ use Rattle.fib_resolve.specs.Sizes.{size, adjacencies, adjacencies_of}
 use Rattle.fib_resolve.specs.declared.pairs.Adjacency.{Adjacency}
 use Rattle.fib_resolve.specs.declared.types.Tables.{Tables}
 use Rattle.fib_resolve.proofs.Entries.{chosen-no_entry}
-use Rattle.fib_entries.specs.inner.Plies.{own_size, before_of, IsGap}
-use Rattle.fib_entries.proofs.Leafing.{is_not}
-use Rattle.fib_entries.proofs.LeafSizes.{HasEnd, ends_by, ends_same}
-use Rattle.fib_entries.proofs.Orders.{inserted_members, size_of_order, order_grown}
-use Rattle.fib_entries.proofs.Placing.{inserted_ascending}
+use Rattle.fib_entries_rows.specs.inner.Plies.{own_size, before_of, IsGap}
+use Rattle.fib_entries_rows.proofs.Leafing.{is_not}
+use Rattle.fib_entries_rows.proofs.LeafSizes.{HasEnd, ends_by, ends_same}
+use Rattle.fib_entries_rows.proofs.Orders.{inserted_members, size_of_order, order_grown}
+use Rattle.fib_entries_rows.proofs.Placing.{inserted_ascending}
 
 -- the second tables have one entry more, whose Hop ends are those of others too
 pub record IsGrown (S T : Tables) (p : Prefix) : Type 0 where

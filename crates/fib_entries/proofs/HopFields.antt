@@ -4,36 +4,35 @@ use Rattle.std.specs.Prelude.{Contains, slice_set}
 use Rattle.std.proofs.lemmas.Bool.{false≢true}
 use Rattle.fib_addr.specs.Prefixes.{Prefix, host}
 use Rattle.fib_cover.specs.Covers.{IsAscending}
-use Rattle.fib_interned.specs.Interned.{AreInterned, Takes, Gives, kept_of}
+use Rattle.fib_base_interned.specs.Interned.{AreInterned, Takes, Gives, kept_of}
 use Rattle.fib_resolve.specs.Keys.{same_path, source_rank}
 use Rattle.fib_resolve.specs.declared.pairs.Pair.{Pair}
 use Rattle.fib_resolve.specs.declared.types.FibSource.{FibSource}
 use Rattle.fib_resolve.specs.declared.types.FibSource.TheVariants as sources
 use Rattle.fib_resolve.specs.declared.types.Path.{Path}
 use Rattle.std.specs.Cmp.Lexicographic.{pointwise}
-use Rattle.fib_changes.proofs.Edits.{in_cases, in_front, in_rest}
-use Rattle.fib_interned.proofs.Finding.{contains_at, some_is}
-use Rattle.fib_entries.specs.Known.{PathKept, IsHeld, content_of, prefix_of}
-use Rattle.fib_entries.specs.Rows.{Row}
-use Rattle.fib_entries.specs.declared.ends.News.{News}
-use Rattle.fib_entries.specs.inner.Coming.{with_pairs}
-use Rattle.fib_entries.specs.inner.Ends.{has_exit, renewed_row}
-use Rattle.fib_entries.specs.inner.Fields.{AreFields, AreNamed, Index, IsIndexed, count_in}
-use Rattle.fib_entries.specs.inner.Gateway.{IsSeveral}
+use Rattle.fib_resolve_changes.proofs.Edits.{in_cases, in_front, in_rest}
+use Rattle.fib_base_interned.proofs.Finding.{contains_at, some_is}
+use Rattle.fib_entries_rows.specs.Known.{PathKept, IsHeld, content_of, prefix_of}
+use Rattle.fib_entries_rows.specs.Rows.{Row}
+use Rattle.fib_entries_rows.specs.declared.ends.News.{News}
+use Rattle.fib_entries_rows.specs.inner.Coming.{with_pairs}
+use Rattle.fib_entries_rows.specs.inner.Ends.{has_exit, renewed_row}
+use Rattle.fib_entries_rows.specs.inner.Fields.{AreFields, AreNamed, Index, IsIndexed, count_in, IsSeveral}
 use Rattle.fib_entries.specs.inner.Hop.{IsHopRow, hop_pairs}
 use Rattle.fib_entries.specs.inner.Near.{near_list}
-use Rattle.fib_entries.proofs.Counting.{counted_in, counts_some, kept_in, without}
-use Rattle.fib_entries.proofs.Exits.{IsIn, fields_with, in_index, indexed_each}
+use Rattle.fib_entries_rows.proofs.Counting.{counted_in, counts_some, kept_in, without}
+use Rattle.fib_entries_rows.proofs.Exits.{IsIn, fields_with, in_index, indexed_each}
 use Rattle.fib_entries.proofs.GateFields.{several_more}
-use Rattle.fib_entries.proofs.Leafing.{only_one}
+use Rattle.fib_entries_rows.proofs.Leafing.{only_one}
 use Rattle.fib_entries.proofs.LedPairs.{hop_pair}
-use Rattle.fib_entries.proofs.Naming.{named_held, once_more}
-use Rattle.fib_entries.proofs.Placing.{get_map}
-use Rattle.fib_entries.proofs.Putting.{paired_names, paired_ordered, paired_from}
-use Rattle.fib_entries.proofs.Renewing.{fields_renewed}
-use Rattle.fib_entries.proofs.Taking.{list_self}
-use Rattle.fib_entries.proofs.Telling.{kept_some}
-use Rattle.fib_entries.proofs.Using.{once, recounted, content_taken, counted_given, counted_taken, given_stays, taken_stays}
+use Rattle.fib_entries_rows.proofs.Naming.{named_held, once_more}
+use Rattle.fib_entries_rows.proofs.Placing.{get_map}
+use Rattle.fib_entries_rows.proofs.Putting.{paired_names, paired_ordered, paired_from}
+use Rattle.fib_entries_rows.proofs.Renewing.{fields_renewed}
+use Rattle.fib_entries_rows.proofs.Taking.{list_self}
+use Rattle.fib_entries_rows.proofs.Telling.{kept_some}
+use Rattle.fib_entries_rows.proofs.Using.{once, recounted, content_taken, counted_given, counted_taken, given_stays, taken_stays}
 
 -- the host's row is where it was after the news
 abbrev pub hop_row_renewed : (rows : List Row) (lists : List PathKept) (i a : ℕ) (known : Bool) (place id : ℕ) (n : News) → IsHopRow rows lists i a known place id → IsHopRow (map (renewed_row n) rows) lists i a known place id

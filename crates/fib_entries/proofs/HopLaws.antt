@@ -3,7 +3,7 @@ use Rattle.std.proofs.Common.{arith, ◌≡◌, ◌≢◌, ℕ, ◌<◌, Bool, t
 use Rattle.std.specs.Prelude.{Contains}
 use Rattle.std.specs.List.{list_any}
 use Rattle.std.proofs.lemmas.Bool.Decides.{Decides-eqb}
-use Rattle.fib_list.proofs.Lists.{either, Contains-nil}
+use Rattle.fib_base_list.proofs.Lists.{either, Contains-nil}
 use Rattle.fib_addr.specs.Prefixes.{Prefix, IsPrefix, host, same_prefix}
 use Rattle.fib_addr.proofs.PrefixLaws.{same_prefix-Decides}
 use Rattle.fib_resolve.specs.Aims.{marked, marked_list}
@@ -19,24 +19,24 @@ use Rattle.fib_resolve.specs.declared.types.PathKind.{PathKind}
 use Rattle.fib_resolve.specs.declared.types.PathKind.TheVariants as kinds
 use Rattle.fib_resolve.specs.declared.types.Tables.{Tables}
 use Rattle.fib_resolve.proofs.KeptEdges.{kept_target}
-use Rattle.fib_changes.specs.Causes.{IsCaught, IsThrough}
-use Rattle.fib_changes.specs.Differ.{Differ}
-use Rattle.fib_changes.specs.Ranks.{Falls}
-use Rattle.fib_changes.specs.Sources.{HasNeighbor, SameEntry}
-use Rattle.fib_changes.specs.declared.change.Change.TheVariants as changes
-use Rattle.fib_changes.proofs.CauseLaws.{both_halves, marks_through_all}
-use Rattle.fib_changes.proofs.SamePairs.{same_pairs_from, same_chosen, same_met, same_targets}
-use Rattle.fib_entries.specs.Known.{PathKept, content_of, ArePairs, IsRow, holders, kind_met}
-use Rattle.fib_entries.specs.Rows.{Row}
-use Rattle.fib_entries.specs.declared.ends.News.TheVariants as news
-use Rattle.fib_entries.specs.inner.Ends.{renewed, is_old, is_old_row, renewed_row}
-use Rattle.fib_entries.specs.inner.Coming.{with_pairs}
-use Rattle.fib_entries.proofs.Comparing.{map_same, same_bits}
-use Rattle.fib_entries.proofs.Ending.{IsSameBase, caught_base, cover_alike, attached_alike, hops_alike}
+use Rattle.fib_resolve_changes.specs.Causes.{IsCaught, IsThrough}
+use Rattle.fib_resolve_changes.specs.Differ.{Differ}
+use Rattle.fib_resolve_changes.specs.Ranks.{Falls}
+use Rattle.fib_resolve_changes.specs.Sources.{HasNeighbor, SameEntry}
+use Rattle.fib_resolve_changes.specs.declared.change.Change.TheVariants as changes
+use Rattle.fib_resolve_changes.proofs.CauseLaws.{both_halves, marks_through_all}
+use Rattle.fib_resolve_changes.proofs.SamePairs.{same_pairs_from, same_chosen, same_met, same_targets}
+use Rattle.fib_entries_rows.specs.Known.{PathKept, content_of, ArePairs, IsRow, holders, kind_met}
+use Rattle.fib_entries_rows.specs.Rows.{Row}
+use Rattle.fib_entries_rows.specs.declared.ends.News.TheVariants as news
+use Rattle.fib_entries_rows.specs.inner.Ends.{renewed, is_old, is_old_row, renewed_row}
+use Rattle.fib_entries_rows.specs.inner.Coming.{with_pairs}
+use Rattle.fib_entries_rows.proofs.Comparing.{map_same, same_bits}
+use Rattle.fib_entries_rows.proofs.Ending.{IsSameBase, caught_base, cover_alike, attached_alike, hops_alike}
 use Rattle.fib_entries.proofs.EndNews.{mac_addresses, mac_routes, other_neighbors, mac_mark, mac_old}
-use Rattle.fib_entries.proofs.Leafing.{entry_of_pair, host_is, is_not, pair_at}
-use Rattle.fib_entries.proofs.PartRows.{pairs_kept}
-use Rattle.fib_entries.proofs.Renewing.{any_map, any_same, map_twice}
+use Rattle.fib_entries_rows.proofs.Leafing.{entry_of_pair, host_is, is_not, pair_at}
+use Rattle.fib_entries_rows.proofs.PartRows.{pairs_kept}
+use Rattle.fib_entries_rows.proofs.Renewing.{any_map, any_same, map_twice}
 
 -- the neighbor alone can differ, and nothing goes on from its host
 pub record IsHopEdit (S T : Tables) (i a : ℕ) : Type 0 where

@@ -4,7 +4,7 @@ use Rattle.std.specs.Prelude.{Contains, IsSome, is_some, flat_map}
 use Rattle.std.specs.Cmp.Lexicographic.{pointwise}
 use Rattle.std.proofs.lemmas.Bool.{false≢true}
 use Rattle.std.proofs.lemmas.Bool.Decides.{Decides-eqb}
-use Rattle.fib_list.proofs.Lists.{either, Contains-nil}
+use Rattle.fib_base_list.proofs.Lists.{either, Contains-nil}
 use Rattle.fib_addr.specs.Prefixes.{host, same_prefix, Prefix}
 use Rattle.fib_addr.proofs.PrefixLaws.{same_prefix-Decides}
 use Rattle.fib_resolve.specs.Forwarding.{is_met, is_attached_list}
@@ -23,30 +23,30 @@ use Rattle.fib_resolve.specs.declared.types.Path.{Path}
 use Rattle.fib_resolve.specs.declared.types.PathKind.TheVariants as kinds
 use Rattle.fib_resolve.specs.declared.types.Tables.{Tables}
 use Rattle.fib_resolve.proofs.Touching.{best_of, BestOf, same_pair-Decides}
-use Rattle.fib_changes.specs.Differ.{Differ}
-use Rattle.fib_changes.specs.Sources.{HasNeighbor, all_hops}
-use Rattle.fib_changes.specs.declared.change.Change.TheVariants as changes
-use Rattle.fib_changes.proofs.Edits.{any_in, in_cases, in_front, in_rest}
-use Rattle.fib_changes.proofs.SamePairs.{Origin, origin, from_origin, base, neighbor, derived, near_from, derived_host}
-use Rattle.fib_interned.specs.Interned.{AreInterned}
-use Rattle.fib_interned.proofs.Finding.{contains_at, some_is}
-use Rattle.fib_entries.specs.Known.{Known, PathKept, ArePairs, StandsFor, content_of, holders}
+use Rattle.fib_resolve_changes.specs.Differ.{Differ}
+use Rattle.fib_resolve_changes.specs.Sources.{HasNeighbor, all_hops}
+use Rattle.fib_resolve_changes.specs.declared.change.Change.TheVariants as changes
+use Rattle.fib_resolve_changes.proofs.Edits.{any_in, in_cases, in_front, in_rest}
+use Rattle.fib_resolve_changes.proofs.SamePairs.{Origin, origin, from_origin, base, neighbor, derived, near_from, derived_host}
+use Rattle.fib_base_interned.specs.Interned.{AreInterned}
+use Rattle.fib_base_interned.proofs.Finding.{contains_at, some_is}
+use Rattle.fib_entries_rows.specs.Known.{Known, PathKept, ArePairs, StandsFor, content_of, holders}
 use Rattle.fib_entries.specs.inner.Hop.{IsHopRow, NoneAsks, asks_kind, asks_host, hop_pairs}
 use Rattle.fib_entries.specs.inner.Near.{near_list}
-use Rattle.fib_entries.proofs.Counting.{counts_some, holders_step}
-use Rattle.fib_entries.proofs.Ending.{IsSameBase, caught_base, attached_alike, hops_alike}
+use Rattle.fib_entries_rows.proofs.Counting.{counts_some, holders_step}
+use Rattle.fib_entries_rows.proofs.Ending.{IsSameBase, caught_base, attached_alike, hops_alike}
 use Rattle.fib_entries.proofs.EndNews.{near_there, neighbor_of, real_by}
-use Rattle.fib_entries.proofs.Gateways.{derived_paths, pair_counted, pair_uncounted}
+use Rattle.fib_entries_rows.proofs.Gateways.{derived_paths, pair_counted, pair_uncounted}
 use Rattle.fib_entries.proofs.HopLaws.{IsHopEdit, near_base}
-use Rattle.fib_entries.proofs.Hosts.{base_given}
-use Rattle.fib_entries.proofs.Leafing.{entry_of_pair, host_is, is_not, only_one}
+use Rattle.fib_entries_rows.proofs.Hosts.{base_given}
+use Rattle.fib_entries_rows.proofs.Leafing.{entry_of_pair, host_is, is_not, only_one}
 use Rattle.fib_entries.proofs.LedPairs.{hop_pair, near_is, near_in}
 use Rattle.fib_entries.proofs.NearPairs.{hop_interface, mac_came, mac_went, near_gone}
-use Rattle.fib_entries.proofs.Owning.{owned_all, owned_there}
-use Rattle.fib_entries.proofs.Settling.{counted_by}
-use Rattle.fib_entries.proofs.Taking.{is_kept, list_self}
-use Rattle.fib_entries.proofs.Telling.{from_pair, kept_some}
-use Rattle.fib_entries.proofs.Using.{once}
+use Rattle.fib_entries_rows.proofs.Owning.{owned_all, owned_there}
+use Rattle.fib_entries_rows.proofs.Settling.{counted_by}
+use Rattle.fib_entries_rows.proofs.Taking.{is_kept, list_self}
+use Rattle.fib_entries_rows.proofs.Telling.{from_pair, kept_some}
+use Rattle.fib_entries_rows.proofs.Using.{once}
 
 -- the first tables have the next hop's pair alone at the host, with the list of a neighbor; the second have the neighbor's too
 pub record IsHopMore (U V : Tables) (i a : ℕ) : Type 0 where

@@ -3,11 +3,11 @@ use Rattle.std.proofs.Common.{arith, ◌≡◌, ℕ, ◌+◌, ◌-◌, ◌<◌, 
 use Rattle.std.specs.Prelude.{Contains, IsSome, min, slice_set}
 use Rattle.std.specs.List.{list_any}
 use Rattle.std.proofs.lemmas.Bool.{false≢true, cases_lt}
-use Rattle.fib_list.proofs.Lists.{either, Contains-nil}
+use Rattle.fib_base_list.proofs.Lists.{either, Contains-nil}
 use Rattle.fib_addr.specs.Prefixes.{Prefix, host, same_prefix}
 use Rattle.fib_addr.proofs.PrefixLaws.{same_prefix-Decides}
 use Rattle.fib_cover.specs.Covers.{IsAscending}
-use Rattle.fib_interned.specs.Interned.{AreInterned, Takes, Gives}
+use Rattle.fib_base_interned.specs.Interned.{AreInterned, Takes, Gives}
 use Rattle.fib_resolve.specs.Aims.{marked_list}
 use Rattle.fib_resolve.specs.Forwarding.{is_met}
 use Rattle.fib_resolve.specs.Pairs.{entries, chosen}
@@ -20,34 +20,34 @@ use Rattle.fib_resolve.specs.declared.types.Path.{Path}
 use Rattle.fib_resolve.specs.declared.types.PathKind.TheVariants as kinds
 use Rattle.fib_resolve.specs.declared.types.Tables.{Tables}
 use Rattle.fib_resolve.proofs.TouchedEntries.{touched_effective}
-use Rattle.fib_changes.specs.Differ.{Differ}
-use Rattle.fib_changes.specs.declared.change.Change.TheVariants as changes
-use Rattle.fib_changes.proofs.SamePairs.{map_from, map_in}
-use Rattle.fib_interned.proofs.Finding.{contains_at}
-use Rattle.fib_entries.specs.Known.{Known, content_of, prefix_of, rank_of, ArePairs, IsRow, StandsFor, holders}
-use Rattle.fib_entries.specs.Changes.{AreTouched, AreMoved}
-use Rattle.fib_entries.specs.Rows.{Row}
-use Rattle.fib_entries.specs.declared.changes.Followed.{Followed}
-use Rattle.fib_entries.specs.declared.ends.News.{News}
-use Rattle.fib_entries.specs.declared.ends.News.TheVariants as news
-use Rattle.fib_entries.specs.inner.Coming.{with_pairs}
-use Rattle.fib_entries.specs.inner.Ends.{is_old, is_old_row, renewed_row}
-use Rattle.fib_entries.specs.inner.Fields.{AreCounted}
+use Rattle.fib_resolve_changes.specs.Differ.{Differ}
+use Rattle.fib_resolve_changes.specs.declared.change.Change.TheVariants as changes
+use Rattle.fib_resolve_changes.proofs.SamePairs.{map_from, map_in}
+use Rattle.fib_base_interned.proofs.Finding.{contains_at}
+use Rattle.fib_entries_rows.specs.Known.{Known, content_of, prefix_of, rank_of, ArePairs, IsRow, StandsFor, holders}
+use Rattle.fib_entries_rows.specs.Changes.{AreTouched, AreMoved}
+use Rattle.fib_entries_rows.specs.Rows.{Row}
+use Rattle.fib_entries_rows.specs.declared.changes.Followed.{Followed}
+use Rattle.fib_entries_rows.specs.declared.ends.News.{News}
+use Rattle.fib_entries_rows.specs.declared.ends.News.TheVariants as news
+use Rattle.fib_entries_rows.specs.inner.Coming.{with_pairs}
+use Rattle.fib_entries_rows.specs.inner.Ends.{is_old, is_old_row, renewed_row}
+use Rattle.fib_entries_rows.specs.inner.Fields.{AreCounted}
 use Rattle.fib_entries.specs.inner.Hop.{IsHopRow, NoneAsks, hop_pairs}
-use Rattle.fib_entries.specs.inner.Leaf.{IsFollowed}
+use Rattle.fib_entries_rows.specs.inner.Leaf.{IsFollowed}
 use Rattle.fib_entries.specs.inner.Near.{near_list}
-use Rattle.fib_entries.proofs.EndRows.{ascending_left}
+use Rattle.fib_entries_rows.proofs.EndRows.{ascending_left}
 use Rattle.fib_entries.proofs.HopLaws.{IsHopEdit, hop_chosen, hop_entries, hop_entry, hop_falls, hop_others, hop_right, hop_row, hop_touched}
 use Rattle.fib_entries.proofs.HopPairs.{less_chosen, more_chosen, less_entry, less_held, more_entry, less_pairs, more_pairs, more_holders, hop_coming, coming_other, coming_edit, hop_going, going_other, going_edit, needs_same}
-use Rattle.fib_entries.proofs.Leafing.{is_not}
-use Rattle.fib_entries.proofs.LeafSizes.{adjacencies_same, size_alike}
+use Rattle.fib_entries_rows.proofs.Leafing.{is_not}
+use Rattle.fib_entries_rows.proofs.LeafSizes.{adjacencies_same, size_alike}
 use Rattle.fib_entries.proofs.NearRows.{olds, olds_from, olds_in}
-use Rattle.fib_entries.proofs.Placing.{get_map}
-use Rattle.fib_entries.proofs.Putting.{paired_from, paired_names, paired_ranks}
-use Rattle.fib_entries.proofs.Renewing.{rank_renewed, renewed_names}
-use Rattle.fib_entries.proofs.Settling.{counted_by}
-use Rattle.fib_entries.proofs.Touches.{ascending_differ}
-use Rattle.fib_entries.proofs.Using.{once, recounted, counted_taken, counted_given, taken_stays, given_stays, content_taken}
+use Rattle.fib_entries_rows.proofs.Placing.{get_map}
+use Rattle.fib_entries_rows.proofs.Putting.{paired_from, paired_names, paired_ranks}
+use Rattle.fib_entries_rows.proofs.Renewing.{rank_renewed, renewed_names}
+use Rattle.fib_entries_rows.proofs.Settling.{counted_by}
+use Rattle.fib_entries_rows.proofs.Touches.{ascending_differ}
+use Rattle.fib_entries_rows.proofs.Using.{once, recounted, counted_taken, counted_given, taken_stays, given_stays, content_taken}
 
 abbrev pub told : Tables → ℕ → ℕ → News
 told T i a = news.Mac i a (mac_of T i a)

@@ -2,7 +2,7 @@
 use Rattle.std.proofs.Common.{arith, ◌≡◌, ◌≢◌, ℕ, ◌+◌, ◌<◌, ◌≤◌, List, [], ◌∷◌, map, length, Option, Some, ◌⊎◌, inl, inr, refl, sym, ◌∙◌, ap, subst, ◌↔◌}
 use Rattle.std.specs.Prelude.{Contains, option_map, slice_set}
 use Rattle.std.proofs.lemmas.Bool.{false≢true}
-use Rattle.fib_list.proofs.Lists.{Contains-nil}
+use Rattle.fib_base_list.proofs.Lists.{Contains-nil}
 use Rattle.fib_addr.specs.Prefixes.{Prefix, host}
 use Rattle.fib_cover.specs.Covers.{IsAscending}
 use Rattle.fib_resolve.specs.Pairs.{plain}
@@ -11,31 +11,31 @@ use Rattle.fib_resolve.specs.declared.types.FibSource.TheVariants as sources
 use Rattle.fib_resolve.specs.declared.types.Path.{Path}
 use Rattle.fib_resolve.specs.declared.types.Tables.{Tables}
 use Rattle.fib_resolve.specs.declared.types.PathKind.TheVariants as kinds
-use Rattle.fib_changes.proofs.Edits.{in_front, in_rest}
-use Rattle.fib_changes.proofs.SamePairs.{map_in}
-use Rattle.fib_interned.proofs.Finding.{contains_at, some_is}
-use Rattle.fib_entries.specs.Known.{PathKept, content_of, prefix_of}
-use Rattle.fib_entries.specs.inner.Coming.{blank_row}
-use Rattle.fib_entries.specs.inner.Ends.{has_exit}
-use Rattle.fib_entries.specs.inner.Fields.{AreFields, AreNamed, Index, IsForgotten, IsIndexed, IsNoted, count_in}
-use Rattle.fib_entries.specs.inner.Hosting.{IsHosted, IsHosting, IsListed, HasHosted, host_own}
-use Rattle.fib_entries.specs.inner.Leaf.{pushed, plain_own}
-use Rattle.fib_entries.specs.inner.Plies.{IsGap}
-use Rattle.fib_entries.specs.declared.changes.Followed.{Followed}
-use Rattle.fib_entries.specs.declared.hosting.Late.{Late}
-use Rattle.fib_entries.specs.Rows.{Row}
-use Rattle.fib_entries.proofs.Arriving.{indexed_came, names_came, named_came, ordered_came}
-use Rattle.fib_entries.proofs.Exits.{IsIn, fields_with, in_alike, in_host, in_index, indexed_each, indexed_less, indexed_more, none_hosted}
-use Rattle.fib_entries.proofs.Hosts.{loose_pair}
-use Rattle.fib_entries.proofs.Housing.{hosted_names, hosted_ordered}
-use Rattle.fib_entries.proofs.Leafing.{only_one}
-use Rattle.fib_entries.proofs.Linking.{set_length}
-use Rattle.fib_entries.proofs.Naming.{named_held, once_more}
-use Rattle.fib_entries.proofs.Orders.{inserted_members}
-use Rattle.fib_entries.proofs.Placing.{gap_absent, inserted_from, length_map, same_order}
-use Rattle.fib_entries.proofs.Putting.{paired_names, paired_ordered, paired_from}
-use Rattle.fib_entries.proofs.Settling.{set_from}
-use Rattle.fib_entries.proofs.Using.{once, recounted, counted_taken, taken_stays}
+use Rattle.fib_resolve_changes.proofs.Edits.{in_front, in_rest}
+use Rattle.fib_resolve_changes.proofs.SamePairs.{map_in}
+use Rattle.fib_base_interned.proofs.Finding.{contains_at, some_is}
+use Rattle.fib_entries_rows.specs.Known.{PathKept, content_of, prefix_of}
+use Rattle.fib_entries_rows.specs.inner.Coming.{blank_row}
+use Rattle.fib_entries_rows.specs.inner.Ends.{has_exit}
+use Rattle.fib_entries_rows.specs.inner.Fields.{AreFields, AreNamed, Index, IsForgotten, IsIndexed, IsNoted, count_in}
+use Rattle.fib_entries_rows.specs.inner.Hosting.{IsHosted, IsHosting, IsListed, HasHosted, host_own}
+use Rattle.fib_entries_rows.specs.inner.Leaf.{pushed, plain_own}
+use Rattle.fib_entries_rows.specs.inner.Plies.{IsGap}
+use Rattle.fib_entries_rows.specs.declared.changes.Followed.{Followed}
+use Rattle.fib_entries_rows.specs.declared.hosting.Late.{Late}
+use Rattle.fib_entries_rows.specs.Rows.{Row}
+use Rattle.fib_entries_rows.proofs.Arriving.{indexed_came, names_came, named_came, ordered_came}
+use Rattle.fib_entries_rows.proofs.Exits.{IsIn, fields_with, in_alike, in_host, in_index, indexed_each, indexed_less, indexed_more, none_hosted}
+use Rattle.fib_entries_rows.proofs.Hosts.{loose_pair}
+use Rattle.fib_entries_rows.proofs.Housing.{hosted_names, hosted_ordered}
+use Rattle.fib_entries_rows.proofs.Leafing.{only_one}
+use Rattle.fib_entries_rows.proofs.Linking.{set_length}
+use Rattle.fib_entries_rows.proofs.Naming.{named_held, once_more}
+use Rattle.fib_entries_rows.proofs.Orders.{inserted_members}
+use Rattle.fib_entries_rows.proofs.Placing.{gap_absent, inserted_from, length_map, same_order}
+use Rattle.fib_entries_rows.proofs.Putting.{paired_names, paired_ordered, paired_from}
+use Rattle.fib_entries_rows.proofs.Settling.{set_from}
+use Rattle.fib_entries_rows.proofs.Using.{once, recounted, counted_taken, taken_stays}
 
 -- the host's row came, without its list
 module _ (old new : List Row) (g : Late) (h : IsHosted old new g) (gap : IsGap (map prefix_of old) g.place (host g.addr)) where

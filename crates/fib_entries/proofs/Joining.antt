@@ -3,7 +3,7 @@ use Rattle.std.proofs.Common.{arith, ◌≡◌, ◌≢◌, ℕ, ◌+◌, ◌-◌
 use Rattle.std.specs.Prelude.{Contains, min}
 use Rattle.std.proofs.lemmas.Bool.{false≢true, cases_lt}
 use Rattle.std.proofs.lemmas.Bool.Decides.{Decides-eqb}
-use Rattle.fib_list.proofs.Lists.{Contains-nil}
+use Rattle.fib_base_list.proofs.Lists.{Contains-nil}
 use Rattle.fib_addr.specs.Prefixes.{Prefix, IsPrefix}
 use Rattle.fib_cover.specs.Covers.{IsAscending}
 use Rattle.fib_resolve.specs.Edits.{paths_at}
@@ -13,32 +13,32 @@ use Rattle.fib_resolve.specs.Tables.{IsSound}
 use Rattle.fib_resolve.specs.declared.types.FibSource.{FibSource}
 use Rattle.fib_resolve.specs.declared.types.Path.{Path}
 use Rattle.fib_resolve.specs.declared.types.Tables.{Tables}
-use Rattle.fib_changes.specs.Differ.{Differ}
-use Rattle.fib_changes.specs.declared.change.Change.TheVariants as changes
-use Rattle.fib_changes.proofs.SamePairs.{map_from, map_in}
-use Rattle.fib_interned.specs.Interned.{AreInterned}
-use Rattle.fib_entries.specs.Known.{PathKept, Known, content_of, prefix_of, rank_of, rank_in, IsRow, StandsFor, holders}
-use Rattle.fib_entries.specs.Changes.{AreTouched, AreMoved}
-use Rattle.fib_entries.specs.inner.Coming.{IsArriving, IsBelonging, IsPlaced, HasCome, blank_row, with_pairs}
-use Rattle.fib_entries.specs.inner.Fields.{AreCounted, AreFields, Index, IsForgotten, IsNoted}
-use Rattle.fib_entries.specs.inner.Leaf.{IsLeafEdit, IsFollowed, IsButFor, goals_of, plain_own, moved_at}
-use Rattle.fib_entries.specs.inner.Plies.{own_size, entry_at, entry_before}
-use Rattle.fib_entries.specs.declared.changes.Followed.{Followed}
-use Rattle.fib_entries.specs.Rows.{Row}
-use Rattle.fib_entries.proofs.Arriving.{mid_own, with_it, there_came, row_from, ordered_came, indexed_came, fields_came, set_back}
+use Rattle.fib_resolve_changes.specs.Differ.{Differ}
+use Rattle.fib_resolve_changes.specs.declared.change.Change.TheVariants as changes
+use Rattle.fib_resolve_changes.proofs.SamePairs.{map_from, map_in}
+use Rattle.fib_base_interned.specs.Interned.{AreInterned}
+use Rattle.fib_entries_rows.specs.Known.{PathKept, Known, content_of, prefix_of, rank_of, rank_in, IsRow, StandsFor, holders}
+use Rattle.fib_entries_rows.specs.Changes.{AreTouched, AreMoved}
+use Rattle.fib_entries_rows.specs.inner.Coming.{IsArriving, IsBelonging, IsPlaced, HasCome, blank_row, with_pairs}
+use Rattle.fib_entries_rows.specs.inner.Fields.{AreCounted, AreFields, Index, IsForgotten, IsNoted}
+use Rattle.fib_entries_rows.specs.inner.Leaf.{IsLeafEdit, IsFollowed, IsButFor, goals_of, plain_own, moved_at}
+use Rattle.fib_entries_rows.specs.inner.Plies.{own_size, entry_at, entry_before}
+use Rattle.fib_entries_rows.specs.declared.changes.Followed.{Followed}
+use Rattle.fib_entries_rows.specs.Rows.{Row}
+use Rattle.fib_entries_rows.proofs.Arriving.{mid_own, with_it, there_came, row_from, ordered_came, indexed_came, fields_came, set_back}
 use Rattle.fib_entries.proofs.Belonging.{no_entry, none_was, belonging_edit, came_is_row}
 use Rattle.fib_entries.proofs.Growing.{IsGrown, size_more}
-use Rattle.fib_entries.proofs.Exits.{fields_with, indexed_less, indexed_more}
-use Rattle.fib_entries.proofs.HopEnds.{ends_others, glean_short}
-use Rattle.fib_entries.proofs.LeafRows.{IsLeafMade, entry_same, entry_own, stands_leaf, touched_leaf, moved_leaf, still_leaf}
-use Rattle.fib_entries.proofs.PartRows.{row_by, no_row}
-use Rattle.fib_entries.proofs.LeafSizes.{plain_targets, ends_by}
-use Rattle.fib_entries.proofs.Leafing.{chosen_same, outside}
-use Rattle.fib_entries.proofs.Listing.{own_before, own_after, chosen_before, chosen_after, counted_own, counted_none, holders_are}
-use Rattle.fib_entries.proofs.Placing.{gap_absent, size_came}
-use Rattle.fib_entries.proofs.Settling.{counted_by}
-use Rattle.fib_entries.proofs.Sharing.{led_by}
-use Rattle.fib_entries.proofs.Using.{once, recounted, counted_taken, taken_stays, content_taken}
+use Rattle.fib_entries_rows.proofs.Exits.{fields_with, indexed_less, indexed_more}
+use Rattle.fib_entries_rows.proofs.HopEnds.{ends_others, glean_short}
+use Rattle.fib_entries_rows.proofs.LeafRows.{IsLeafMade, entry_same, entry_own, stands_leaf, touched_leaf, moved_leaf, still_leaf}
+use Rattle.fib_entries_rows.proofs.PartRows.{row_by, no_row}
+use Rattle.fib_entries_rows.proofs.LeafSizes.{plain_targets, ends_by}
+use Rattle.fib_entries_rows.proofs.Leafing.{chosen_same, outside}
+use Rattle.fib_entries_rows.proofs.Listing.{own_before, own_after, chosen_before, chosen_after, counted_own, counted_none, holders_are}
+use Rattle.fib_entries_rows.proofs.Placing.{gap_absent, size_came}
+use Rattle.fib_entries_rows.proofs.Settling.{counted_by}
+use Rattle.fib_entries_rows.proofs.Sharing.{led_by}
+use Rattle.fib_entries_rows.proofs.Using.{once, recounted, counted_taken, taken_stays, content_taken}
 
 module _ (v : Known) (S T : Tables) (p : Prefix) (source : FibSource) (place : ℕ) (k : StandsFor v S) (m : IsArriving v.rows T p source place) (differ : Differ (changes.Route p source ∷ []) S T) (after : IsSound T) where
   belonging : IsBelonging v.rows T p source place

@@ -4,14 +4,14 @@ use Rattle.std.specs.Prelude.{Contains}
 use Rattle.std.specs.Set.{is_member}
 use Rattle.std.proofs.lemmas.List.Elements.{Contains-append_left, Contains-append_right, Contains-append_cases}
 use Rattle.std.proofs.lemmas.Option.{slice_get_within, slice_get-get_or}
-use Rattle.fib_list.proofs.Lists.{Contains-nil}
+use Rattle.fib_base_list.proofs.Lists.{Contains-nil}
 use Rattle.fib_addr.specs.Prefixes.{Prefix, same_prefix}
 use Rattle.fib_reach.specs.Walks.{AllDiffer}
-use Rattle.fib_changes.proofs.Edits.{in_cases, in_front}
-use Rattle.fib_interned.proofs.Finding.{some_is}
-use Rattle.fib_entries.proofs.Anew.{take_more, take_all}
-use Rattle.fib_entries.proofs.Linking.{member_in}
-use Rattle.fib_entries.proofs.Loopings.{sees_put}
+use Rattle.fib_resolve_changes.proofs.Edits.{in_cases, in_front}
+use Rattle.fib_base_interned.proofs.Finding.{some_is}
+use Rattle.fib_entries_rows.proofs.Anew.{take_more, take_all}
+use Rattle.fib_entries_rows.proofs.Linking.{member_in}
+use Rattle.fib_entries_rows.proofs.Loopings.{sees_put}
 
 pub put_same : (old : List Prefix) (d : Prefix) → is_member same_prefix old d ≡ true → (e : Prefix) → Contains old e ↔ Contains old e ⊎ (d ≡ e)
 put_same old d is e = ((λ c. inl c), (λ c. elim c [ inl was ↦ was | inr same ↦ subst (Contains old) same (member_in old d is) ]))

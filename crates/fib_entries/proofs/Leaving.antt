@@ -4,7 +4,7 @@ use Rattle.std.specs.Prelude.{Contains, IsSome, min, filter_map}
 use Rattle.std.specs.List.{list_all, remove}
 use Rattle.std.proofs.lemmas.Bool.{false≢true, cases_lt}
 use Rattle.std.proofs.lemmas.Bool.Decides.{Decides-eqb}
-use Rattle.fib_list.proofs.Lists.{Contains-nil}
+use Rattle.fib_base_list.proofs.Lists.{Contains-nil}
 use Rattle.fib_addr.specs.Prefixes.{Prefix, IsPrefix, same_prefix}
 use Rattle.fib_cover.specs.Covers.{ArePrefixes, IsAscending}
 use Rattle.fib_resolve.specs.Edits.{paths_at}
@@ -16,35 +16,35 @@ use Rattle.fib_resolve.specs.declared.pairs.Pair.{Pair}
 use Rattle.fib_resolve.specs.declared.types.FibSource.{FibSource}
 use Rattle.fib_resolve.specs.declared.types.Path.{Path}
 use Rattle.fib_resolve.specs.declared.types.Tables.{Tables}
-use Rattle.fib_changes.specs.Differ.{Differ}
-use Rattle.fib_changes.specs.declared.change.Change.TheVariants as changes
-use Rattle.fib_changes.proofs.SamePairs.{map_from, from_origin, base}
-use Rattle.fib_interned.specs.Interned.{AreInterned, kept_of}
-use Rattle.fib_interned.proofs.Finding.{some_is, contains_at}
-use Rattle.fib_entries.specs.Known.{PathKept, Known, content_of, prefix_of, rank_of, rank_in, IsRow, StandsFor, holders}
-use Rattle.fib_entries.specs.Changes.{AreTouched, AreMoved}
-use Rattle.fib_entries.specs.inner.Fields.{AreCounted, AreFields, Index, IsForgotten}
-use Rattle.fib_entries.specs.inner.Going.{IsLeaving, IsWithdrawn, HasLeft}
-use Rattle.fib_entries.specs.inner.Leaf.{IsLeafEdit, IsFollowed, IsButFor, goals_of, is_plain, moved_at}
-use Rattle.fib_entries.specs.inner.Plies.{own_size, entry_at, entry_before, before_of, IsGap}
-use Rattle.fib_entries.specs.declared.changes.Followed.{Followed}
-use Rattle.fib_entries.specs.Rows.{Row}
-use Rattle.fib_entries.proofs.Exits.{indexed_less}
+use Rattle.fib_resolve_changes.specs.Differ.{Differ}
+use Rattle.fib_resolve_changes.specs.declared.change.Change.TheVariants as changes
+use Rattle.fib_resolve_changes.proofs.SamePairs.{map_from, from_origin, base}
+use Rattle.fib_base_interned.specs.Interned.{AreInterned, kept_of}
+use Rattle.fib_base_interned.proofs.Finding.{some_is, contains_at}
+use Rattle.fib_entries_rows.specs.Known.{PathKept, Known, content_of, prefix_of, rank_of, rank_in, IsRow, StandsFor, holders}
+use Rattle.fib_entries_rows.specs.Changes.{AreTouched, AreMoved}
+use Rattle.fib_entries_rows.specs.inner.Fields.{AreCounted, AreFields, Index, IsForgotten}
+use Rattle.fib_entries_rows.specs.inner.Going.{IsLeaving, IsWithdrawn, HasLeft}
+use Rattle.fib_entries_rows.specs.inner.Leaf.{IsLeafEdit, IsFollowed, IsButFor, goals_of, is_plain, moved_at}
+use Rattle.fib_entries_rows.specs.inner.Plies.{own_size, entry_at, entry_before, before_of, IsGap}
+use Rattle.fib_entries_rows.specs.declared.changes.Followed.{Followed}
+use Rattle.fib_entries_rows.specs.Rows.{Row}
+use Rattle.fib_entries_rows.proofs.Exits.{indexed_less}
 use Rattle.fib_entries.proofs.Growing.{IsGrown, size_more}
-use Rattle.fib_entries.proofs.LeafRows.{IsLeafMade, entry_same, entry_own, entry_was, stands_leaf, touched_leaf, moved_leaf, still_leaf}
-use Rattle.fib_entries.proofs.PartRows.{row_by, no_row}
-use Rattle.fib_entries.proofs.HopEnds.{ends_others}
-use Rattle.fib_entries.proofs.LeafSizes.{plain_targets, ends_by, end_moved}
-use Rattle.fib_entries.proofs.Leafing.{chosen_same, from_route, is_not, outside}
-use Rattle.fib_entries.proofs.Listing.{source_of_route, own_before, own_after, chosen_before, chosen_after, counted_own, counted_none, holders_are}
-use Rattle.fib_entries.proofs.Naming.{some_content}
-use Rattle.fib_entries.proofs.Owning.{owned_all, owned_list, owned_some}
-use Rattle.fib_entries.proofs.Placing.{gap_removed, size_gone}
-use Rattle.fib_entries.proofs.Ready.{clear_alone, clear_far}
-use Rattle.fib_entries.proofs.Settling.{counted_by}
-use Rattle.fib_entries.proofs.Sharing.{led_by, path_there}
-use Rattle.fib_entries.proofs.Using.{once, counted_given, given_stays}
-use Rattle.fib_entries.proofs.Withdrawing.{order_at, names_gone, ordered_gone, but_for, row_left, row_was, indexed_gone, fields_gone}
+use Rattle.fib_entries_rows.proofs.LeafRows.{IsLeafMade, entry_same, entry_own, entry_was, stands_leaf, touched_leaf, moved_leaf, still_leaf}
+use Rattle.fib_entries_rows.proofs.PartRows.{row_by, no_row}
+use Rattle.fib_entries_rows.proofs.HopEnds.{ends_others}
+use Rattle.fib_entries_rows.proofs.LeafSizes.{plain_targets, ends_by, end_moved}
+use Rattle.fib_entries_rows.proofs.Leafing.{chosen_same, from_route, is_not, outside}
+use Rattle.fib_entries_rows.proofs.Listing.{source_of_route, own_before, own_after, chosen_before, chosen_after, counted_own, counted_none, holders_are}
+use Rattle.fib_entries_rows.proofs.Naming.{some_content}
+use Rattle.fib_entries_rows.proofs.Owning.{owned_all, owned_list, owned_some}
+use Rattle.fib_entries_rows.proofs.Placing.{gap_removed, size_gone}
+use Rattle.fib_entries_rows.proofs.Ready.{clear_alone, clear_far}
+use Rattle.fib_entries_rows.proofs.Settling.{counted_by}
+use Rattle.fib_entries_rows.proofs.Sharing.{led_by, path_there}
+use Rattle.fib_entries_rows.proofs.Using.{once, counted_given, given_stays}
+use Rattle.fib_entries_rows.proofs.Withdrawing.{order_at, names_gone, ordered_gone, but_for, row_left, row_was, indexed_gone, fields_gone}
 
 module _ (v : Known) (S T : Tables) (p : Prefix) (source : FibSource) (place id : ℕ) (old : List Path) (k : StandsFor v S) (m : IsLeaving v.rows v.lists T p source place id old) (differ : Differ (changes.Route p source ∷ []) S T) (after : IsSound T) where
   own_there : Contains v.rows m.row

@@ -7,8 +7,8 @@ use Rattle.std.specs.Set.{is_member}
 use Rattle.std.proofs.lemmas.Bool.{false≢true, ltb-true, lt-ltb}
 use Rattle.std.proofs.lemmas.Bool.Decides.{Decides-eqb}
 use Rattle.std.proofs.lemmas.Map.Views.{Contains-from_any}
-use Rattle.fib_list.proofs.Lists.{either, Contains-nil, Contains-flat_map}
-use Rattle.fib_list.proofs.Booleans.{or_cases, or_left, or_right}
+use Rattle.fib_base_list.proofs.Lists.{either, Contains-nil, Contains-flat_map}
+use Rattle.fib_base_list.proofs.Booleans.{or_cases, or_left, or_right}
 use Rattle.fib_reach.specs.Walks.{Walk, Next, Reaches}
 use Rattle.fib_reach.proofs.Walking.{edge_then, reaches_leads}
 use Rattle.fib_addr.specs.Prefixes.{Prefix, same_prefix, contains, host, size_of}
@@ -37,17 +37,17 @@ use Rattle.fib_resolve.proofs.Entries.{chosen-no_entry}
 use Rattle.fib_resolve.proofs.OneList.{one_if, one_list, source_by_rank}
 use Rattle.fib_resolve.proofs.PairLaws.{cover_short}
 use Rattle.fib_resolve.proofs.Touching.{best_of, BestOf}
-use Rattle.fib_changes.specs.Sources.{all_hops, BaseCaught, HasNeighbor, ArePrefixes, SamePairs, SameEntry}
-use Rattle.fib_changes.specs.Causes.{IsThrough}
-use Rattle.fib_changes.proofs.CauseLaws.{any_from, both_halves, differ_self, marks_through_all}
-use Rattle.fib_changes.proofs.Covers.{short_from, whole_there, attached_agrees}
-use Rattle.fib_changes.proofs.Cycles.{path_edge, through_cycle, last_edge}
-use Rattle.fib_changes.proofs.Edits.{any_in}
-use Rattle.fib_changes.proofs.SamePairs.{flat_map_from, map_in, Origin, origin, from_origin, base, neighbor, derived, near_from, near_host, derived_host, same_pairs_from, same_targets, same_chosen, same_met}
-use Rattle.fib_entries.specs.inner.Led.{IsBestEdit, IsLedEdit}
-use Rattle.fib_entries.specs.inner.Part.{in_part}
-use Rattle.fib_entries.proofs.Leafing.{from_route, each_has, entry_of_pair, not_it, is_not, host_is, hop_route, its_prefix, routes_beside, stays_hop, part_cases, part_host, part_not, base_beside, came_beside, near_beside, means_beside, good_beside}
-use Rattle.fib_entries.proofs.Listing.{listed_route, source_of_route}
+use Rattle.fib_resolve_changes.specs.Sources.{all_hops, BaseCaught, HasNeighbor, ArePrefixes, SamePairs, SameEntry}
+use Rattle.fib_resolve_changes.specs.Causes.{IsThrough}
+use Rattle.fib_resolve_changes.proofs.CauseLaws.{any_from, both_halves, differ_self, marks_through_all}
+use Rattle.fib_resolve_changes.proofs.Covers.{short_from, whole_there, attached_agrees}
+use Rattle.fib_resolve_changes.proofs.Cycles.{path_edge, through_cycle, last_edge}
+use Rattle.fib_resolve_changes.proofs.Edits.{any_in}
+use Rattle.fib_resolve_changes.proofs.SamePairs.{flat_map_from, map_in, Origin, origin, from_origin, base, neighbor, derived, near_from, near_host, derived_host, same_pairs_from, same_targets, same_chosen, same_met}
+use Rattle.fib_entries_rows.specs.inner.Led.{IsBestEdit, IsLedEdit}
+use Rattle.fib_entries_rows.specs.inner.Part.{in_part}
+use Rattle.fib_entries_rows.proofs.Leafing.{from_route, each_has, entry_of_pair, not_it, is_not, host_is, hop_route, its_prefix, routes_beside, stays_hop, part_cases, part_host, part_not, base_beside, came_beside, near_beside, means_beside, good_beside}
+use Rattle.fib_entries_rows.proofs.Listing.{listed_route, source_of_route}
 
 near_ranks : (U : Tables) (n : Neighbor) → AllByRecursion (λ y. 4 ≡ source_rank y.source) (neighbor_pairs U n)
 unfolding neighbor_pairs

@@ -9,8 +9,8 @@ use Rattle.std.proofs.lemmas.Bool.{false≢true}
 use Rattle.std.proofs.lemmas.Bool.Decides.{Decides-eqb}
 use Rattle.std.proofs.lemmas.List.Elements.{Contains-append_cases, Contains-append_left, Contains-append_right}
 use Rattle.std.proofs.lemmas.Map.Views.{Contains-from_any}
-use Rattle.fib_list.proofs.Lists.{either, Contains-nil}
-use Rattle.fib_list.proofs.Booleans.{and_both, or_cases, unit_of, count_by-cons}
+use Rattle.fib_base_list.proofs.Lists.{either, Contains-nil}
+use Rattle.fib_base_list.proofs.Booleans.{and_both, or_cases, unit_of, count_by-cons}
 use Rattle.fib_addr.specs.Prefixes.{Prefix, same_prefix, host}
 use Rattle.fib_addr.proofs.PrefixLaws.{same_prefix-Decides}
 use Rattle.fib_resolve.specs.Edits.{paths_at}
@@ -36,24 +36,24 @@ use Rattle.fib_resolve.proofs.Entries.{chosen-no_entry, targets_from_entries}
 use Rattle.fib_resolve.proofs.OneList.{one_list, source_by_rank}
 use Rattle.fib_resolve.proofs.PairLaws.{cover_short}
 use Rattle.fib_resolve.proofs.Touching.{untouched_pairs}
-use Rattle.fib_changes.specs.Sources.{all_hops, HasNeighbor}
-use Rattle.fib_changes.specs.declared.change.Change.TheVariants as changes
-use Rattle.fib_changes.proofs.Edits.{in_front}
-use Rattle.fib_changes.proofs.SamePairs.{Origin, origin, from_origin, base, neighbor, derived, near_from, near_host, derived_host, same_chosen}
-use Rattle.fib_entries.specs.Known.{holders}
-use Rattle.fib_entries.specs.inner.Led.{IsBestEdit, IsLedEdit, IsTurn}
-use Rattle.fib_entries.specs.inner.Part.{in_part}
-use Rattle.fib_entries.specs.inner.Reaching.{gone_addrs, late_addrs, turned_addrs}
-use Rattle.fib_entries.specs.declared.hosting.Late.{Late}
-use Rattle.fib_entries.specs.declared.parting.Last.{Last}
-use Rattle.fib_entries.proofs.Counting.{count_parts, counts_same, holders_step}
-use Rattle.fib_entries.proofs.Hosts.{IsUnattached, base_given, loose_chosen, loose_entry, loose_from, loose_pair, loose_targets, loose_there}
-use Rattle.fib_entries.proofs.LeafSizes.{ends_in, HasEnd, ends_by, adjacencies_same}
+use Rattle.fib_resolve_changes.specs.Sources.{all_hops, HasNeighbor}
+use Rattle.fib_resolve_changes.specs.declared.change.Change.TheVariants as changes
+use Rattle.fib_resolve_changes.proofs.Edits.{in_front}
+use Rattle.fib_resolve_changes.proofs.SamePairs.{Origin, origin, from_origin, base, neighbor, derived, near_from, near_host, derived_host, same_chosen}
+use Rattle.fib_entries_rows.specs.Known.{holders}
+use Rattle.fib_entries_rows.specs.inner.Led.{IsBestEdit, IsLedEdit, IsTurn}
+use Rattle.fib_entries_rows.specs.inner.Part.{in_part}
+use Rattle.fib_entries_rows.specs.inner.Reaching.{gone_addrs, late_addrs, turned_addrs}
+use Rattle.fib_entries_rows.specs.declared.hosting.Late.{Late}
+use Rattle.fib_entries_rows.specs.declared.parting.Last.{Last}
+use Rattle.fib_entries_rows.proofs.Counting.{count_parts, counts_same, holders_step}
+use Rattle.fib_entries_rows.proofs.Hosts.{IsUnattached, base_given, loose_chosen, loose_entry, loose_from, loose_pair, loose_targets, loose_there}
+use Rattle.fib_entries_rows.proofs.LeafSizes.{ends_in, HasEnd, ends_by, adjacencies_same}
 use Rattle.fib_entries.proofs.LedLaws.{led_attached_off, led_entry, led_hops, led_late_cover, led_late_covered, led_late_loose, led_late_other, led_list_after, led_list_before, led_near, led_targets}
-use Rattle.fib_entries.proofs.Leafing.{base_cases, came_beside, from_front, from_route, front_half, is_not, its_prefix, only_one, part_cases, part_host, entry_of_pair, pair_at, routes_beside}
-use Rattle.fib_entries.proofs.Listing.{listed_route, pair_of, source_of_route}
+use Rattle.fib_entries_rows.proofs.Leafing.{base_cases, came_beside, from_front, from_route, front_half, is_not, its_prefix, only_one, part_cases, part_host, entry_of_pair, pair_at, routes_beside}
+use Rattle.fib_entries_rows.proofs.Listing.{listed_route, pair_of, source_of_route}
 use Rattle.fib_entries.proofs.PartCounts.{host_counted, host_uncounted}
-use Rattle.fib_entries.proofs.Using.{once}
+use Rattle.fib_entries_rows.proofs.Using.{once}
 
 -- the pair of a route's list that is there
 module _ (U : Tables) (p : Prefix) (source : FibSource) (some : paths_at p source U.routes ≢ []) where

@@ -10,7 +10,7 @@ use Rattle.std.proofs.lemmas.List.Elements.{All-contains, All-from_recursion, Co
 use Rattle.std.proofs.lemmas.Map.Made.{is_member-Decides}
 use Rattle.std.proofs.lemmas.Map.Views.{Contains-from_any}
 use Rattle.std.proofs.lemmas.Simd.{map-map}
-use Rattle.fib_list.proofs.Lists.{either, Contains-nil, Contains-flat_map}
+use Rattle.fib_base_list.proofs.Lists.{either, Contains-nil, Contains-flat_map}
 use Rattle.fib_addr.specs.Prefixes.{Prefix, IsPrefix, contains, host, same_prefix}
 use Rattle.fib_addr.proofs.PrefixLaws.{same_prefix-Decides}
 use Rattle.fib_reach.specs.Walks.{Leads, Next, Walk}
@@ -39,44 +39,44 @@ use Rattle.fib_resolve.specs.declared.types.Tables.{Tables}
 use Rattle.fib_resolve.proofs.Covering.{attached_by_chosen, filter_from, filter_in}
 use Rattle.fib_resolve.proofs.LoopTests.{looped-Decides}
 use Rattle.fib_resolve.proofs.PairLaws.{cover_short}
-use Rattle.fib_changes.specs.Differ.{Differ}
-use Rattle.fib_changes.specs.Sources.{all_hops}
-use Rattle.fib_changes.specs.declared.change.Change.TheVariants as changes
-use Rattle.fib_changes.proofs.CauseLaws.{any_from}
-use Rattle.fib_changes.proofs.Cycles.{path_edge}
-use Rattle.fib_changes.proofs.Edits.{any_in, in_cases, in_front}
-use Rattle.fib_changes.proofs.SamePairs.{flat_map_from, map_from, from_origin, base, derived, derived_host}
-use Rattle.fib_changes.proofs.Targets.{edge_entry, hop_entry}
-use Rattle.fib_interned.proofs.Finding.{contains_at, none_some, some_is}
-use Rattle.fib_entries.specs.Known.{Known, prefix_of, row_of, ArePairs, IsHeld, IsRow, StandsFor, kind_met}
-use Rattle.fib_entries.specs.inner.Course.{IsComingAs}
-use Rattle.fib_entries.specs.inner.Hosting.{IsLate}
-use Rattle.fib_entries.specs.inner.Leaf.{goals_of}
-use Rattle.fib_entries.specs.inner.Led.{IsBestEdit, IsLedEdit, IsReaching, IsTurn, but_hops, has_hop, shared_gone, shared_late}
-use Rattle.fib_entries.specs.inner.Looping.{AreLoops, AreReached, aim_loops, aim_recursive, aims_of, entry_of, has_ends, late_next, led_in, loops_of, mark_with, marks_with, next_with}
-use Rattle.fib_entries.specs.inner.Part.{in_part}
-use Rattle.fib_entries.specs.inner.Parting.{IsLast, hop_at, path_at}
-use Rattle.fib_entries.specs.inner.Reaching.{gone_addrs, late_addrs, turned_addrs}
-use Rattle.fib_entries.specs.declared.hosting.Late.{Late}
-use Rattle.fib_entries.specs.declared.parting.Last.{Last}
-use Rattle.fib_entries.specs.Rows.{Row}
+use Rattle.fib_resolve_changes.specs.Differ.{Differ}
+use Rattle.fib_resolve_changes.specs.Sources.{all_hops}
+use Rattle.fib_resolve_changes.specs.declared.change.Change.TheVariants as changes
+use Rattle.fib_resolve_changes.proofs.CauseLaws.{any_from}
+use Rattle.fib_resolve_changes.proofs.Cycles.{path_edge}
+use Rattle.fib_resolve_changes.proofs.Edits.{any_in, in_cases, in_front}
+use Rattle.fib_resolve_changes.proofs.SamePairs.{flat_map_from, map_from, from_origin, base, derived, derived_host}
+use Rattle.fib_resolve_changes.proofs.Targets.{edge_entry, hop_entry}
+use Rattle.fib_base_interned.proofs.Finding.{contains_at, none_some, some_is}
+use Rattle.fib_entries_rows.specs.Known.{Known, prefix_of, row_of, ArePairs, IsHeld, IsRow, StandsFor, kind_met}
+use Rattle.fib_entries_rows.specs.inner.Course.{IsComingAs}
+use Rattle.fib_entries_rows.specs.inner.Hosting.{IsLate}
+use Rattle.fib_entries_rows.specs.inner.Leaf.{goals_of}
+use Rattle.fib_entries_rows.specs.inner.Led.{IsBestEdit, IsLedEdit, IsReaching, IsTurn, but_hops, has_hop, shared_gone, shared_late}
+use Rattle.fib_entries_rows.specs.inner.Looping.{AreLoops, AreReached, aim_loops, aim_recursive, aims_of, entry_of, has_ends, late_next, led_in, loops_of, mark_with, marks_with, next_with}
+use Rattle.fib_entries_rows.specs.inner.Part.{in_part}
+use Rattle.fib_entries_rows.specs.inner.Parting.{IsLast, hop_at, path_at}
+use Rattle.fib_entries_rows.specs.inner.Reaching.{gone_addrs, late_addrs, turned_addrs}
+use Rattle.fib_entries_rows.specs.declared.hosting.Late.{Late}
+use Rattle.fib_entries_rows.specs.declared.parting.Last.{Last}
+use Rattle.fib_entries_rows.specs.Rows.{Row}
 use Rattle.fib_entries.proofs.Covering.{cover_found}
-use Rattle.fib_entries.proofs.Departing.{unused_but}
-use Rattle.fib_entries.proofs.Hosts.{loose_targets}
-use Rattle.fib_entries.proofs.Leafing.{entry_of_pair, hop_in, host_is, is_it, is_not, only_one, part_cases, part_not, routes_beside, written_route, from_route}
-use Rattle.fib_entries.proofs.LeafSizes.{plain_targets}
+use Rattle.fib_entries_rows.proofs.Departing.{unused_but}
+use Rattle.fib_entries_rows.proofs.Hosts.{loose_targets}
+use Rattle.fib_entries_rows.proofs.Leafing.{entry_of_pair, hop_in, host_is, is_it, is_not, only_one, part_cases, part_not, routes_beside, written_route, from_route}
+use Rattle.fib_entries_rows.proofs.LeafSizes.{plain_targets}
 use Rattle.fib_entries.proofs.LedLaws.{own_after, own_base, own_before, own_written, led_chosen, led_entry, led_late_before, led_late_cover, led_list_after, led_list_before, led_loops_beside, led_met, led_still, led_targets, led_touch}
 use Rattle.fib_entries.proofs.LedPairs.{come_in, go_in, led_go_none, led_late, led_late_was}
-use Rattle.fib_entries.proofs.PartRows.{listed_row}
-use Rattle.fib_entries.proofs.Placing.{gap_absent}
-use Rattle.fib_entries.proofs.Replacing.{maps_same}
-use Rattle.fib_entries.proofs.Owning.{owned_all}
-use Rattle.fib_entries.proofs.Sharing.{each_true, hop_from, led_but, led_by, path_there}
-use Rattle.fib_entries.proofs.Standing.{first_chosen, row_there}
+use Rattle.fib_entries_rows.proofs.PartRows.{listed_row}
+use Rattle.fib_entries_rows.proofs.Placing.{gap_absent}
+use Rattle.fib_entries_rows.proofs.Replacing.{maps_same}
+use Rattle.fib_entries_rows.proofs.Owning.{owned_all}
+use Rattle.fib_entries_rows.proofs.Sharing.{each_true, hop_from, led_but, led_by, path_there}
+use Rattle.fib_entries_rows.proofs.Standing.{first_chosen, row_there}
 use Rattle.fib_entries.proofs.WithHost.{list_hop, no_source}
 use Rattle.fib_entries.proofs.WithoutHost.{is_cover}
 use Rattle.fib_resolve.proofs.OneList.{one_list}
-use Rattle.fib_entries.proofs.Listing.{listed_route, source_of_route}
+use Rattle.fib_entries_rows.proofs.Listing.{listed_route, source_of_route}
 
 -- each pair of a listed route has its list
 pub route_list : (U : Tables) → IsSound U → (p : Prefix) (source : FibSource) (r : Route) → Contains U.routes r → is_route p source r ≡ true → (x : Pair) → Contains (pairs U) x → p ≡ x.prefix → source ≡ x.source → paths_at p source U.routes ≡ x.paths

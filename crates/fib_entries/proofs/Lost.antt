@@ -4,7 +4,7 @@ use Rattle.std.specs.Prelude.{Contains, min, filter_map}
 use Rattle.std.specs.List.{remove}
 use Rattle.std.proofs.lemmas.Bool.{false≢true, cases_lt}
 use Rattle.std.proofs.lemmas.Bool.Decides.{Decides-eqb}
-use Rattle.fib_list.proofs.Lists.{either, Contains-flat_map, Contains-nil}
+use Rattle.fib_base_list.proofs.Lists.{either, Contains-flat_map, Contains-nil}
 use Rattle.fib_addr.specs.Prefixes.{Prefix, IsPrefix, same_prefix, host}
 use Rattle.fib_addr.proofs.PrefixLaws.{same_prefix-Decides}
 use Rattle.fib_cover.specs.Covers.{IsAscending, ArePrefixes}
@@ -21,44 +21,44 @@ use Rattle.fib_resolve.specs.declared.pairs.Pair.{Pair}
 use Rattle.fib_resolve.specs.declared.types.FibSource.{FibSource}
 use Rattle.fib_resolve.specs.declared.types.Path.{Path}
 use Rattle.fib_resolve.specs.declared.types.Tables.{Tables}
-use Rattle.fib_changes.specs.Differ.{Differ}
-use Rattle.fib_changes.specs.Sources.{all_hops, NeighborsCaught}
-use Rattle.fib_changes.specs.declared.change.Change.TheVariants as changes
-use Rattle.fib_changes.proofs.Edits.{in_cases, in_front, in_rest}
-use Rattle.fib_changes.proofs.SamePairs.{map_from, map_in, flat_map_from, from_origin, base, derived_host}
-use Rattle.fib_interned.specs.Interned.{AreInterned}
-use Rattle.fib_interned.proofs.Finding.{contains_at, some_is}
-use Rattle.fib_entries.specs.Known.{Known, PathKept, content_of, prefix_of, row_of, rank_of, rank_in, ArePairs, IsRow, StandsFor, holders, kind_met}
-use Rattle.fib_entries.specs.Changes.{AreTouched, AreMoved}
-use Rattle.fib_entries.specs.inner.Clear.{IsApart}
-use Rattle.fib_entries.specs.inner.Coming.{with_pairs}
-use Rattle.fib_entries.specs.inner.Fields.{AreCounted}
-use Rattle.fib_entries.specs.inner.Leaf.{IsLeafEdit, IsFollowed, IsButFor, goals_of, moved_at}
-use Rattle.fib_entries.specs.inner.Losing.{IsLosing, HasLost}
-use Rattle.fib_entries.specs.inner.Part.{in_part, IsButForPart, IsPartEdit, IsPartKept, IsPartMade}
-use Rattle.fib_entries.specs.inner.Plies.{IsGap, before_of, own_size, entry_at, entry_before}
-use Rattle.fib_entries.specs.declared.changes.Followed.{Followed}
-use Rattle.fib_entries.specs.declared.gateway.Gateway.{Gateway}
-use Rattle.fib_entries.specs.Rows.{Row}
-use Rattle.fib_entries.proofs.Departing.{unused_but}
-use Rattle.fib_entries.proofs.Gateways.{IsGained, derived_source, gained_pairs, gained_there, gained_new, gained_chosen, gateway_holders, gateway_kept, gateway_looped, gateway_marked, gateway_met, gateway_targets, gateway_touched, not_derived, pair_counted, pair_uncounted}
+use Rattle.fib_resolve_changes.specs.Differ.{Differ}
+use Rattle.fib_resolve_changes.specs.Sources.{all_hops, NeighborsCaught}
+use Rattle.fib_resolve_changes.specs.declared.change.Change.TheVariants as changes
+use Rattle.fib_resolve_changes.proofs.Edits.{in_cases, in_front, in_rest}
+use Rattle.fib_resolve_changes.proofs.SamePairs.{map_from, map_in, flat_map_from, from_origin, base, derived_host}
+use Rattle.fib_base_interned.specs.Interned.{AreInterned}
+use Rattle.fib_base_interned.proofs.Finding.{contains_at, some_is}
+use Rattle.fib_entries_rows.specs.Known.{Known, PathKept, content_of, prefix_of, row_of, rank_of, rank_in, ArePairs, IsRow, StandsFor, holders, kind_met}
+use Rattle.fib_entries_rows.specs.Changes.{AreTouched, AreMoved}
+use Rattle.fib_entries_rows.specs.inner.Clear.{IsApart}
+use Rattle.fib_entries_rows.specs.inner.Coming.{with_pairs}
+use Rattle.fib_entries_rows.specs.inner.Fields.{AreCounted}
+use Rattle.fib_entries_rows.specs.inner.Leaf.{IsLeafEdit, IsFollowed, IsButFor, goals_of, moved_at}
+use Rattle.fib_entries_rows.specs.inner.Losing.{IsLosing, HasLost}
+use Rattle.fib_entries_rows.specs.inner.Part.{in_part, IsButForPart, IsPartEdit, IsPartKept, IsPartMade}
+use Rattle.fib_entries_rows.specs.inner.Plies.{IsGap, before_of, own_size, entry_at, entry_before}
+use Rattle.fib_entries_rows.specs.declared.changes.Followed.{Followed}
+use Rattle.fib_entries_rows.specs.declared.gateway.Gateway.{Gateway}
+use Rattle.fib_entries_rows.specs.Rows.{Row}
+use Rattle.fib_entries_rows.proofs.Departing.{unused_but}
+use Rattle.fib_entries_rows.proofs.Gateways.{IsGained, derived_source, gained_pairs, gained_there, gained_new, gained_chosen, gateway_holders, gateway_kept, gateway_looped, gateway_marked, gateway_met, gateway_targets, gateway_touched, not_derived, pair_counted, pair_uncounted}
 use Rattle.fib_entries.proofs.Growing.{IsGrown, size_more}
-use Rattle.fib_entries.proofs.HopEnds.{ends_others_but}
-use Rattle.fib_entries.proofs.LeafRows.{entry_own, entry_was}
-use Rattle.fib_entries.proofs.Leafing.{base_beside, chosen_same, entry_of_pair, from_route, is_not, late_attached, late_led, late_led_before, near_beside, not_it, only_one, part_cases, part_edit, part_host, part_not, routes_beside, unlooped_before}
-use Rattle.fib_entries.proofs.LeafSizes.{HasEnd, end_moved, ends_by, plain_targets}
-use Rattle.fib_entries.proofs.Listing.{chosen_before, chosen_after, counted_none, counted_own, own_after, own_before, own_touched, source_of_route}
-use Rattle.fib_entries.proofs.Owning.{owned_all, owned_list, owned_some}
-use Rattle.fib_entries.proofs.PartRows.{row_by, no_row, entry_beside, rank_beside, stands_part, touched_inside, moved_inside}
-use Rattle.fib_entries.proofs.Placing.{gap_removed, size_gone}
-use Rattle.fib_entries.proofs.Putting.{paired_from, paired_names, paired_ordered, paired_there}
-use Rattle.fib_entries.proofs.Ready.{clear_alone, clear_far, rows_apart}
-use Rattle.fib_entries.proofs.Settling.{counted_by}
-use Rattle.fib_entries.proofs.Sharing.{hop_from, led_but, path_there}
-use Rattle.fib_entries.proofs.SparePairs.{lost_list, other_real, spare_cases}
-use Rattle.fib_entries.proofs.Using.{once, unit_same, counted_given, given_stays}
+use Rattle.fib_entries_rows.proofs.HopEnds.{ends_others_but}
+use Rattle.fib_entries_rows.proofs.LeafRows.{entry_own, entry_was}
+use Rattle.fib_entries_rows.proofs.Leafing.{base_beside, chosen_same, entry_of_pair, from_route, is_not, late_attached, late_led, late_led_before, near_beside, not_it, only_one, part_cases, part_edit, part_host, part_not, routes_beside, unlooped_before}
+use Rattle.fib_entries_rows.proofs.LeafSizes.{HasEnd, end_moved, ends_by, plain_targets}
+use Rattle.fib_entries_rows.proofs.Listing.{chosen_before, chosen_after, counted_none, counted_own, own_after, own_before, own_touched, source_of_route}
+use Rattle.fib_entries_rows.proofs.Owning.{owned_all, owned_list, owned_some}
+use Rattle.fib_entries_rows.proofs.PartRows.{row_by, no_row, entry_beside, rank_beside, stands_part, touched_inside, moved_inside}
+use Rattle.fib_entries_rows.proofs.Placing.{gap_removed, size_gone}
+use Rattle.fib_entries_rows.proofs.Putting.{paired_from, paired_names, paired_ordered, paired_there}
+use Rattle.fib_entries_rows.proofs.Ready.{clear_alone, clear_far, rows_apart}
+use Rattle.fib_entries_rows.proofs.Settling.{counted_by}
+use Rattle.fib_entries_rows.proofs.Sharing.{hop_from, led_but, path_there}
+use Rattle.fib_entries_rows.proofs.SparePairs.{lost_list, other_real, spare_cases}
+use Rattle.fib_entries_rows.proofs.Using.{once, unit_same, counted_given, given_stays}
 use Rattle.fib_entries.proofs.WithHost.{list_hop}
-use Rattle.fib_entries.proofs.Withdrawing.{order_at, names_gone, ordered_gone, but_for, row_was}
+use Rattle.fib_entries_rows.proofs.Withdrawing.{order_at, names_gone, ordered_gone, but_for, row_was}
 
 -- the gateway's row isn't the prefix's, to which nothing leads
 pub spare_other : (rows : List Row) (lists : List PathKept) (T : Tables) (p : Prefix) (source : FibSource) (place id : ℕ) (old : List Path) (g : Gateway) → IsAscending (map prefix_of rows) → IsLosing rows lists T p source place id old g → p ≢ host g.addr

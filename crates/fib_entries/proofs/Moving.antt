@@ -4,24 +4,24 @@ use Rattle.std.specs.Prelude.{Contains, is_none}
 use Rattle.std.proofs.lemmas.Bool.{false≢true}
 use Rattle.std.proofs.lemmas.Bool.Decides.{Decides-eqb}
 use Rattle.std.proofs.lemmas.List.Elements.{Contains-append_left, Contains-append_right, Contains-append_cases}
-use Rattle.fib_list.proofs.Lists.{Contains-nil, Contains-flat_map}
+use Rattle.fib_base_list.proofs.Lists.{Contains-nil, Contains-flat_map}
 use Rattle.fib_reach.specs.Walks.{AllDiffer}
-use Rattle.fib_list.proofs.Booleans.{and_both}
+use Rattle.fib_base_list.proofs.Booleans.{and_both}
 use Rattle.fib_addr.specs.Prefixes.{Prefix, same_prefix}
 use Rattle.fib_addr.proofs.PrefixLaws.{same_prefix-Decides}
 use Rattle.fib_cover.specs.Covers.{IsAscending}
 use Rattle.fib_resolve.proofs.Covering.{filter_from}
-use Rattle.fib_changes.proofs.Edits.{in_cases}
-use Rattle.fib_changes.proofs.SamePairs.{map_in, map_from, flat_map_from}
-use Rattle.fib_interned.proofs.Finding.{some_is, none_some}
-use Rattle.fib_entries.specs.Rows.{Row}
-use Rattle.fib_entries.specs.declared.changes.Moved.{Moved}
-use Rattle.fib_entries.specs.Known.{prefix_of, row_of, rank_of, rank_in}
-use Rattle.fib_entries.specs.Changes.{AreMoved, prefix_moved}
-use Rattle.fib_entries.specs.inner.Compare.{moved_one, moved_new}
-use Rattle.fib_entries.proofs.Anew.{filter_differ}
-use Rattle.fib_entries.proofs.Standing.{row_there, find_missed}
-use Rattle.fib_entries.proofs.Touches.{ascending_differ, append_differ}
+use Rattle.fib_resolve_changes.proofs.Edits.{in_cases}
+use Rattle.fib_resolve_changes.proofs.SamePairs.{map_in, map_from, flat_map_from}
+use Rattle.fib_base_interned.proofs.Finding.{some_is, none_some}
+use Rattle.fib_entries_rows.specs.Rows.{Row}
+use Rattle.fib_entries_rows.specs.declared.changes.Moved.{Moved}
+use Rattle.fib_entries_rows.specs.Known.{prefix_of, row_of, rank_of, rank_in}
+use Rattle.fib_entries_rows.specs.Changes.{AreMoved, prefix_moved}
+use Rattle.fib_entries_rows.specs.inner.Compare.{moved_one, moved_new}
+use Rattle.fib_entries_rows.proofs.Anew.{filter_differ}
+use Rattle.fib_entries_rows.proofs.Standing.{row_there, find_missed}
+use Rattle.fib_entries_rows.proofs.Touches.{ascending_differ, append_differ}
 
 pub more_moved : (f : Prefix → List Moved) (xs : List Prefix) (old out new : List Moved) (i : ℕ) (x : Prefix) → slice_get xs i ≡ Some x → out ≡ old ++ flat_map f (take i xs) → new ≡ out ++ f x → new ≡ old ++ flat_map f (take (i + 1) xs)
 more_moved f xs old out new i x at is made =

@@ -11,29 +11,29 @@ use Rattle.fib_resolve.specs.declared.types.FibSource.TheVariants as sources
 use Rattle.fib_resolve.specs.declared.types.Path.{Path}
 use Rattle.fib_resolve.specs.declared.types.PathKind.TheVariants as kinds
 use Rattle.fib_resolve.specs.declared.types.Tables.{Tables}
-use Rattle.fib_changes.proofs.SamePairs.{map_in, map_from}
-use Rattle.fib_interned.proofs.Finding.{some_is}
-use Rattle.fib_entries.specs.Known.{PathKept, prefix_of}
-use Rattle.fib_entries.specs.Rows.{Row}
-use Rattle.fib_entries.specs.declared.changes.Followed.{Followed}
-use Rattle.fib_entries.specs.declared.ends.News.{News}
-use Rattle.fib_entries.specs.declared.ends.News.TheVariants as news
-use Rattle.fib_entries.specs.inner.Coming.{IsPlaced, HasCome}
-use Rattle.fib_entries.specs.inner.Ends.{is_old, is_old_row, renewed_row}
-use Rattle.fib_entries.specs.inner.Fields.{AreFields, Index, IsForgotten, IsIndexed, IsNoted, are_several}
-use Rattle.fib_entries.specs.inner.Going.{IsWithdrawn}
-use Rattle.fib_entries.specs.inner.Leaf.{goals_of, plain_own}
+use Rattle.fib_resolve_changes.proofs.SamePairs.{map_in, map_from}
+use Rattle.fib_base_interned.proofs.Finding.{some_is}
+use Rattle.fib_entries_rows.specs.Known.{PathKept, prefix_of}
+use Rattle.fib_entries_rows.specs.Rows.{Row}
+use Rattle.fib_entries_rows.specs.declared.changes.Followed.{Followed}
+use Rattle.fib_entries_rows.specs.declared.ends.News.{News}
+use Rattle.fib_entries_rows.specs.declared.ends.News.TheVariants as news
+use Rattle.fib_entries_rows.specs.inner.Coming.{IsPlaced, HasCome}
+use Rattle.fib_entries_rows.specs.inner.Ends.{is_old, is_old_row, renewed_row}
+use Rattle.fib_entries_rows.specs.inner.Fields.{AreFields, Index, IsForgotten, IsIndexed, IsNoted, are_several}
+use Rattle.fib_entries_rows.specs.inner.Going.{IsWithdrawn}
+use Rattle.fib_entries_rows.specs.inner.Leaf.{goals_of, plain_own}
 use Rattle.fib_entries.specs.inner.Near.{near_list, IsNearGoing}
-use Rattle.fib_entries.specs.inner.Plies.{IsGap}
-use Rattle.fib_entries.proofs.Arriving.{fields_came, mid_own, ordered_came, row_from, set_back, with_it}
+use Rattle.fib_entries_rows.specs.inner.Plies.{IsGap}
+use Rattle.fib_entries_rows.proofs.Arriving.{fields_came, mid_own, ordered_came, row_from, set_back, with_it}
 use Rattle.fib_entries.proofs.EndNews.{not_other}
-use Rattle.fib_entries.proofs.EndRows.{ascending_left}
-use Rattle.fib_entries.proofs.Exits.{exit_alike, fields_with, in_alike, in_index, in_more, indexed_each, indexed_less, indexed_more}
+use Rattle.fib_entries_rows.proofs.EndRows.{ascending_left}
+use Rattle.fib_entries_rows.proofs.Exits.{exit_alike, fields_with, in_alike, in_index, in_more, indexed_each, indexed_less, indexed_more}
 use Rattle.fib_entries.proofs.NearRows.{olds, olds_from, olds_in}
-use Rattle.fib_entries.proofs.PartRows.{row_by}
-use Rattle.fib_entries.proofs.Placing.{gap_absent, get_map, same_order}
-use Rattle.fib_entries.proofs.Renewing.{fields_renewed}
-use Rattle.fib_entries.proofs.Withdrawing.{fields_gone, indexed_gone, row_left}
+use Rattle.fib_entries_rows.proofs.PartRows.{row_by}
+use Rattle.fib_entries_rows.proofs.Placing.{gap_absent, get_map, same_order}
+use Rattle.fib_entries_rows.proofs.Renewing.{fields_renewed}
+use Rattle.fib_entries_rows.proofs.Withdrawing.{fields_gone, indexed_gone, row_left}
 
 -- the host's row came
 module _ (rows placed : List Row) (lists later : List PathKept) (T : Tables) (i a place : ℕ) (r : IsPlaced rows placed lists later place (host a) (near_list i a) (plain_own T sources.Adjacency (near_list i a) 0)) (asc : IsAscending (map prefix_of rows)) (gap : IsGap (map prefix_of rows) place (host a)) where

@@ -1,7 +1,7 @@
 -- What stays the same where one neighbor comes or goes, and its host with it, to which nothing leads.
 use Rattle.std.proofs.Common.{◌≡◌, ◌≢◌, ℕ, ◌<◌, List, [], ◌∷◌, map, Some, ◌⊎◌, inl, inr, sym, ◌∙◌, ap, subst, ◌↔◌}
 use Rattle.std.specs.Prelude.{Contains}
-use Rattle.fib_list.proofs.Lists.{either}
+use Rattle.fib_base_list.proofs.Lists.{either}
 use Rattle.fib_addr.specs.Prefixes.{Prefix, IsPrefix, host, same_prefix}
 use Rattle.fib_addr.proofs.PrefixLaws.{same_prefix-Decides}
 use Rattle.fib_resolve.specs.Aims.{marked_list}
@@ -14,19 +14,19 @@ use Rattle.fib_resolve.specs.Touched.{is_touched}
 use Rattle.fib_resolve.specs.declared.types.Path.{Path}
 use Rattle.fib_resolve.specs.declared.types.PathKind.TheVariants as kinds
 use Rattle.fib_resolve.specs.declared.types.Tables.{Tables}
-use Rattle.fib_changes.specs.Differ.{Differ}
-use Rattle.fib_changes.specs.Ranks.{Falls}
-use Rattle.fib_changes.specs.Sources.{SameEntry}
-use Rattle.fib_changes.specs.declared.change.Change.TheVariants as changes
-use Rattle.fib_changes.proofs.Cycles.{path_edge}
-use Rattle.fib_changes.proofs.Targets.{edge_entry}
-use Rattle.fib_entries.specs.Known.{PathKept, content_of, ArePairs, IsRow, holders, kind_met}
-use Rattle.fib_entries.specs.Rows.{Row}
-use Rattle.fib_entries.specs.declared.ends.News.TheVariants as news
-use Rattle.fib_entries.specs.inner.Ends.{is_old_row, renewed_row}
-use Rattle.fib_entries.specs.inner.Leaf.{IsButFor}
+use Rattle.fib_resolve_changes.specs.Differ.{Differ}
+use Rattle.fib_resolve_changes.specs.Ranks.{Falls}
+use Rattle.fib_resolve_changes.specs.Sources.{SameEntry}
+use Rattle.fib_resolve_changes.specs.declared.change.Change.TheVariants as changes
+use Rattle.fib_resolve_changes.proofs.Cycles.{path_edge}
+use Rattle.fib_resolve_changes.proofs.Targets.{edge_entry}
+use Rattle.fib_entries_rows.specs.Known.{PathKept, content_of, ArePairs, IsRow, holders, kind_met}
+use Rattle.fib_entries_rows.specs.Rows.{Row}
+use Rattle.fib_entries_rows.specs.declared.ends.News.TheVariants as news
+use Rattle.fib_entries_rows.specs.inner.Ends.{is_old_row, renewed_row}
+use Rattle.fib_entries_rows.specs.inner.Leaf.{IsButFor}
 use Rattle.fib_entries.proofs.HopLaws.{IsHopEdit, hop_chosen, hop_entries, hop_entry, hop_falls, hop_row, hop_targets, hop_touched}
-use Rattle.fib_entries.proofs.Leafing.{is_not}
+use Rattle.fib_entries_rows.proofs.Leafing.{is_not}
 
 -- the neighbor alone can differ, and in one of the tables its host is no entry; nothing goes on from it
 pub record IsNearEdit (S T : Tables) (i a : ℕ) : Type 0 where

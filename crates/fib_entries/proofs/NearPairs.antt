@@ -3,7 +3,7 @@ use Rattle.std.proofs.Common.{arith, ◌≡◌, ℕ, ◌+◌, Bool, true, false,
 use Rattle.std.specs.Prelude.{Contains, IsSome, is_some, flat_map}
 use Rattle.std.proofs.lemmas.Bool.{cases_eq, false≢true}
 use Rattle.std.proofs.lemmas.Bool.Decides.{Decides-eqb}
-use Rattle.fib_list.proofs.Lists.{either, Contains-nil}
+use Rattle.fib_base_list.proofs.Lists.{either, Contains-nil}
 use Rattle.fib_addr.specs.Prefixes.{host, same_prefix}
 use Rattle.fib_resolve.specs.Keys.{source_rank}
 use Rattle.fib_resolve.specs.Loops.{targets, kind_targets}
@@ -19,27 +19,27 @@ use Rattle.fib_resolve.specs.declared.types.PathKind.TheVariants as kinds
 use Rattle.fib_resolve.specs.declared.types.Tables.{Tables}
 use Rattle.fib_resolve.proofs.Covering.{attached_by_chosen}
 use Rattle.fib_resolve.proofs.Touching.{best_of, BestOf}
-use Rattle.fib_changes.specs.Differ.{Differ}
-use Rattle.fib_changes.specs.Sources.{HasNeighbor}
-use Rattle.fib_changes.specs.declared.change.Change.TheVariants as changes
-use Rattle.fib_changes.proofs.SamePairs.{Origin, origin, from_origin, base, neighbor, derived, near_from, derived_host}
-use Rattle.fib_interned.proofs.Finding.{contains_at, none_some}
-use Rattle.fib_entries.specs.Known.{Known, ArePairs, StandsFor, holders, prefix_of}
+use Rattle.fib_resolve_changes.specs.Differ.{Differ}
+use Rattle.fib_resolve_changes.specs.Sources.{HasNeighbor}
+use Rattle.fib_resolve_changes.specs.declared.change.Change.TheVariants as changes
+use Rattle.fib_resolve_changes.proofs.SamePairs.{Origin, origin, from_origin, base, neighbor, derived, near_from, derived_host}
+use Rattle.fib_base_interned.proofs.Finding.{contains_at, none_some}
+use Rattle.fib_entries_rows.specs.Known.{Known, ArePairs, StandsFor, holders, prefix_of}
 use Rattle.fib_entries.specs.inner.Near.{near_list, IsNearComing, IsNearGoing}
-use Rattle.fib_entries.proofs.Counting.{holders_step}
+use Rattle.fib_entries_rows.proofs.Counting.{holders_step}
 use Rattle.fib_entries.proofs.Covering.{cover_found}
-use Rattle.fib_entries.proofs.Ending.{IsSameBase, caught_base, attached_alike, hops_alike}
+use Rattle.fib_entries_rows.proofs.Ending.{IsSameBase, caught_base, attached_alike, hops_alike}
 use Rattle.fib_entries.proofs.EndNews.{near_there, neighbor_of, derived_not, other_neighbors, real_by}
 use Rattle.fib_entries.proofs.HopLaws.{near_base}
-use Rattle.fib_entries.proofs.Leafing.{entry_of_pair, host_is, near_half, pair_at}
+use Rattle.fib_entries_rows.proofs.Leafing.{entry_of_pair, host_is, near_half, pair_at}
 use Rattle.fib_entries.proofs.LedPairs.{hop_pair, near_is, near_in}
 use Rattle.fib_entries.proofs.NearLaws.{IsNearEdit}
-use Rattle.fib_entries.proofs.Owning.{owned_all, owned_there}
+use Rattle.fib_entries_rows.proofs.Owning.{owned_all, owned_there}
 use Rattle.fib_entries.proofs.PartCounts.{host_counted, host_uncounted}
-use Rattle.fib_entries.proofs.Placing.{gap_absent}
-use Rattle.fib_entries.proofs.Standing.{first_chosen}
-use Rattle.fib_entries.proofs.Telling.{from_pair}
-use Rattle.fib_entries.proofs.Using.{once}
+use Rattle.fib_entries_rows.proofs.Placing.{gap_absent}
+use Rattle.fib_entries_rows.proofs.Standing.{first_chosen}
+use Rattle.fib_entries_rows.proofs.Telling.{from_pair}
+use Rattle.fib_entries_rows.proofs.Using.{once}
 use Rattle.fib_entries.proofs.WithHost.{head_is, no_list}
 
 -- the second tables have the pair, and none else at its host; the first have none there

@@ -5,7 +5,7 @@ use Rattle.std.specs.List.{list_any, remove}
 use Rattle.std.specs.Set.{is_member}
 use Rattle.std.proofs.lemmas.Bool.{false≢true, cases_lt}
 use Rattle.std.proofs.lemmas.Bool.Decides.{Decides-eqb}
-use Rattle.fib_list.proofs.Lists.{either, each-weaker, Contains-nil}
+use Rattle.fib_base_list.proofs.Lists.{either, each-weaker, Contains-nil}
 use Rattle.fib_reach.specs.Walks.{AllDiffer}
 use Rattle.fib_addr.specs.Prefixes.{Prefix, IsPrefix, host, same_prefix}
 use Rattle.fib_addr.proofs.PrefixLaws.{same_prefix-Decides}
@@ -23,43 +23,43 @@ use Rattle.fib_resolve.specs.declared.types.Tables.{Tables}
 use Rattle.fib_resolve.proofs.Covering.{filter_in, filter_from}
 use Rattle.fib_resolve.proofs.OneList.{each-itself}
 use Rattle.fib_resolve.proofs.TouchedEntries.{touched_effective}
-use Rattle.fib_changes.specs.Differ.{Differ}
-use Rattle.fib_changes.specs.declared.change.Change.TheVariants as changes
-use Rattle.fib_changes.proofs.Edits.{in_cases, in_front, in_rest}
-use Rattle.fib_changes.proofs.SamePairs.{map_in, map_from}
-use Rattle.fib_interned.specs.Interned.{AreInterned}
-use Rattle.fib_interned.proofs.Finding.{contains_at}
-use Rattle.fib_entries.specs.Known.{Known, content_of, prefix_of, rank_of, rank_in, IsRow, StandsFor, holders, kind_met}
-use Rattle.fib_entries.specs.Changes.{AreTouched, AreMoved}
-use Rattle.fib_entries.specs.Rows.{Row}
-use Rattle.fib_entries.specs.declared.changes.Followed.{Followed}
-use Rattle.fib_entries.specs.declared.ends.News.{News}
-use Rattle.fib_entries.specs.declared.ends.News.TheVariants as news
-use Rattle.fib_entries.specs.inner.Coming.{IsPlaced, blank_row, with_pairs}
-use Rattle.fib_entries.specs.inner.Ends.{is_old, is_old_row, renewed_row}
-use Rattle.fib_entries.specs.inner.Fields.{AreCounted}
-use Rattle.fib_entries.specs.inner.Going.{IsWithdrawn}
-use Rattle.fib_entries.specs.inner.Leaf.{IsButFor, IsFollowed, goals_of, moved_at, plain_own}
+use Rattle.fib_resolve_changes.specs.Differ.{Differ}
+use Rattle.fib_resolve_changes.specs.declared.change.Change.TheVariants as changes
+use Rattle.fib_resolve_changes.proofs.Edits.{in_cases, in_front, in_rest}
+use Rattle.fib_resolve_changes.proofs.SamePairs.{map_in, map_from}
+use Rattle.fib_base_interned.specs.Interned.{AreInterned}
+use Rattle.fib_base_interned.proofs.Finding.{contains_at}
+use Rattle.fib_entries_rows.specs.Known.{Known, content_of, prefix_of, rank_of, rank_in, IsRow, StandsFor, holders, kind_met}
+use Rattle.fib_entries_rows.specs.Changes.{AreTouched, AreMoved}
+use Rattle.fib_entries_rows.specs.Rows.{Row}
+use Rattle.fib_entries_rows.specs.declared.changes.Followed.{Followed}
+use Rattle.fib_entries_rows.specs.declared.ends.News.{News}
+use Rattle.fib_entries_rows.specs.declared.ends.News.TheVariants as news
+use Rattle.fib_entries_rows.specs.inner.Coming.{IsPlaced, blank_row, with_pairs}
+use Rattle.fib_entries_rows.specs.inner.Ends.{is_old, is_old_row, renewed_row}
+use Rattle.fib_entries_rows.specs.inner.Fields.{AreCounted}
+use Rattle.fib_entries_rows.specs.inner.Going.{IsWithdrawn}
+use Rattle.fib_entries_rows.specs.inner.Leaf.{IsButFor, IsFollowed, goals_of, moved_at, plain_own}
 use Rattle.fib_entries.specs.inner.Near.{near_list, are_some, are_more, IsNearComing, IsNearGoing}
-use Rattle.fib_entries.specs.inner.Plies.{own_size, entry_at, entry_before, before_of, IsGap}
-use Rattle.fib_entries.proofs.Arriving.{mid_own, with_it, there_came, row_from, ordered_came}
+use Rattle.fib_entries_rows.specs.inner.Plies.{own_size, entry_at, entry_before, before_of, IsGap}
+use Rattle.fib_entries_rows.proofs.Arriving.{mid_own, with_it, there_came, row_from, ordered_came}
 use Rattle.fib_entries.proofs.EndNews.{not_other, real_by}
-use Rattle.fib_entries.proofs.EndRows.{ascending_left}
-use Rattle.fib_entries.proofs.Hosts.{came_touched, went_touched}
-use Rattle.fib_entries.proofs.Leafing.{is_not, only_one}
-use Rattle.fib_entries.proofs.LeafSizes.{adjacency_with}
+use Rattle.fib_entries_rows.proofs.EndRows.{ascending_left}
+use Rattle.fib_entries_rows.proofs.Hosts.{came_touched, went_touched}
+use Rattle.fib_entries_rows.proofs.Leafing.{is_not, only_one}
+use Rattle.fib_entries_rows.proofs.LeafSizes.{adjacency_with}
 use Rattle.fib_entries.proofs.LedPairs.{hop_pair}
 use Rattle.fib_entries.proofs.NearLaws.{IsNearEdit, near_chosen, near_entry, near_entries, near_falls, near_led, near_row, near_targets, near_touched, row_relinked}
 use Rattle.fib_entries.proofs.NearPairs.{IsNearMore, more_chosen, more_entry, more_holders, near_more, coming_other, coming_edit, near_less, going_other, going_edit}
 use Rattle.fib_entries.proofs.NearSizes.{all_ends, ends_row, near_size, own_end, shared_is}
-use Rattle.fib_entries.proofs.PartRows.{row_by, no_row}
-use Rattle.fib_entries.proofs.Placing.{gap_absent, gap_removed, get_map, size_came, size_gone}
-use Rattle.fib_entries.proofs.Putting.{same_ranks}
-use Rattle.fib_entries.proofs.Renewing.{rank_renewed, renewed_names, row_kept}
-use Rattle.fib_entries.proofs.Settling.{counted_by}
-use Rattle.fib_entries.proofs.Touches.{ascending_differ}
-use Rattle.fib_entries.proofs.Using.{once, recounted, counted_taken, counted_given, taken_stays, given_stays, content_taken}
-use Rattle.fib_entries.proofs.Withdrawing.{names_gone, ordered_gone, but_for, row_left, row_was}
+use Rattle.fib_entries_rows.proofs.PartRows.{row_by, no_row}
+use Rattle.fib_entries_rows.proofs.Placing.{gap_absent, gap_removed, get_map, size_came, size_gone}
+use Rattle.fib_entries_rows.proofs.Putting.{same_ranks}
+use Rattle.fib_entries_rows.proofs.Renewing.{rank_renewed, renewed_names, row_kept}
+use Rattle.fib_entries_rows.proofs.Settling.{counted_by}
+use Rattle.fib_entries_rows.proofs.Touches.{ascending_differ}
+use Rattle.fib_entries_rows.proofs.Using.{once, recounted, counted_taken, counted_given, taken_stays, given_stays, content_taken}
+use Rattle.fib_entries_rows.proofs.Withdrawing.{names_gone, ordered_gone, but_for, row_left, row_was}
 
 -- the prefixes of the rows that the news makes others
 abbrev pub olds : News → List Row → List Prefix

@@ -4,8 +4,8 @@ use Rattle.std.specs.Prelude.{Contains, flat_map}
 use Rattle.std.specs.Set.{is_member, unique_keys}
 use Rattle.std.proofs.lemmas.Bool.Decides.{Decides-eqb}
 use Rattle.std.proofs.lemmas.Map.Views.{Contains-from_any, list_any-from_Contains}
-use Rattle.fib_list.proofs.Lists.{either, Contains-nil, Contains-flat_map}
-use Rattle.fib_list.proofs.Booleans.{and_both}
+use Rattle.fib_base_list.proofs.Lists.{either, Contains-nil, Contains-flat_map}
+use Rattle.fib_base_list.proofs.Booleans.{and_both}
 use Rattle.fib_addr.specs.Prefixes.{Prefix, IsPrefix, host, same_prefix}
 use Rattle.fib_addr.proofs.PrefixLaws.{same_prefix-Decides}
 use Rattle.fib_cover.specs.Covers.{ArePrefixes, IsAscending}
@@ -21,19 +21,19 @@ use Rattle.fib_resolve.specs.declared.types.Path.{Path}
 use Rattle.fib_resolve.specs.declared.types.PathKind.{PathKind}
 use Rattle.fib_resolve.specs.declared.types.PathKind.TheVariants as kinds
 use Rattle.fib_resolve.specs.declared.types.Tables.{Tables}
-use Rattle.fib_changes.proofs.CauseLaws.{any_from}
-use Rattle.fib_changes.proofs.Edits.{any_in, in_cases, in_front, in_rest}
-use Rattle.fib_changes.proofs.SamePairs.{map_in, map_from, flat_map_from}
-use Rattle.fib_entries.specs.Known.{Known, StandsFor, prefix_of}
-use Rattle.fib_entries.specs.Rows.{Row}
-use Rattle.fib_entries.specs.declared.ends.News.TheVariants as news
-use Rattle.fib_entries.specs.inner.Ends.{aim_at, has_mac, is_old, is_old_row}
+use Rattle.fib_resolve_changes.proofs.CauseLaws.{any_from}
+use Rattle.fib_resolve_changes.proofs.Edits.{any_in, in_cases, in_front, in_rest}
+use Rattle.fib_resolve_changes.proofs.SamePairs.{map_in, map_from, flat_map_from}
+use Rattle.fib_entries_rows.specs.Known.{Known, StandsFor, prefix_of}
+use Rattle.fib_entries_rows.specs.Rows.{Row}
+use Rattle.fib_entries_rows.specs.declared.ends.News.TheVariants as news
+use Rattle.fib_entries_rows.specs.inner.Ends.{aim_at, has_mac, is_old, is_old_row}
 use Rattle.fib_entries.specs.inner.Near.{near_list}
-use Rattle.fib_entries.specs.inner.Plies.{own_size, before_of, IsGap}
+use Rattle.fib_entries_rows.specs.inner.Plies.{own_size, before_of, IsGap}
 use Rattle.fib_entries.proofs.Growing.{size_by}
-use Rattle.fib_entries.proofs.HopEnds.{end_of}
-use Rattle.fib_entries.proofs.Leafing.{is_not}
-use Rattle.fib_entries.proofs.LeafSizes.{adjacency_equiv, adjacency_is, adjacency_with, ends_by, lengths_same}
+use Rattle.fib_entries_rows.proofs.HopEnds.{end_of}
+use Rattle.fib_entries_rows.proofs.Leafing.{is_not}
+use Rattle.fib_entries_rows.proofs.LeafSizes.{adjacency_equiv, adjacency_is, adjacency_with, ends_by, lengths_same}
 use Rattle.fib_entries.proofs.NearPairs.{IsNearMore, more_chosen, more_entry}
 
 abbrev pub all_ends : Tables → List Adjacency

@@ -4,7 +4,7 @@ use Rattle.std.specs.Prelude.{Contains, min, option_map}
 use Rattle.std.specs.List.{insert, list_any}
 use Rattle.std.specs.Set.{is_member}
 use Rattle.std.proofs.lemmas.Bool.{false≢true}
-use Rattle.fib_list.proofs.Lists.{either, Contains-nil}
+use Rattle.fib_base_list.proofs.Lists.{either, Contains-nil}
 use Rattle.fib_addr.specs.Prefixes.{Prefix, IsPrefix, contains, host, same_prefix}
 use Rattle.fib_addr.proofs.PrefixLaws.{same_prefix-Decides}
 use Rattle.fib_cover.specs.Covers.{IsAscending}
@@ -21,32 +21,32 @@ use Rattle.fib_resolve.specs.declared.types.PathKind.TheVariants as kinds
 use Rattle.fib_resolve.specs.declared.types.Tables.{Tables}
 use Rattle.fib_resolve.proofs.LoopTests.{looped-Decides}
 use Rattle.fib_resolve.proofs.PairLaws.{cover_at_host}
-use Rattle.fib_changes.proofs.Edits.{any_in, in_cases, in_front}
-use Rattle.fib_changes.proofs.SamePairs.{flat_map_from, map_from, map_in}
-use Rattle.fib_interned.specs.Interned.{AreInterned, Takes, kept_of}
-use Rattle.fib_interned.proofs.Finding.{contains_at, some_is}
-use Rattle.fib_entries.specs.Known.{Known, PathKept, StandsFor, IsRow, ArePairs, content_of, holders, kind_met, prefix_of, rank_in, rank_of, row_of}
+use Rattle.fib_resolve_changes.proofs.Edits.{any_in, in_cases, in_front}
+use Rattle.fib_resolve_changes.proofs.SamePairs.{flat_map_from, map_from, map_in}
+use Rattle.fib_base_interned.specs.Interned.{AreInterned, Takes, kept_of}
+use Rattle.fib_base_interned.proofs.Finding.{contains_at, some_is}
+use Rattle.fib_entries_rows.specs.Known.{Known, PathKept, StandsFor, IsRow, ArePairs, content_of, holders, kind_met, prefix_of, rank_in, rank_of, row_of}
 use Rattle.fib_entries.specs.inner.Adopting.{ComesOver, IsBetween, IsKin, IsOpen, aimed, aimed_in, aimed_mark, cover_mark, drop_list, drop_mark, dropping, open_row, opened, with_dependants}
-use Rattle.fib_entries.specs.inner.Fields.{AreCounted}
-use Rattle.fib_entries.specs.inner.Plies.{before_of, entry_at, entry_before, own_size}
-use Rattle.fib_entries.specs.Rows.{Row}
+use Rattle.fib_entries_rows.specs.inner.Fields.{AreCounted}
+use Rattle.fib_entries_rows.specs.inner.Plies.{before_of, entry_at, entry_before, own_size}
+use Rattle.fib_entries_rows.specs.Rows.{Row}
 use Rattle.fib_entries.specs.declared.adopting.Gap.{Gap}
 use Rattle.fib_entries.specs.declared.adopting.Kin.{Kin}
 use Rattle.fib_entries.proofs.AdoptEdges.{open_falls, open_is_over, open_looped_list, open_marks, open_marks_over, open_marks_own, open_met_list, open_over_back, open_over_there, open_targets}
 use Rattle.fib_entries.proofs.AdoptLaws.{open_chosen_own, open_entries, open_holders, open_only, open_own, open_pairs, open_sound}
 use Rattle.fib_entries.proofs.AdoptSizes.{open_size}
-use Rattle.fib_entries.proofs.Leafing.{is_not, only_one}
-use Rattle.fib_entries.proofs.Linking.{member_in}
-use Rattle.fib_entries.proofs.Listing.{pair_of}
+use Rattle.fib_entries_rows.proofs.Leafing.{is_not, only_one}
+use Rattle.fib_entries_rows.proofs.Linking.{member_in}
+use Rattle.fib_entries_rows.proofs.Listing.{pair_of}
 use Rattle.fib_entries.proofs.Opening.{aimed_out, aimed_pairs, aimed_prefix, aimed_rank, aimed_there, named_opened, opened_from, ordered_opened, own_there, with_opened}
-use Rattle.fib_entries.proofs.PartRows.{no_row, pairs_kept, row_by}
-use Rattle.fib_entries.proofs.Placing.{gap_absent, size_came}
+use Rattle.fib_entries_rows.proofs.PartRows.{no_row, pairs_kept, row_by}
+use Rattle.fib_entries_rows.proofs.Placing.{gap_absent, size_came}
 use Rattle.fib_entries.proofs.Relent.{lent, lent_interned, lent_takes}
-use Rattle.fib_entries.proofs.Settling.{counted_by}
-use Rattle.fib_entries.proofs.Standing.{first_chosen}
-use Rattle.fib_entries.proofs.Telling.{kept_some}
+use Rattle.fib_entries_rows.proofs.Settling.{counted_by}
+use Rattle.fib_entries_rows.proofs.Standing.{first_chosen}
+use Rattle.fib_entries_rows.proofs.Telling.{kept_some}
 use Rattle.fib_entries.proofs.WithHost.{head_is}
-use Rattle.fib_entries.proofs.Using.{content_taken, counted_taken, once, recounted, taken_stays}
+use Rattle.fib_entries_rows.proofs.Using.{content_taken, counted_taken, once, recounted, taken_stays}
 
 grown : (u s o n : ℕ) → o ≡ min u (2 ^ 32 - 1) → s ≡ u + n → o + n < 2 ^ 32 - 1 → o + n ≡ min s (2 ^ 32 - 1)
 grown u s o n e f lt = omega (arith, e, f, lt)

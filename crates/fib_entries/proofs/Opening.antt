@@ -6,8 +6,8 @@ use Rattle.std.specs.Set.{is_member}
 use Rattle.std.proofs.lemmas.Bool.{false≢true}
 use Rattle.std.proofs.lemmas.List.Edits.{length-insert}
 use Rattle.std.proofs.lemmas.Bool.Decides.{Decides-eqb}
-use Rattle.fib_list.proofs.Booleans.{and_both}
-use Rattle.fib_list.proofs.Lists.{either, Contains-nil}
+use Rattle.fib_base_list.proofs.Booleans.{and_both}
+use Rattle.fib_base_list.proofs.Lists.{either, Contains-nil}
 use Rattle.fib_addr.specs.Prefixes.{Prefix, same_prefix, contains}
 use Rattle.fib_addr.proofs.PrefixLaws.{same_prefix-Decides}
 use Rattle.fib_cover.specs.Covers.{IsAscending}
@@ -15,24 +15,24 @@ use Rattle.fib_resolve.specs.declared.aims.Aim.{Aim}
 use Rattle.fib_resolve.specs.declared.aims.Aim.TheVariants as aims
 use Rattle.fib_resolve.specs.declared.aims.Marked.{Marked}
 use Rattle.fib_resolve.specs.declared.types.FibSource.{FibSource}
-use Rattle.fib_changes.proofs.Edits.{any_in, in_cases, in_front, in_rest}
-use Rattle.fib_changes.proofs.SamePairs.{map_from, map_in}
-use Rattle.fib_interned.proofs.Finding.{contains_at, get_set_other, get_set_there, none_some, some_is}
-use Rattle.fib_entries.specs.Known.{prefix_of, rank_in, rank_of, row_of}
+use Rattle.fib_resolve_changes.proofs.Edits.{any_in, in_cases, in_front, in_rest}
+use Rattle.fib_resolve_changes.proofs.SamePairs.{map_from, map_in}
+use Rattle.fib_base_interned.proofs.Finding.{contains_at, get_set_other, get_set_there, none_some, some_is}
+use Rattle.fib_entries_rows.specs.Known.{prefix_of, rank_in, rank_of, row_of}
 use Rattle.fib_entries.specs.inner.Adopting.{IsKin, aimed, aimed_in, aimed_mark, cover_mark, has_cover_mark, is_aimed_at, is_cover_mark, is_covered, is_covered_row, open_row, opened, with_dependants}
-use Rattle.fib_entries.specs.inner.Plies.{IsGap}
-use Rattle.fib_entries.specs.Rows.{Row}
+use Rattle.fib_entries_rows.specs.inner.Plies.{IsGap}
+use Rattle.fib_entries_rows.specs.Rows.{Row}
 use Rattle.fib_entries.specs.declared.adopting.Gap.{Gap}
 use Rattle.fib_entries.specs.declared.adopting.Kin.{Kin}
-use Rattle.fib_entries.proofs.Arriving.{gap_inside, ordered_with}
-use Rattle.fib_entries.proofs.Linking.{member_in, set_back, set_length, set_names}
-use Rattle.fib_entries.proofs.Looking.{at_place, one_place}
-use Rattle.fib_entries.proofs.Orders.{inserted_members}
-use Rattle.fib_entries.proofs.PartRows.{row_by}
-use Rattle.fib_entries.proofs.Placing.{gap_absent, insert_back, inserted_at, inserted_from, inserted_map, length_map}
-use Rattle.fib_entries.proofs.Settling.{set_from}
-use Rattle.fib_entries.proofs.Sharing.{each_true}
-use Rattle.fib_entries.proofs.Standing.{row_there}
+use Rattle.fib_entries_rows.proofs.Arriving.{gap_inside, ordered_with}
+use Rattle.fib_entries_rows.proofs.Linking.{member_in, set_back, set_length, set_names}
+use Rattle.fib_entries_rows.proofs.Looking.{at_place, one_place}
+use Rattle.fib_entries_rows.proofs.Orders.{inserted_members}
+use Rattle.fib_entries_rows.proofs.PartRows.{row_by}
+use Rattle.fib_entries_rows.proofs.Placing.{gap_absent, insert_back, inserted_at, inserted_from, inserted_map, length_map}
+use Rattle.fib_entries_rows.proofs.Settling.{set_from}
+use Rattle.fib_entries_rows.proofs.Sharing.{each_true}
+use Rattle.fib_entries_rows.proofs.Standing.{row_there}
 
 -- what stands before the place at which one comes
 pub inserted_low : {X : Type 0} (xs : List X) (k j : ℕ) (own : X) → j < k → k ≤ length xs → slice_get (insert xs k own) j ≡ slice_get xs j

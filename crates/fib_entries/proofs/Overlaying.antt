@@ -7,7 +7,7 @@ use Rattle.std.specs.Cmp.Lexicographic.{pointwise}
 use Rattle.std.proofs.lemmas.Bool.{false≢true}
 use Rattle.std.proofs.lemmas.Bool.Decides.{Decides-eqb}
 use Rattle.std.proofs.lemmas.List.Elements.{All-contains, All-from_recursion}
-use Rattle.fib_list.proofs.Lists.{either}
+use Rattle.fib_base_list.proofs.Lists.{either}
 use Rattle.fib_addr.specs.Prefixes.{Prefix, IsPrefix, same_prefix}
 use Rattle.fib_addr.proofs.PrefixLaws.{same_prefix-Decides}
 use Rattle.fib_cover.specs.Covers.{IsAscending}
@@ -22,29 +22,29 @@ use Rattle.fib_resolve.specs.declared.types.Neighbor.{Neighbor}
 use Rattle.fib_resolve.specs.declared.types.Path.{Path}
 use Rattle.fib_resolve.specs.declared.types.Tables.{Tables}
 use Rattle.fib_resolve.proofs.OneList.{source_by_rank}
-use Rattle.fib_changes.proofs.Edits.{in_cases, in_front, in_rest}
-use Rattle.fib_changes.proofs.SamePairs.{map_from, map_in}
-use Rattle.fib_interned.specs.Interned.{AreInterned, Takes}
-use Rattle.fib_interned.proofs.Finding.{contains_at, some_is}
-use Rattle.fib_entries.specs.Known.{Known, PathKept, content_of, prefix_of, rank_of, ArePairs, IsHeld, IsRow, StandsFor, holders, kind_met}
+use Rattle.fib_resolve_changes.proofs.Edits.{in_cases, in_front, in_rest}
+use Rattle.fib_resolve_changes.proofs.SamePairs.{map_from, map_in}
+use Rattle.fib_base_interned.specs.Interned.{AreInterned, Takes}
+use Rattle.fib_base_interned.proofs.Finding.{contains_at, some_is}
+use Rattle.fib_entries_rows.specs.Known.{Known, PathKept, content_of, prefix_of, rank_of, ArePairs, IsHeld, IsRow, StandsFor, holders, kind_met}
 use Rattle.fib_entries.specs.inner.Above.{IsUnder, doubled}
-use Rattle.fib_entries.specs.inner.Coming.{with_pairs}
-use Rattle.fib_entries.specs.inner.Fields.{AreCounted}
-use Rattle.fib_entries.specs.inner.Leaf.{IsFollowed, is_plain}
-use Rattle.fib_entries.specs.inner.Part.{IsPartKept}
-use Rattle.fib_entries.specs.Rows.{Row}
-use Rattle.fib_entries.specs.declared.changes.Followed.{Followed}
-use Rattle.fib_entries.proofs.Counting.{counts_some}
+use Rattle.fib_entries_rows.specs.inner.Coming.{with_pairs}
+use Rattle.fib_entries_rows.specs.inner.Fields.{AreCounted}
+use Rattle.fib_entries_rows.specs.inner.Leaf.{IsFollowed, is_plain}
+use Rattle.fib_entries_rows.specs.inner.Part.{IsPartKept}
+use Rattle.fib_entries_rows.specs.Rows.{Row}
+use Rattle.fib_entries_rows.specs.declared.changes.Followed.{Followed}
+use Rattle.fib_entries_rows.proofs.Counting.{counts_some}
 use Rattle.fib_entries.proofs.Doubled.{alike, entries_same, kept_before, looped_list, marks_list, met_list, quiet, sizes, touched_alike}
 use Rattle.fib_entries.proofs.Doubling.{IsBelow, over, over_holders, over_is, over_others, over_own, over_sound, over_targets}
-use Rattle.fib_entries.proofs.Leafing.{is_not}
-use Rattle.fib_entries.proofs.Listing.{pair_of}
-use Rattle.fib_entries.proofs.PartRows.{entries_are, rows_are}
-use Rattle.fib_entries.proofs.Putting.{paired_from, paired_names, paired_ranks}
-use Rattle.fib_entries.proofs.Settling.{counted_by}
-use Rattle.fib_entries.proofs.Standing.{first_chosen}
-use Rattle.fib_entries.proofs.Taking.{list_self}
-use Rattle.fib_entries.proofs.Using.{content_taken, counted_taken, once, recounted, taken_stays}
+use Rattle.fib_entries_rows.proofs.Leafing.{is_not}
+use Rattle.fib_entries_rows.proofs.Listing.{pair_of}
+use Rattle.fib_entries_rows.proofs.PartRows.{entries_are, rows_are}
+use Rattle.fib_entries_rows.proofs.Putting.{paired_from, paired_names, paired_ranks}
+use Rattle.fib_entries_rows.proofs.Settling.{counted_by}
+use Rattle.fib_entries_rows.proofs.Standing.{first_chosen}
+use Rattle.fib_entries_rows.proofs.Taking.{list_self}
+use Rattle.fib_entries_rows.proofs.Using.{content_taken, counted_taken, once, recounted, taken_stays}
 
 module _ (v : Known) (U : Tables) (p : Prefix) (source : FibSource) (place id : ℕ) (list : List Path) (k : StandsFor v U) (u : IsUnder v.rows v.lists p source place id) (content : content_of v.lists id ≡ Some list) (far : (n : Neighbor) → Contains U.neighbors n → n.addr < 2 ^ 32) where
   there : Contains v.rows u.row

@@ -1,7 +1,7 @@
 -- A route that came above the other lists of its prefix: what is known stands for the tables afterwards, and the fields fit together.
 use Rattle.std.proofs.Common.{arith, ◌≡◌, ◌≢◌, ℕ, zero, suc, ◌+◌, ◌-◌, ◌<◌, ◌≤◌, ◌^◌, true, false, ◌++◌, List, [], ◌∷◌, length, map, Option, Some, None, ◌⊎◌, inl, inr, refl, sym, ◌∙◌, ap, subst, ◌↔◌, slice_get}
 use Rattle.std.specs.Prelude.{Contains, IsSome, option_map, slice_set}
-use Rattle.fib_list.proofs.Lists.{either, Contains-nil}
+use Rattle.fib_base_list.proofs.Lists.{either, Contains-nil}
 use Rattle.fib_addr.specs.Prefixes.{Prefix}
 use Rattle.fib_cover.specs.Covers.{IsAscending}
 use Rattle.fib_resolve.specs.Edits.{paths_at}
@@ -16,49 +16,48 @@ use Rattle.fib_resolve.specs.declared.types.Tables.{Tables}
 use Rattle.fib_resolve.proofs.Touching.{untouched_pairs}
 use Rattle.std.proofs.lemmas.Bool.{false≢true, ltb-true}
 use Rattle.std.specs.Prelude.{nat_lt}
-use Rattle.fib_changes.specs.Differ.{Differ}
-use Rattle.fib_changes.specs.declared.change.Change.TheVariants as changes
-use Rattle.fib_changes.proofs.Edits.{in_cases, in_front, in_rest}
-use Rattle.fib_changes.proofs.SamePairs.{map_in}
-use Rattle.fib_interned.specs.Interned.{AreInterned, Gives, Takes, kept_of, users_in, users_of}
-use Rattle.fib_interned.proofs.Finding.{contains_at, get_set_there, none_some, some_is}
-use Rattle.fib_entries.specs.Known.{Known, PathKept, StandsFor, content_of, prefix_of, rank_in, rank_of}
+use Rattle.fib_resolve_changes.specs.Differ.{Differ}
+use Rattle.fib_resolve_changes.specs.declared.change.Change.TheVariants as changes
+use Rattle.fib_resolve_changes.proofs.Edits.{in_cases, in_front, in_rest}
+use Rattle.fib_resolve_changes.proofs.SamePairs.{map_in}
+use Rattle.fib_base_interned.specs.Interned.{AreInterned, Gives, Takes, kept_of, users_in, users_of}
+use Rattle.fib_base_interned.proofs.Finding.{contains_at, get_set_there, none_some, some_is}
+use Rattle.fib_entries_rows.specs.Known.{Known, PathKept, StandsFor, content_of, prefix_of, rank_in, rank_of}
 use Rattle.fib_entries.specs.inner.Above.{IsAbove, IsOver, IsPlanned, IsUnder, doubled}
-use Rattle.fib_entries.specs.inner.Building.{AreHeld}
-use Rattle.fib_entries.specs.inner.Coming.{with_pairs}
-use Rattle.fib_entries.specs.inner.Course.{IsCourse, made_of}
-use Rattle.fib_entries.specs.inner.Ends.{has_exit}
-use Rattle.fib_entries.specs.inner.Fields.{AreAmong, AreFields, AreNamed, Index, IsForgotten, IsIndexed, IsNoted, count_in, has_several}
-use Rattle.fib_entries.specs.inner.Gateway.{IsSeveral}
-use Rattle.fib_entries.specs.inner.Leaf.{AreReplaced, IsFollowed}
-use Rattle.fib_entries.specs.inner.Led.{IsReaching}
-use Rattle.fib_entries.specs.inner.Looping.{AreRelooped}
-use Rattle.fib_entries.specs.inner.Reaching.{HasPairs, HasReached, IsFitGone, IsFitLate, IsPut, IsUnseen, looped_own}
-use Rattle.fib_entries.specs.Rows.{Row}
+use Rattle.fib_entries_rows.specs.inner.Building.{AreHeld}
+use Rattle.fib_entries_rows.specs.inner.Coming.{with_pairs}
+use Rattle.fib_entries_rows.specs.inner.Course.{IsCourse, made_of}
+use Rattle.fib_entries_rows.specs.inner.Ends.{has_exit}
+use Rattle.fib_entries_rows.specs.inner.Fields.{AreAmong, AreFields, AreNamed, Index, IsForgotten, IsIndexed, IsNoted, count_in, has_several, IsSeveral}
+use Rattle.fib_entries_rows.specs.inner.Leaf.{AreReplaced, IsFollowed}
+use Rattle.fib_entries_rows.specs.inner.Led.{IsReaching}
+use Rattle.fib_entries_rows.specs.inner.Looping.{AreRelooped}
+use Rattle.fib_entries_rows.specs.inner.Reaching.{HasPairs, HasReached, IsFitGone, IsFitLate, IsRelisted, IsUnseen, looped_own}
+use Rattle.fib_entries_rows.specs.Rows.{Row}
 use Rattle.fib_entries.specs.declared.above.Above.{Above}
-use Rattle.fib_entries.specs.declared.changes.Followed.{Followed}
-use Rattle.fib_entries.specs.declared.hosting.Late.{Late}
-use Rattle.fib_entries.specs.declared.parting.Last.{Last}
-use Rattle.fib_entries.specs.declared.reaching.Course.{Course}
-use Rattle.fib_entries.specs.declared.replace.Own.{Own}
+use Rattle.fib_entries_rows.specs.declared.changes.Followed.{Followed}
+use Rattle.fib_entries_rows.specs.declared.hosting.Late.{Late}
+use Rattle.fib_entries_rows.specs.declared.parting.Last.{Last}
+use Rattle.fib_entries_rows.specs.declared.reaching.Course.{Course}
+use Rattle.fib_entries_rows.specs.declared.replace.Own.{Own}
 use Rattle.fib_entries.proofs.Doubling.{IsBelow, differ_over, over, over_paths}
-use Rattle.fib_entries.proofs.Exits.{IsIn, in_index, indexed_each}
+use Rattle.fib_entries_rows.proofs.Exits.{IsIn, in_index, indexed_each}
 use Rattle.fib_entries.proofs.GateFields.{several_more}
-use Rattle.fib_entries.proofs.Leafing.{near_beside}
+use Rattle.fib_entries_rows.proofs.Leafing.{near_beside}
 use Rattle.fib_entries.proofs.LedPairs.{led_touched, own_there}
 use Rattle.fib_entries.proofs.LedReach.{reach_best}
-use Rattle.fib_entries.proofs.Linking.{set_back}
-use Rattle.fib_entries.proofs.Listing.{pair_of}
-use Rattle.fib_entries.proofs.Naming.{named_held, once_more, some_content}
+use Rattle.fib_entries_rows.proofs.Linking.{set_back}
+use Rattle.fib_entries_rows.proofs.Listing.{pair_of}
+use Rattle.fib_entries_rows.proofs.Naming.{named_held, once_more, some_content}
 use Rattle.fib_entries.proofs.Overlaying.{below, over_followed, over_stands, with_row}
-use Rattle.fib_entries.proofs.PartRows.{row_by}
-use Rattle.fib_entries.proofs.Putting.{paired_from, paired_names, paired_ordered, paired_ranks, paired_there}
+use Rattle.fib_entries_rows.proofs.PartRows.{row_by}
+use Rattle.fib_entries_rows.proofs.Putting.{paired_from, paired_names, paired_ordered, paired_ranks, paired_there}
 use Rattle.fib_entries.proofs.ReachFields.{fields_reached}
 use Rattle.fib_entries.proofs.ReachedBy.{followed_reached}
 use Rattle.fib_entries.proofs.Relent.{given_kept, given_lent, lent, lent_contents, lent_interned, lent_takes, taken_lent}
-use Rattle.fib_entries.proofs.Sharing.{each_true}
-use Rattle.fib_entries.proofs.Telling.{kept_some}
-use Rattle.fib_entries.proofs.Using.{counted_taken, once, recounted, taken_stays}
+use Rattle.fib_entries_rows.proofs.Sharing.{each_true}
+use Rattle.fib_entries_rows.proofs.Telling.{kept_some}
+use Rattle.fib_entries_rows.proofs.Using.{counted_taken, once, recounted, taken_stays}
 
 pub heads_same : {X : Type 0} (x y : X) (xs ys : List X) → x ∷ xs ≡ y ∷ ys → x ≡ y
 heads_same x y xs ys is = (cc)

@@ -4,7 +4,7 @@ use Rattle.std.specs.Prelude.{Contains}
 use Rattle.std.specs.Cmp.Lexicographic.{pointwise}
 use Rattle.std.proofs.lemmas.Bool.{false≢true}
 use Rattle.std.proofs.lemmas.Bool.Decides.{Decides-eqb}
-use Rattle.fib_list.proofs.Lists.{either}
+use Rattle.fib_base_list.proofs.Lists.{either}
 use Rattle.fib_addr.specs.Prefixes.{Prefix, same_prefix, host}
 use Rattle.fib_addr.proofs.PrefixLaws.{same_prefix-Decides}
 use Rattle.fib_resolve.specs.Keys.{same_path}
@@ -12,9 +12,9 @@ use Rattle.fib_resolve.specs.Pairs.{pairs}
 use Rattle.fib_resolve.specs.declared.pairs.Pair.{Pair}
 use Rattle.fib_resolve.specs.declared.types.Path.{Path}
 use Rattle.fib_resolve.specs.declared.types.Tables.{Tables}
-use Rattle.fib_entries.specs.inner.Part.{in_part}
-use Rattle.fib_entries.proofs.Counting.{count_parts, one_counted, none_counted}
-use Rattle.fib_entries.proofs.Using.{once}
+use Rattle.fib_entries_rows.specs.inner.Part.{in_part}
+use Rattle.fib_entries_rows.proofs.Counting.{count_parts, one_counted, none_counted}
+use Rattle.fib_entries_rows.proofs.Using.{once}
 
 -- the part of a prefix and one host, and that of a prefix alone
 pub with_host : (p : Prefix) (a : ℕ) (e : Prefix) → in_part p (a ∷ []) e ≡ (same_prefix p e || same_prefix (host a) e)

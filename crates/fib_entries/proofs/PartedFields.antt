@@ -11,20 +11,20 @@ use Rattle.fib_resolve.specs.declared.types.FibSource.TheVariants as sources
 use Rattle.fib_resolve.specs.declared.types.Path.{Path}
 use Rattle.fib_resolve.specs.declared.types.PathKind.TheVariants as kinds
 use Rattle.fib_resolve.specs.declared.types.Tables.{Tables}
-use Rattle.fib_changes.proofs.SamePairs.{map_in}
-use Rattle.fib_interned.specs.Interned.{kept_of}
-use Rattle.fib_interned.proofs.Finding.{contains_at, some_is}
-use Rattle.fib_entries.specs.Known.{PathKept, content_of, prefix_of}
-use Rattle.fib_entries.specs.inner.Fields.{AreFields, Index, IsForgotten}
-use Rattle.fib_entries.specs.inner.Leaf.{goals_of, is_plain}
-use Rattle.fib_entries.specs.inner.Parting.{HasParted, IsParting}
-use Rattle.fib_entries.specs.declared.changes.Followed.{Followed}
-use Rattle.fib_entries.specs.declared.parting.Last.{Last}
-use Rattle.fib_entries.specs.Rows.{Row}
-use Rattle.fib_entries.proofs.Exits.{indexed_less}
-use Rattle.fib_entries.proofs.Naming.{some_content}
-use Rattle.fib_entries.proofs.PartRows.{row_by}
-use Rattle.fib_entries.proofs.Withdrawing.{ordered_gone, but_for, row_left, row_was, indexed_gone, fields_gone}
+use Rattle.fib_resolve_changes.proofs.SamePairs.{map_in}
+use Rattle.fib_base_interned.specs.Interned.{kept_of}
+use Rattle.fib_base_interned.proofs.Finding.{contains_at, some_is}
+use Rattle.fib_entries_rows.specs.Known.{PathKept, content_of, prefix_of}
+use Rattle.fib_entries_rows.specs.inner.Fields.{AreFields, Index, IsForgotten}
+use Rattle.fib_entries_rows.specs.inner.Leaf.{goals_of, is_plain}
+use Rattle.fib_entries_rows.specs.inner.Parting.{HasParted, IsParting}
+use Rattle.fib_entries_rows.specs.declared.changes.Followed.{Followed}
+use Rattle.fib_entries_rows.specs.declared.parting.Last.{Last}
+use Rattle.fib_entries_rows.specs.Rows.{Row}
+use Rattle.fib_entries_rows.proofs.Exits.{indexed_less}
+use Rattle.fib_entries_rows.proofs.Naming.{some_content}
+use Rattle.fib_entries_rows.proofs.PartRows.{row_by}
+use Rattle.fib_entries_rows.proofs.Withdrawing.{ordered_gone, but_for, row_left, row_was, indexed_gone, fields_gone}
 
 module _ (rows : List Row) (lists : List PathKept) (order : List Prefix) (x : Index) (T : Tables) (p : Prefix) (source : FibSource) (place id : ℕ) (old : List Path) (g : Last) (h : AreFields rows lists order x) (m : IsParting rows lists (map prefix_of rows) T p source place id old g) where
   -- the two lists are two, since one of them has a path by Cover

@@ -6,8 +6,8 @@ use Rattle.std.specs.List.{list_all, list_any}
 use Rattle.std.specs.Set.{is_member}
 use Rattle.std.proofs.lemmas.Bool.{false≢true}
 use Rattle.std.proofs.lemmas.Bool.Decides.{Decides-eqb}
-use Rattle.fib_list.proofs.Lists.{either, Contains-nil}
-use Rattle.fib_list.proofs.Booleans.{or_cases, or_left, or_right}
+use Rattle.fib_base_list.proofs.Lists.{either, Contains-nil}
+use Rattle.fib_base_list.proofs.Booleans.{or_cases, or_left, or_right}
 use Rattle.fib_addr.specs.Prefixes.{Prefix, host, same_prefix}
 use Rattle.fib_addr.proofs.PrefixLaws.{same_prefix-Decides}
 use Rattle.fib_cover.specs.Covers.{IsAscending}
@@ -20,42 +20,42 @@ use Rattle.fib_resolve.specs.declared.types.FibSource.TheVariants as sources
 use Rattle.fib_resolve.specs.declared.types.Path.{Path}
 use Rattle.fib_resolve.specs.declared.types.PathKind.TheVariants as kinds
 use Rattle.fib_resolve.specs.declared.types.Tables.{Tables}
-use Rattle.fib_changes.proofs.Edits.{any_in, in_front, in_rest}
-use Rattle.fib_changes.proofs.SamePairs.{map_in, map_from}
-use Rattle.fib_interned.proofs.Finding.{contains_at, none_some, some_is}
-use Rattle.fib_entries.specs.Known.{PathKept, content_of, prefix_of}
-use Rattle.fib_entries.specs.inner.Coming.{blank_row}
-use Rattle.fib_entries.specs.inner.Ends.{aim_exit, has_exit, is_exit}
-use Rattle.fib_entries.specs.inner.Fields.{AreFields, AreNamed, Index, IsForgotten, IsIndexed, IsNoted, are_several, count_in, leave}
-use Rattle.fib_entries.specs.inner.Hosting.{IsHosted, IsListed, host_own}
-use Rattle.fib_entries.specs.inner.Leaf.{is_plain, own_row, plain_aim, plain_mark, plain_own, pushed}
-use Rattle.fib_entries.specs.inner.Led.{IsReaching, but_hops, shared_gone, shared_late}
-use Rattle.fib_entries.specs.inner.Looping.{aim_recursive, loops_of, mark_with, marks_with, relooped_in, relooped_row}
-use Rattle.fib_entries.specs.inner.Parting.{IsLast, IsParted}
-use Rattle.fib_entries.specs.inner.Plies.{IsGap}
-use Rattle.fib_entries.specs.inner.Raising.{raised_row}
-use Rattle.fib_entries.specs.inner.Reaching.{HasReached, IsEnded, IsOut, IsPut, IsStarted, gone_host, gone_hosts, late_host, late_hosts, looped_mark, looped_own}
-use Rattle.fib_entries.specs.Rows.{Row}
-use Rattle.fib_entries.specs.declared.changes.Followed.{Followed}
-use Rattle.fib_entries.specs.declared.hosting.Late.{Late}
-use Rattle.fib_entries.specs.declared.parting.Last.{Last}
-use Rattle.fib_entries.specs.declared.raising.Raised.{Raised}
-use Rattle.fib_entries.proofs.Exits.{IsIn, exit_alike, in_host, in_index, in_more, indexed_each, indexed_less, indexed_more, own_leaves}
+use Rattle.fib_resolve_changes.proofs.Edits.{any_in, in_front, in_rest}
+use Rattle.fib_resolve_changes.proofs.SamePairs.{map_in, map_from}
+use Rattle.fib_base_interned.proofs.Finding.{contains_at, none_some, some_is}
+use Rattle.fib_entries_rows.specs.Known.{PathKept, content_of, prefix_of}
+use Rattle.fib_entries_rows.specs.inner.Coming.{blank_row}
+use Rattle.fib_entries_rows.specs.inner.Ends.{aim_exit, has_exit, is_exit}
+use Rattle.fib_entries_rows.specs.inner.Fields.{AreFields, AreNamed, Index, IsForgotten, IsIndexed, IsNoted, are_several, count_in, leave}
+use Rattle.fib_entries_rows.specs.inner.Hosting.{IsHosted, IsListed, host_own}
+use Rattle.fib_entries_rows.specs.inner.Leaf.{is_plain, own_row, plain_aim, plain_mark, plain_own, pushed}
+use Rattle.fib_entries_rows.specs.inner.Led.{IsReaching, but_hops, shared_gone, shared_late}
+use Rattle.fib_entries_rows.specs.inner.Looping.{aim_recursive, loops_of, mark_with, marks_with, relooped_in, relooped_row}
+use Rattle.fib_entries_rows.specs.inner.Parting.{IsLast, IsParted}
+use Rattle.fib_entries_rows.specs.inner.Plies.{IsGap}
+use Rattle.fib_entries_rows.specs.inner.Raising.{raised_row}
+use Rattle.fib_entries_rows.specs.inner.Reaching.{HasReached, IsEnded, IsOut, IsRelisted, IsStarted, gone_host, gone_hosts, late_host, late_hosts, looped_mark, looped_own}
+use Rattle.fib_entries_rows.specs.Rows.{Row}
+use Rattle.fib_entries_rows.specs.declared.changes.Followed.{Followed}
+use Rattle.fib_entries_rows.specs.declared.hosting.Late.{Late}
+use Rattle.fib_entries_rows.specs.declared.parting.Last.{Last}
+use Rattle.fib_entries_rows.specs.declared.raising.Raised.{Raised}
+use Rattle.fib_entries_rows.proofs.Exits.{IsIn, exit_alike, in_host, in_index, in_more, indexed_each, indexed_less, indexed_more, own_leaves}
 use Rattle.fib_entries.proofs.HostFields.{fields_unhosted}
-use Rattle.fib_entries.proofs.Hosts.{loose_pair}
-use Rattle.fib_entries.proofs.Housing.{hosted_names, hosted_ordered}
-use Rattle.fib_entries.proofs.Leafing.{is_not, only_one}
-use Rattle.fib_entries.proofs.LedRows.{raised_names}
-use Rattle.fib_entries.proofs.Linking.{set_length}
-use Rattle.fib_entries.proofs.Naming.{named_held, named_replaced, once_more, replaced_from, replaced_names}
-use Rattle.fib_entries.proofs.Orders.{inserted_members}
-use Rattle.fib_entries.proofs.PartRows.{row_by}
-use Rattle.fib_entries.proofs.Placing.{gap_absent, inserted_from, length_map, same_order}
-use Rattle.fib_entries.proofs.Putting.{paired_from, paired_names}
+use Rattle.fib_entries_rows.proofs.Hosts.{loose_pair}
+use Rattle.fib_entries_rows.proofs.Housing.{hosted_names, hosted_ordered}
+use Rattle.fib_entries_rows.proofs.Leafing.{is_not, only_one}
+use Rattle.fib_entries_rows.proofs.LedRows.{raised_names}
+use Rattle.fib_entries_rows.proofs.Linking.{set_length}
+use Rattle.fib_entries_rows.proofs.Naming.{named_held, named_replaced, once_more, replaced_from, replaced_names}
+use Rattle.fib_entries_rows.proofs.Orders.{inserted_members}
+use Rattle.fib_entries_rows.proofs.PartRows.{row_by}
+use Rattle.fib_entries_rows.proofs.Placing.{gap_absent, inserted_from, length_map, same_order}
+use Rattle.fib_entries_rows.proofs.Putting.{paired_from, paired_names}
 use Rattle.fib_entries.proofs.Reached.{relooped_names}
-use Rattle.fib_entries.proofs.Settling.{set_from}
-use Rattle.fib_entries.proofs.Using.{once, counted_taken, recounted, taken_stays}
-use Rattle.fib_entries.proofs.Withdrawing.{but_for, named_gone, ordered_gone, row_was}
+use Rattle.fib_entries_rows.proofs.Settling.{set_from}
+use Rattle.fib_entries_rows.proofs.Using.{once, counted_taken, recounted, taken_stays}
+use Rattle.fib_entries_rows.proofs.Withdrawing.{but_for, named_gone, ordered_gone, row_was}
 
 -- the row has the other's prefix and pairs, and no path leaves by an interface where none did
 record IsLike (q s : Row) : Type 0 where
@@ -318,7 +318,7 @@ module _ (mid out : List Row) (between later : List PathKept) (y : Index) (p : P
   less (Some g) c going = less_some g c (going g refl)
 
 module _ (rows mid : List Row) (lists later : List PathKept) (x y : Index) (T : Tables) (p : Prefix) (source : FibSource) (id : ℕ) (before paths : List Path) (rank : ℕ) (late : Option Late) (edges : List (Prefix × Prefix)) (rest : List (FibSource × ℕ))
-    (put : IsPut rows mid lists later p id before paths (looped_own T source edges p paths rank) late) (b : IsBegun rows put.start lists y p late ((source, id) ∷ rest)) (others : (q : FibSource × ℕ) → Contains rest q → q.0 ≢ source) (content : content_of lists id ≡ Some before)
+    (put : IsRelisted rows mid lists later p id before paths (looped_own T source edges p paths rank) late) (b : IsBegun rows put.start lists y p late ((source, id) ∷ rest)) (others : (q : FibSource × ℕ) → Contains rest q → q.0 ≢ source) (content : content_of lists id ≡ Some before)
     (noted : IsNoted x y p paths (late_host late)) where
   row_there : Contains put.start put.row
   row_there = contains_at put.start put.place put.row put.at

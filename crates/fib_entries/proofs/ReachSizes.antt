@@ -3,7 +3,7 @@ use Rattle.std.proofs.Common.{arith, ◌≡◌, ℕ, ◌+◌, ◌-◌, ◌<◌, 
 use Rattle.std.specs.Prelude.{Contains, min}
 use Rattle.std.specs.List.{list_all}
 use Rattle.std.proofs.lemmas.Bool.{cases_lt}
-use Rattle.fib_list.proofs.Lists.{Contains-flat_map, Contains-nil}
+use Rattle.fib_base_list.proofs.Lists.{Contains-flat_map, Contains-nil}
 use Rattle.fib_addr.specs.Prefixes.{Prefix, IsPrefix, host, same_prefix}
 use Rattle.fib_cover.specs.Covers.{IsAscending, ArePrefixes}
 use Rattle.fib_resolve.specs.Edits.{paths_at}
@@ -17,26 +17,26 @@ use Rattle.fib_resolve.specs.declared.types.PathKind.{PathKind}
 use Rattle.fib_resolve.specs.declared.types.PathKind.TheVariants as kinds
 use Rattle.fib_resolve.specs.declared.types.Tables.{Tables}
 use Rattle.fib_resolve.proofs.Covering.{filter_from, filter_in}
-use Rattle.fib_changes.specs.Differ.{Differ}
-use Rattle.fib_changes.specs.declared.change.Change.TheVariants as changes
-use Rattle.fib_changes.proofs.SamePairs.{flat_map_from, map_from}
-use Rattle.fib_entries.specs.Known.{Known, PathKept, StandsFor, prefix_of}
-use Rattle.fib_entries.specs.inner.Course.{made_of}
-use Rattle.fib_entries.specs.inner.Leaf.{path_beside}
-use Rattle.fib_entries.specs.inner.Led.{IsLedEdit, IsReaching, but_hops, has_hop, shared_gone, shared_late}
-use Rattle.fib_entries.specs.inner.Reaching.{IsOut, late_names, turned_addrs}
-use Rattle.fib_entries.specs.Rows.{Row}
-use Rattle.fib_entries.specs.declared.hosting.Late.{Late}
-use Rattle.fib_entries.specs.declared.parting.Last.{Last}
-use Rattle.fib_entries.proofs.Comparing.{all_pass}
-use Rattle.fib_entries.proofs.HopEnds.{ends_others, ends_others_but}
-use Rattle.fib_entries.proofs.LeafSizes.{HasEnd, ends_in}
+use Rattle.fib_resolve_changes.specs.Differ.{Differ}
+use Rattle.fib_resolve_changes.specs.declared.change.Change.TheVariants as changes
+use Rattle.fib_resolve_changes.proofs.SamePairs.{flat_map_from, map_from}
+use Rattle.fib_entries_rows.specs.Known.{Known, PathKept, StandsFor, prefix_of}
+use Rattle.fib_entries_rows.specs.inner.Course.{made_of}
+use Rattle.fib_entries_rows.specs.inner.Leaf.{path_beside}
+use Rattle.fib_entries_rows.specs.inner.Led.{IsLedEdit, IsReaching, but_hops, has_hop, shared_gone, shared_late}
+use Rattle.fib_entries_rows.specs.inner.Reaching.{IsOut, late_names, turned_addrs}
+use Rattle.fib_entries_rows.specs.Rows.{Row}
+use Rattle.fib_entries_rows.specs.declared.hosting.Late.{Late}
+use Rattle.fib_entries_rows.specs.declared.parting.Last.{Last}
+use Rattle.fib_entries_rows.proofs.Comparing.{all_pass}
+use Rattle.fib_entries_rows.proofs.HopEnds.{ends_others, ends_others_but}
+use Rattle.fib_entries_rows.proofs.LeafSizes.{HasEnd, ends_in}
 use Rattle.fib_entries.proofs.LedPairs.{led_end_beside, led_ends}
 use Rattle.fib_entries.proofs.LedReach.{reach_best, reach_edit, reach_was}
-use Rattle.fib_entries.proofs.Orders.{inserted_members, order_grown, order_shrunk, order_size, size_of_order}
-use Rattle.fib_entries.proofs.Placing.{inserted_ascending, size_came, size_left}
-use Rattle.fib_entries.proofs.Sharing.{each_true}
-use Rattle.fib_entries.proofs.Withdrawing.{names_gone, order_at, ordered_gone}
+use Rattle.fib_entries_rows.proofs.Orders.{inserted_members, order_grown, order_shrunk, order_size, size_of_order}
+use Rattle.fib_entries_rows.proofs.Placing.{inserted_ascending, size_came, size_left}
+use Rattle.fib_entries_rows.proofs.Sharing.{each_true}
+use Rattle.fib_entries_rows.proofs.Withdrawing.{names_gone, order_at, ordered_gone}
 
 -- the paths that end at a Hop are among those of other next hops
 end_no_hop : (p : Prefix) (others : List Path) (kind : PathKind) (z : Adjacency) → Contains (kind_adjacency p kind) z → not (has_hop others kind) ≡ true

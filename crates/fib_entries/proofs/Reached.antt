@@ -8,8 +8,8 @@ use Rattle.std.proofs.lemmas.Bool.{false≢true}
 use Rattle.std.proofs.lemmas.List.{map-append}
 use Rattle.std.proofs.lemmas.Bool.Decides.{Decides-eqb}
 use Rattle.std.proofs.lemmas.Map.Views.{Contains-from_any}
-use Rattle.fib_list.proofs.Lists.{either, Contains-nil, Contains-flat_map}
-use Rattle.fib_list.proofs.Booleans.{and_both}
+use Rattle.fib_base_list.proofs.Lists.{either, Contains-nil, Contains-flat_map}
+use Rattle.fib_base_list.proofs.Booleans.{and_both}
 use Rattle.fib_reach.specs.Walks.{AllDiffer}
 use Rattle.fib_addr.specs.Prefixes.{Prefix, IsPrefix, same_prefix, host}
 use Rattle.fib_addr.proofs.PrefixLaws.{same_prefix-Decides}
@@ -33,52 +33,52 @@ use Rattle.fib_resolve.specs.declared.types.FibSource.TheVariants as sources
 use Rattle.fib_resolve.specs.declared.types.Tables.{Tables}
 use Rattle.std.proofs.lemmas.List.Elements.{Contains-append_cases, Contains-append_left, Contains-append_right}
 use Rattle.fib_resolve.proofs.Covering.{filter_from, filter_in}
-use Rattle.fib_changes.specs.Differ.{Differ}
-use Rattle.fib_changes.specs.declared.change.Change.TheVariants as changes
-use Rattle.fib_entries.specs.Changes.{AreMoved, AreTouched, prefix_moved}
-use Rattle.fib_entries.specs.inner.Leaf.{IsFollowed}
-use Rattle.fib_entries.specs.declared.changes.Followed.{Followed}
-use Rattle.fib_entries.specs.declared.changes.Moved.{Moved}
-use Rattle.fib_entries.proofs.Anew.{filter_differ}
-use Rattle.fib_entries.proofs.Touches.{append_differ}
+use Rattle.fib_resolve_changes.specs.Differ.{Differ}
+use Rattle.fib_resolve_changes.specs.declared.change.Change.TheVariants as changes
+use Rattle.fib_entries_rows.specs.Changes.{AreMoved, AreTouched, prefix_moved}
+use Rattle.fib_entries_rows.specs.inner.Leaf.{IsFollowed}
+use Rattle.fib_entries_rows.specs.declared.changes.Followed.{Followed}
+use Rattle.fib_entries_rows.specs.declared.changes.Moved.{Moved}
+use Rattle.fib_entries_rows.proofs.Anew.{filter_differ}
+use Rattle.fib_entries_rows.proofs.Touches.{append_differ}
 use Rattle.fib_resolve.proofs.Entries.{chosen-no_entry, targets_from_entries}
 use Rattle.fib_resolve.proofs.KeptEdges.{kept_target}
 use Rattle.fib_resolve.proofs.OneList.{source_by_rank}
-use Rattle.fib_changes.specs.Ranks.{Falls, wakes}
-use Rattle.fib_changes.proofs.Targets.{edge_entry}
-use Rattle.fib_changes.proofs.Cycles.{path_edge}
-use Rattle.fib_changes.proofs.Edits.{any_in, in_cases, in_front, in_rest}
-use Rattle.fib_changes.proofs.SamePairs.{map_in, map_from}
-use Rattle.fib_interned.proofs.Finding.{contains_at, none_some}
-use Rattle.fib_entries.specs.Known.{PathKept, Known, content_of, prefix_of, row_of, rank_of, rank_in, ArePairs, IsHeld, IsRow, StandsFor, holders, kind_met}
-use Rattle.fib_entries.specs.inner.Leaf.{goal_of, is_plain, plain_kind}
-use Rattle.fib_entries.specs.inner.Led.{IsLedEdit, IsReaching, IsTurn}
-use Rattle.fib_entries.specs.inner.Looping.{AreLoops, AreReached, loops_of, marks_with, next_with, relooped_in, relooped_row}
-use Rattle.fib_entries.specs.inner.Part.{IsButForPart, IsPartKept, IsQuietEdit, in_part}
-use Rattle.fib_entries.specs.inner.Reaching.{IsGoneStill, IsSettled, gone_addrs, gone_hosts, gone_moved, kind_loops, late_addrs, late_hosts, late_moved, looped_counts, looped_mark, looped_own, turned_addrs, turned_hosts}
-use Rattle.fib_entries.specs.Rows.{Row}
-use Rattle.fib_entries.specs.declared.hosting.Late.{Late}
-use Rattle.fib_entries.specs.declared.parting.Last.{Last}
-use Rattle.fib_entries.specs.declared.raising.Raised.{Raised}
-use Rattle.fib_entries.specs.inner.Looping.{grows, is_relooped, is_relooped_at, same_flags}
-use Rattle.fib_entries.specs.inner.Raising.{AreBack, FallBut, moved_from, raised_of, raised_prefix, raised_row, rank_or, rank_with}
-use Rattle.fib_entries.specs.inner.Reaching.{IsRisenKept}
-use Rattle.fib_entries.proofs.Counting.{counts_some}
-use Rattle.fib_entries.proofs.HopEnds.{glean_short}
-use Rattle.fib_entries.proofs.LoopRows.{same_flags_is, same_flags_of}
-use Rattle.fib_entries.proofs.Hosts.{came_touched, went_touched, loose_chosen, loose_from, loose_marks, loose_pair, loose_targets, loose_there}
-use Rattle.fib_entries.proofs.Leafing.{not_it, only_one, part_cases, part_host, part_not}
-use Rattle.fib_entries.proofs.LeafSizes.{each_plain, goal_kind}
+use Rattle.fib_resolve_changes.specs.Ranks.{Falls, wakes}
+use Rattle.fib_resolve_changes.proofs.Targets.{edge_entry}
+use Rattle.fib_resolve_changes.proofs.Cycles.{path_edge}
+use Rattle.fib_resolve_changes.proofs.Edits.{any_in, in_cases, in_front, in_rest}
+use Rattle.fib_resolve_changes.proofs.SamePairs.{map_in, map_from}
+use Rattle.fib_base_interned.proofs.Finding.{contains_at, none_some}
+use Rattle.fib_entries_rows.specs.Known.{PathKept, Known, content_of, prefix_of, row_of, rank_of, rank_in, ArePairs, IsHeld, IsRow, StandsFor, holders, kind_met}
+use Rattle.fib_entries_rows.specs.inner.Leaf.{goal_of, is_plain, plain_kind}
+use Rattle.fib_entries_rows.specs.inner.Led.{IsLedEdit, IsReaching, IsTurn}
+use Rattle.fib_entries_rows.specs.inner.Looping.{AreLoops, AreReached, loops_of, marks_with, next_with, relooped_in, relooped_row}
+use Rattle.fib_entries_rows.specs.inner.Part.{IsButForPart, IsPartKept, IsQuietEdit, in_part}
+use Rattle.fib_entries_rows.specs.inner.Reaching.{IsGoneStill, IsSettled, gone_addrs, gone_hosts, gone_moved, kind_loops, late_addrs, late_hosts, late_moved, looped_counts, looped_mark, looped_own, turned_addrs, turned_hosts}
+use Rattle.fib_entries_rows.specs.Rows.{Row}
+use Rattle.fib_entries_rows.specs.declared.hosting.Late.{Late}
+use Rattle.fib_entries_rows.specs.declared.parting.Last.{Last}
+use Rattle.fib_entries_rows.specs.declared.raising.Raised.{Raised}
+use Rattle.fib_entries_rows.specs.inner.Looping.{grows, is_relooped, is_relooped_at, same_flags}
+use Rattle.fib_entries_rows.specs.inner.Raising.{AreBack, FallBut, moved_from, raised_of, raised_prefix, raised_row, rank_or, rank_with}
+use Rattle.fib_entries_rows.specs.inner.Reaching.{IsRisenKept}
+use Rattle.fib_entries_rows.proofs.Counting.{counts_some}
+use Rattle.fib_entries_rows.proofs.HopEnds.{glean_short}
+use Rattle.fib_entries_rows.proofs.LoopRows.{same_flags_is, same_flags_of}
+use Rattle.fib_entries_rows.proofs.Hosts.{came_touched, went_touched, loose_chosen, loose_from, loose_marks, loose_pair, loose_targets, loose_there}
+use Rattle.fib_entries_rows.proofs.Leafing.{not_it, only_one, part_cases, part_host, part_not}
+use Rattle.fib_entries_rows.proofs.LeafSizes.{each_plain, goal_kind}
 use Rattle.fib_entries.proofs.LedLaws.{led_chosen, led_entry, led_late_before, led_late_other, led_list_after, led_met, led_targets}
 use Rattle.fib_entries.proofs.LedPairs.{come_in, go_in, led_entries, led_go_entry, led_go_none, led_late, led_late_was, led_one_after, led_others, led_source_after, led_touched}
 use Rattle.fib_entries.proofs.LedReach.{IsReach, reach_touched, reach_turn, reach_was, reach_loops_of, reach_looped, reach_marks, reach_quiet}
-use Rattle.fib_entries.proofs.Listing.{pair_of}
-use Rattle.fib_entries.proofs.LedRows.{raised_found, raised_own, raised_is, raised_names, raised_stays}
-use Rattle.fib_entries.proofs.PartRows.{kept_wakes, listed_row, no_row, pairs_kept, row_by, row_is, rows_are, wakes_kept, wakes_same}
-use Rattle.fib_entries.proofs.Woken.{row_wakes}
-use Rattle.fib_entries.proofs.Standing.{row_there as row_found}
-use Rattle.fib_entries.proofs.Replacing.{aim_is, mark_with, maps_same, met_any, met_is}
-use Rattle.fib_entries.proofs.Taking.{list_self}
+use Rattle.fib_entries_rows.proofs.Listing.{pair_of}
+use Rattle.fib_entries_rows.proofs.LedRows.{raised_found, raised_own, raised_is, raised_names, raised_stays}
+use Rattle.fib_entries_rows.proofs.PartRows.{kept_wakes, listed_row, no_row, pairs_kept, row_by, row_is, rows_are, wakes_kept, wakes_same}
+use Rattle.fib_entries_rows.proofs.Woken.{row_wakes}
+use Rattle.fib_entries_rows.proofs.Standing.{row_there as row_found}
+use Rattle.fib_entries_rows.proofs.Replacing.{aim_is, mark_with, maps_same, met_any, met_is}
+use Rattle.fib_entries_rows.proofs.Taking.{list_self}
 
 -- the host that comes is that of a late next hop
 addr_host : (late : Option Late) (a : ℕ) → Contains (late_addrs late) a → Contains (late_hosts late) (host a)

@@ -12,30 +12,30 @@ use Rattle.fib_resolve.specs.declared.types.FibSource.{FibSource}
 use Rattle.fib_resolve.specs.declared.types.Path.{Path}
 use Rattle.fib_resolve.specs.declared.types.Route.{Route}
 use Rattle.fib_resolve.specs.declared.types.Tables.{Tables}
-use Rattle.fib_changes.specs.Differ.{Differ}
-use Rattle.fib_changes.specs.declared.change.Change.TheVariants as changes
-use Rattle.fib_interned.specs.Interned.{AreInterned}
-use Rattle.fib_interned.proofs.Finding.{none_some, some_is}
-use Rattle.fib_entries.specs.Known.{Known, PathKept, StandsFor, content_of, prefix_of}
-use Rattle.fib_entries.specs.inner.Course.{IsCourse, made_of}
-use Rattle.fib_entries.specs.inner.Leaf.{IsFollowed}
-use Rattle.fib_entries.specs.inner.Led.{IsReaching}
-use Rattle.fib_entries.specs.inner.Looping.{AreLoops, AreReached, next_with}
-use Rattle.fib_entries.specs.inner.Reaching.{HasCover, HasReached, IsRisenKept, IsPut, looped_own, turned_hosts}
-use Rattle.fib_entries.specs.Rows.{Row}
-use Rattle.fib_entries.specs.declared.changes.Followed.{Followed}
-use Rattle.fib_entries.specs.declared.hosting.Late.{Late}
-use Rattle.fib_entries.specs.declared.parting.Last.{Last}
-use Rattle.fib_entries.specs.declared.reaching.Course.{Course}
-use Rattle.fib_entries.specs.declared.replace.Own.{Own}
-use Rattle.fib_entries.proofs.Anew.{filter_differ}
-use Rattle.fib_entries.proofs.Leafing.{is_it}
+use Rattle.fib_resolve_changes.specs.Differ.{Differ}
+use Rattle.fib_resolve_changes.specs.declared.change.Change.TheVariants as changes
+use Rattle.fib_base_interned.specs.Interned.{AreInterned}
+use Rattle.fib_base_interned.proofs.Finding.{none_some, some_is}
+use Rattle.fib_entries_rows.specs.Known.{Known, PathKept, StandsFor, content_of, prefix_of}
+use Rattle.fib_entries_rows.specs.inner.Course.{IsCourse, made_of}
+use Rattle.fib_entries_rows.specs.inner.Leaf.{IsFollowed}
+use Rattle.fib_entries_rows.specs.inner.Led.{IsReaching}
+use Rattle.fib_entries_rows.specs.inner.Looping.{AreLoops, AreReached, next_with}
+use Rattle.fib_entries_rows.specs.inner.Reaching.{HasCover, HasReached, IsRisenKept, IsRelisted, looped_own, turned_hosts}
+use Rattle.fib_entries_rows.specs.Rows.{Row}
+use Rattle.fib_entries_rows.specs.declared.changes.Followed.{Followed}
+use Rattle.fib_entries_rows.specs.declared.hosting.Late.{Late}
+use Rattle.fib_entries_rows.specs.declared.parting.Last.{Last}
+use Rattle.fib_entries_rows.specs.declared.reaching.Course.{Course}
+use Rattle.fib_entries_rows.specs.declared.replace.Own.{Own}
+use Rattle.fib_entries_rows.proofs.Anew.{filter_differ}
+use Rattle.fib_entries_rows.proofs.Leafing.{is_it}
 use Rattle.fib_entries.proofs.LedReach.{reach_host_late, reach_is}
 use Rattle.fib_entries.proofs.Reached.{reached_followed, reached_names}
 use Rattle.fib_entries.proofs.ReachSizes.{objects_turned, turned_size}
 use Rattle.fib_entries.proofs.Settled.{settled_names}
 use Rattle.fib_entries.proofs.SettledOut.{settled_out}
-use Rattle.fib_entries.proofs.Turned.{but_turned_in}
+use Rattle.fib_entries_rows.proofs.Turned.{but_turned_in}
 
 -- the cover of the host that comes, and its rank
 covered : (v : Known) (S T : Tables) (p : Prefix) (source : FibSource) (place id : ℕ) (old : List Path) (late : Option Late) (gone : Option Last) → (k : StandsFor v S) → IsReaching v.rows v.lists (map prefix_of v.rows) T p source place id old late gone
@@ -67,7 +67,7 @@ followed_reached v w T p source place id old new rank most late gone made c f m 
     by r =
         let ways = q.ways in
         let before_is = some_is r.before old (sym r.content ∙ m.content) in
-        let put = subst (λ l. IsPut v.rows r.mid v.lists r.between p id l (paths_at p source T.routes) (looped_own T source q.edges p (paths_at p source T.routes) m.row.rank) late) before_is r.put in
+        let put = subst (λ l. IsRelisted v.rows r.mid v.lists r.between p id l (paths_at p source T.routes) (looped_own T source q.edges p (paths_at p source T.routes) m.row.rank) late) before_is r.put in
         let x = reach_is v S T p source place id old late gone ways.coming k m differ after ways.comes in
         let set = settled_out v r.mid r.out r.between w.lists S T p source place id old (looped_own T source q.edges p (paths_at p source T.routes) m.row.rank) late gone made k m differ after apart put refl r.parted in
         let reached = subst (λ l. AreReached v.rows p old l ways.coming ways.seen) list ways.reached in

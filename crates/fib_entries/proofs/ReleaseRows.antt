@@ -6,39 +6,39 @@ use Rattle.std.specs.List.{list_any, remove}
 use Rattle.std.specs.Set.{is_member}
 use Rattle.std.proofs.lemmas.Bool.{false≢true}
 use Rattle.std.proofs.lemmas.List.Elements.{Contains-append_left, Contains-append_right, Contains-append_cases}
-use Rattle.fib_list.proofs.Lists.{either, Contains-nil}
+use Rattle.fib_base_list.proofs.Lists.{either, Contains-nil}
 use Rattle.fib_addr.specs.Prefixes.{Prefix, same_prefix}
 use Rattle.fib_addr.proofs.PrefixLaws.{same_prefix-Decides}
 use Rattle.fib_cover.specs.Covers.{IsAscending}
 use Rattle.fib_reach.specs.Walks.{AllDiffer}
-use Rattle.fib_changes.proofs.Edits.{any_in, in_cases, in_front, in_rest}
-use Rattle.fib_changes.proofs.SamePairs.{map_from, map_in}
-use Rattle.fib_interned.proofs.Finding.{contains_at, none_some, some_is}
-use Rattle.fib_interned.specs.Interned.{AreInterned, Gives}
+use Rattle.fib_resolve_changes.proofs.Edits.{any_in, in_cases, in_front, in_rest}
+use Rattle.fib_resolve_changes.proofs.SamePairs.{map_from, map_in}
+use Rattle.fib_base_interned.proofs.Finding.{contains_at, none_some, some_is}
+use Rattle.fib_base_interned.specs.Interned.{AreInterned, Gives}
 use Rattle.fib_resolve.specs.Keys.{same_path}
 use Rattle.fib_resolve.specs.declared.aims.Marked.{Marked}
 use Rattle.fib_resolve.specs.declared.pairs.Pair.{Pair}
 use Rattle.fib_resolve.specs.declared.types.FibSource.{FibSource}
 use Rattle.fib_resolve.specs.declared.types.Path.{Path}
-use Rattle.fib_entries.specs.Known.{PathKept, content_of, prefix_of, rank_in, rank_of, IsHeld}
-use Rattle.fib_entries.specs.Rows.{Row}
+use Rattle.fib_entries_rows.specs.Known.{PathKept, content_of, prefix_of, rank_in, rank_of, IsHeld}
+use Rattle.fib_entries_rows.specs.Rows.{Row}
 use Rattle.fib_entries.specs.inner.Adopting.{aimed, aimed_in, aimed_mark, with_dependants}
-use Rattle.fib_entries.specs.inner.Ends.{has_exit, is_exit}
-use Rattle.fib_entries.specs.inner.Fields.{AreFields, AreNamed, Index, IsIndexed, are_several, count_in}
+use Rattle.fib_entries_rows.specs.inner.Ends.{has_exit, is_exit}
+use Rattle.fib_entries_rows.specs.inner.Fields.{AreFields, AreNamed, Index, IsIndexed, are_several, count_in}
 use Rattle.fib_entries.specs.inner.Releasing.{AreJoined, covering, released}
-use Rattle.fib_entries.proofs.Anew.{take_all}
-use Rattle.fib_entries.proofs.Counting.{without, counted_in, kept_in, counts_some}
-use Rattle.fib_entries.proofs.Exits.{IsIn, in_index, indexed_each}
-use Rattle.fib_entries.proofs.Linking.{member_in}
-use Rattle.fib_entries.proofs.Looking.{one_in_order, one_place}
-use Rattle.fib_entries.proofs.Naming.{named_held}
-use Rattle.fib_entries.proofs.PartRows.{no_row}
-use Rattle.fib_entries.proofs.Placing.{get_map, removed_ascending, removed_from, removed_in, removed_map, same_order}
-use Rattle.fib_entries.proofs.PlyOrder.{index_of}
-use Rattle.fib_entries.proofs.Putting.{same_ranks}
-use Rattle.fib_entries.proofs.Taking.{list_self}
-use Rattle.fib_entries.proofs.Touches.{append_differ}
-use Rattle.fib_entries.proofs.Using.{once, counted_given, given_stays}
+use Rattle.fib_entries_rows.proofs.Anew.{take_all}
+use Rattle.fib_entries_rows.proofs.Counting.{without, counted_in, kept_in, counts_some}
+use Rattle.fib_entries_rows.proofs.Exits.{IsIn, in_index, indexed_each}
+use Rattle.fib_entries_rows.proofs.Linking.{member_in}
+use Rattle.fib_entries_rows.proofs.Looking.{one_in_order, one_place}
+use Rattle.fib_entries_rows.proofs.Naming.{named_held}
+use Rattle.fib_entries_rows.proofs.PartRows.{no_row}
+use Rattle.fib_entries_rows.proofs.Placing.{get_map, removed_ascending, removed_from, removed_in, removed_map, same_order}
+use Rattle.fib_entries_rows.proofs.PlyOrder.{index_of}
+use Rattle.fib_entries_rows.proofs.Putting.{same_ranks}
+use Rattle.fib_entries_rows.proofs.Taking.{list_self}
+use Rattle.fib_entries_rows.proofs.Touches.{append_differ}
+use Rattle.fib_entries_rows.proofs.Using.{once, counted_given, given_stays}
 
 -- a prefix is put behind others
 pub put_once : (xs ys : List Prefix) (d : Prefix) → ys ≡ xs ++ d ∷ [] → is_member same_prefix xs d ≡ false → AllDiffer xs → AllDiffer ys

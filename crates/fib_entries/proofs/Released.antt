@@ -5,16 +5,16 @@ use Rattle.std.specs.Set.{is_member}
 use Rattle.std.proofs.lemmas.Bool.{false≢true, ltb-true}
 use Rattle.std.proofs.lemmas.Bool.Decides.{Decides-eqb}
 use Rattle.std.proofs.lemmas.List.Elements.{Contains-append_left, Contains-append_right, Contains-append_cases}
-use Rattle.fib_list.proofs.Lists.{either, Contains-nil}
+use Rattle.fib_base_list.proofs.Lists.{either, Contains-nil}
 use Rattle.fib_addr.specs.Prefixes.{Prefix, same_prefix}
 use Rattle.fib_addr.proofs.PrefixLaws.{same_prefix-Decides}
 use Rattle.fib_reach.specs.Walks.{AllDiffer}
-use Rattle.fib_changes.specs.Differ.{Differ}
-use Rattle.fib_changes.specs.declared.change.Change.TheVariants as changes
-use Rattle.fib_changes.proofs.Edits.{any_in, in_cases, in_front, in_rest}
-use Rattle.fib_changes.proofs.SamePairs.{map_from, same_targets}
-use Rattle.fib_interned.specs.Interned.{AreInterned}
-use Rattle.fib_interned.proofs.Finding.{contains_at}
+use Rattle.fib_resolve_changes.specs.Differ.{Differ}
+use Rattle.fib_resolve_changes.specs.declared.change.Change.TheVariants as changes
+use Rattle.fib_resolve_changes.proofs.Edits.{any_in, in_cases, in_front, in_rest}
+use Rattle.fib_resolve_changes.proofs.SamePairs.{map_from, same_targets}
+use Rattle.fib_base_interned.specs.Interned.{AreInterned}
+use Rattle.fib_base_interned.proofs.Finding.{contains_at}
 use Rattle.fib_resolve.specs.Edits.{paths_at}
 use Rattle.fib_resolve.specs.Loops.{targets}
 use Rattle.fib_resolve.specs.Pairs.{chosen, cover, entries, pairs, plain}
@@ -28,31 +28,31 @@ use Rattle.fib_resolve.specs.declared.types.Tables.{Tables}
 use Rattle.fib_resolve.proofs.Covering.{filter_from, filter_in}
 use Rattle.fib_resolve.proofs.PairLaws.{cover_at_host}
 use Rattle.fib_resolve.proofs.Touching.{untouched_pairs}
-use Rattle.fib_entries.specs.Changes.{AreMoved, AreTouched, prefix_moved}
-use Rattle.fib_entries.specs.Known.{Known, prefix_of, rank_in, rank_of, IsRow, StandsFor}
-use Rattle.fib_entries.specs.Rows.{Row}
-use Rattle.fib_entries.specs.declared.changes.Followed.{Followed}
-use Rattle.fib_entries.specs.declared.changes.Moved.{Moved}
+use Rattle.fib_entries_rows.specs.Changes.{AreMoved, AreTouched, prefix_moved}
+use Rattle.fib_entries_rows.specs.Known.{Known, prefix_of, rank_in, rank_of, IsRow, StandsFor}
+use Rattle.fib_entries_rows.specs.Rows.{Row}
+use Rattle.fib_entries_rows.specs.declared.changes.Followed.{Followed}
+use Rattle.fib_entries_rows.specs.declared.changes.Moved.{Moved}
 use Rattle.fib_entries.specs.declared.releasing.Between.{Between}
 use Rattle.fib_entries.specs.inner.Adopting.{ComesOver, IsOpen, dropping}
-use Rattle.fib_entries.specs.inner.Leaf.{IsFollowed, moved_at}
-use Rattle.fib_entries.specs.inner.Led.{IsLedEdit, IsReaching}
+use Rattle.fib_entries_rows.specs.inner.Leaf.{IsFollowed, moved_at}
+use Rattle.fib_entries_rows.specs.inner.Led.{IsLedEdit, IsReaching}
 use Rattle.fib_entries.specs.inner.Releasing.{AreJoined, HasOnly, IsBetween, IsReleased, but_for}
 use Rattle.fib_entries.proofs.AdoptEdges.{open_alike, open_edges_own, open_is_over, over_other, short_edge, small}
 use Rattle.fib_entries.proofs.AdoptLaws.{open_cover_after, open_differ_to, open_entries, open_only, open_sound}
 use Rattle.fib_entries.proofs.AdoptSizes.{cover_touches}
-use Rattle.fib_entries.proofs.Anew.{filter_differ}
+use Rattle.fib_entries_rows.proofs.Anew.{filter_differ}
 use Rattle.fib_entries.proofs.Doubled.{touched_alike_to}
-use Rattle.fib_entries.proofs.Leafing.{entry_of_pair, is_not, only_one, outside}
+use Rattle.fib_entries_rows.proofs.Leafing.{entry_of_pair, is_not, only_one, outside}
 use Rattle.fib_entries.proofs.LedLaws.{led_entry}
 use Rattle.fib_entries.proofs.LedReach.{reach_best, reach_edit}
-use Rattle.fib_entries.proofs.Linking.{member_in}
+use Rattle.fib_entries_rows.proofs.Linking.{member_in}
 use Rattle.fib_entries.proofs.Vacated.{opened, opened_none}
-use Rattle.fib_entries.proofs.PartRows.{row_by}
+use Rattle.fib_entries_rows.proofs.PartRows.{row_by}
 use Rattle.fib_entries.proofs.ReleaseRows.{release_gone, release_ranks}
 use Rattle.fib_entries.proofs.Releases.{only_there, released_fits, released_stands}
-use Rattle.fib_entries.proofs.Sharing.{each_true}
-use Rattle.fib_entries.proofs.Touches.{append_differ}
+use Rattle.fib_entries_rows.proofs.Sharing.{each_true}
+use Rattle.fib_entries_rows.proofs.Touches.{append_differ}
 
 differ_back : (p : Prefix) (source : FibSource) (S T : Tables) → Differ (changes.Route p source ∷ []) S T → Differ (changes.Route p source ∷ []) T S
 differ_back p source S T d = record {

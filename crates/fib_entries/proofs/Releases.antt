@@ -3,16 +3,16 @@ use Rattle.std.proofs.Common.{arith, ◌≡◌, ◌≢◌, ℕ, suc, ◌+◌, �
 use Rattle.std.specs.Prelude.{Contains, min}
 use Rattle.std.specs.Set.{is_member}
 use Rattle.std.proofs.lemmas.Bool.{false≢true}
-use Rattle.fib_list.proofs.Lists.{either, Contains-nil}
+use Rattle.fib_base_list.proofs.Lists.{either, Contains-nil}
 use Rattle.fib_addr.specs.Prefixes.{Prefix, same_prefix}
 use Rattle.fib_addr.proofs.PrefixLaws.{same_prefix-Decides}
 use Rattle.fib_cover.specs.Covers.{IsAscending}
 use Rattle.fib_reach.specs.Walks.{AllDiffer}
-use Rattle.fib_changes.specs.Ranks.{Falls}
-use Rattle.fib_changes.proofs.Edits.{any_in, in_front, in_rest}
-use Rattle.fib_changes.proofs.SamePairs.{map_from, map_in}
-use Rattle.fib_interned.specs.Interned.{AreInterned, Gives}
-use Rattle.fib_interned.proofs.Finding.{contains_at, none_some, some_is}
+use Rattle.fib_resolve_changes.specs.Ranks.{Falls}
+use Rattle.fib_resolve_changes.proofs.Edits.{any_in, in_front, in_rest}
+use Rattle.fib_resolve_changes.proofs.SamePairs.{map_from, map_in}
+use Rattle.fib_base_interned.specs.Interned.{AreInterned, Gives}
+use Rattle.fib_base_interned.proofs.Finding.{contains_at, none_some, some_is}
 use Rattle.fib_resolve.specs.Keys.{source_rank}
 use Rattle.fib_resolve.specs.Loops.{targets, Kept}
 use Rattle.fib_resolve.specs.Pairs.{entries, chosen}
@@ -21,25 +21,25 @@ use Rattle.fib_resolve.specs.declared.pairs.Pair.{Pair}
 use Rattle.fib_resolve.specs.declared.types.FibSource.{FibSource}
 use Rattle.fib_resolve.specs.declared.types.Path.{Path}
 use Rattle.fib_resolve.specs.declared.types.Tables.{Tables}
-use Rattle.fib_entries.specs.Known.{Known, PathKept, content_of, prefix_of, rank_of, row_of, ArePairs, IsRow, StandsFor, holders}
-use Rattle.fib_entries.specs.Rows.{Row}
+use Rattle.fib_entries_rows.specs.Known.{Known, PathKept, content_of, prefix_of, rank_of, row_of, ArePairs, IsRow, StandsFor, holders}
+use Rattle.fib_entries_rows.specs.Rows.{Row}
 use Rattle.fib_entries.specs.inner.Adopting.{ComesOver, IsOpen, aimed, aimed_in, drop_list, dropping, with_dependants}
-use Rattle.fib_entries.specs.inner.Fields.{AreCounted, AreFields, Index, IsForgotten}
-use Rattle.fib_entries.specs.inner.Plies.{before_of, entry_at, entry_before, own_size}
+use Rattle.fib_entries_rows.specs.inner.Fields.{AreCounted, AreFields, Index, IsForgotten}
+use Rattle.fib_entries_rows.specs.inner.Plies.{before_of, entry_at, entry_before, own_size}
 use Rattle.fib_entries.specs.inner.Releasing.{HasOnly, IsReleased, covering, only_in, released}
 use Rattle.fib_entries.proofs.AdoptEdges.{open_edges_own, open_falls_back, open_is_over}
 use Rattle.fib_entries.proofs.AdoptLaws.{open_entries, open_holders, open_only, open_own}
 use Rattle.fib_entries.proofs.AdoptRows.{shut_row, shut_row_cover, shut_row_over}
 use Rattle.fib_entries.proofs.AdoptSizes.{shut_size}
-use Rattle.fib_entries.proofs.Exits.{indexed_less}
-use Rattle.fib_entries.proofs.Leafing.{entry_of_pair, is_not, only_one}
-use Rattle.fib_entries.proofs.Linking.{member_in}
-use Rattle.fib_entries.proofs.Listing.{pair_of}
-use Rattle.fib_entries.proofs.PartRows.{listed_row, row_by}
-use Rattle.fib_entries.proofs.Placing.{size_left}
+use Rattle.fib_entries_rows.proofs.Exits.{indexed_less}
+use Rattle.fib_entries_rows.proofs.Leafing.{entry_of_pair, is_not, only_one}
+use Rattle.fib_entries_rows.proofs.Linking.{member_in}
+use Rattle.fib_entries_rows.proofs.Listing.{pair_of}
+use Rattle.fib_entries_rows.proofs.PartRows.{listed_row, row_by}
+use Rattle.fib_entries_rows.proofs.Placing.{size_left}
 use Rattle.fib_entries.proofs.ReleaseRows.{cover_off, cover_own, freed, release_fields, release_from, release_indexed, release_gone, release_left, release_ordered, release_place, release_ranks}
-use Rattle.fib_entries.proofs.Settling.{counted_by}
-use Rattle.fib_entries.proofs.Using.{once, counted_given, given_stays}
+use Rattle.fib_entries_rows.proofs.Settling.{counted_by}
+use Rattle.fib_entries_rows.proofs.Using.{once, counted_given, given_stays}
 use Rattle.fib_entries.proofs.WithHost.{no_list}
 
 module _ (mid w : Known) (T : Tables) (p c : Prefix) (source : FibSource) (o : IsOpen T p c source) (k : StandsFor mid (dropping T p source)) (list : List Prefix) (m : IsReleased mid w p c list) (apart : AreInterned mid.lists) where

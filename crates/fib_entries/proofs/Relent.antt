@@ -3,13 +3,13 @@ use Rattle.std.proofs.Common.{arith, ◌≡◌, ◌≢◌, ℕ, zero, suc, ◌+�
 use Rattle.std.specs.Prelude.{Contains, find, option_map}
 use Rattle.std.proofs.lemmas.Bool.{cases_eq, false≢true}
 use Rattle.std.proofs.lemmas.Bool.Decides.{Decides-eqb}
-use Rattle.fib_list.proofs.Lists.{either}
+use Rattle.fib_base_list.proofs.Lists.{either}
 use Rattle.fib_resolve.specs.declared.types.Path.{Path}
-use Rattle.fib_interned.specs.Interned.{Kept, kept_of, users_of, users_in, lowered, AreInterned, Takes, Gives}
-use Rattle.fib_interned.proofs.Finding.{find_place, none_some, some_is}
-use Rattle.fib_changes.proofs.SamePairs.{map_from}
-use Rattle.fib_entries.specs.Known.{PathKept, content_of}
-use Rattle.fib_entries.proofs.Taking.{is_kept}
+use Rattle.fib_base_interned.specs.Interned.{Kept, kept_of, users_of, users_in, lowered, AreInterned, Takes, Gives}
+use Rattle.fib_base_interned.proofs.Finding.{find_place, none_some, some_is}
+use Rattle.fib_resolve_changes.proofs.SamePairs.{map_from}
+use Rattle.fib_entries_rows.specs.Known.{PathKept, content_of}
+use Rattle.fib_entries_rows.proofs.Taking.{is_kept}
 
 abbrev kept_record : ℕ → List Path → ℕ → PathKept
 kept_record id content users = record { id = id; content = content; users = users }

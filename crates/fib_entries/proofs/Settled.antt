@@ -5,7 +5,7 @@ use Rattle.std.specs.Prelude.{Contains, slice_set}
 use Rattle.std.specs.List.{insert}
 use Rattle.std.specs.Cmp.Lexicographic.{pointwise}
 use Rattle.std.proofs.lemmas.Bool.{false≢true}
-use Rattle.fib_list.proofs.Lists.{either, Contains-nil}
+use Rattle.fib_base_list.proofs.Lists.{either, Contains-nil}
 use Rattle.fib_addr.specs.Prefixes.{Prefix, same_prefix, host}
 use Rattle.fib_addr.proofs.PrefixLaws.{same_prefix-Decides}
 use Rattle.fib_cover.specs.Covers.{IsAscending}
@@ -21,38 +21,38 @@ use Rattle.fib_resolve.specs.declared.types.Path.{Path}
 use Rattle.fib_resolve.specs.declared.types.PathKind.TheVariants as kinds
 use Rattle.fib_resolve.specs.declared.types.Tables.{Tables}
 use Rattle.fib_resolve.proofs.PairLaws.{cover_short}
-use Rattle.fib_changes.specs.Differ.{Differ}
-use Rattle.fib_changes.specs.declared.change.Change.TheVariants as changes
-use Rattle.fib_changes.proofs.Edits.{in_front}
-use Rattle.fib_changes.proofs.Targets.{edge_entry}
-use Rattle.fib_interned.specs.Interned.{AreInterned}
-use Rattle.fib_interned.proofs.Finding.{contains_at, none_some, some_is}
-use Rattle.fib_entries.specs.Known.{Known, PathKept, content_of, holders, prefix_of, IsRow, StandsFor}
-use Rattle.fib_entries.specs.inner.Coming.{blank_row, with_pairs}
-use Rattle.fib_entries.specs.inner.Fields.{AreCounted}
-use Rattle.fib_entries.specs.inner.Hosting.{IsHosted, IsListed, host_own}
-use Rattle.fib_entries.specs.inner.Leaf.{AreAttached, IsButFor, IsReplaced, goals_of, own_row, pushed}
-use Rattle.fib_entries.specs.inner.Led.{IsBestEdit, IsLedEdit, IsReaching, IsTurn}
-use Rattle.fib_entries.specs.inner.Part.{IsButForPart, in_part}
-use Rattle.fib_entries.specs.inner.Reaching.{IsPut, IsSettled, gone_addrs, late_addrs, late_names, turned_addrs}
-use Rattle.fib_entries.specs.Rows.{Row}
-use Rattle.fib_entries.specs.declared.hosting.Late.{Late}
-use Rattle.fib_entries.specs.declared.parting.Last.{Last}
-use Rattle.fib_entries.specs.declared.replace.Own.{Own}
-use Rattle.fib_entries.proofs.Counting.{counts_some}
-use Rattle.fib_entries.proofs.Housing.{hosted_names}
-use Rattle.fib_entries.proofs.Leafing.{is_not, only_one, part_cases, part_host, part_not}
+use Rattle.fib_resolve_changes.specs.Differ.{Differ}
+use Rattle.fib_resolve_changes.specs.declared.change.Change.TheVariants as changes
+use Rattle.fib_resolve_changes.proofs.Edits.{in_front}
+use Rattle.fib_resolve_changes.proofs.Targets.{edge_entry}
+use Rattle.fib_base_interned.specs.Interned.{AreInterned}
+use Rattle.fib_base_interned.proofs.Finding.{contains_at, none_some, some_is}
+use Rattle.fib_entries_rows.specs.Known.{Known, PathKept, content_of, holders, prefix_of, IsRow, StandsFor}
+use Rattle.fib_entries_rows.specs.inner.Coming.{blank_row, with_pairs}
+use Rattle.fib_entries_rows.specs.inner.Fields.{AreCounted}
+use Rattle.fib_entries_rows.specs.inner.Hosting.{IsHosted, IsListed, host_own}
+use Rattle.fib_entries_rows.specs.inner.Leaf.{AreAttached, IsButFor, IsReplaced, goals_of, own_row, pushed}
+use Rattle.fib_entries_rows.specs.inner.Led.{IsBestEdit, IsLedEdit, IsReaching, IsTurn}
+use Rattle.fib_entries_rows.specs.inner.Part.{IsButForPart, in_part}
+use Rattle.fib_entries_rows.specs.inner.Reaching.{IsRelisted, IsSettled, gone_addrs, late_addrs, late_names, turned_addrs}
+use Rattle.fib_entries_rows.specs.Rows.{Row}
+use Rattle.fib_entries_rows.specs.declared.hosting.Late.{Late}
+use Rattle.fib_entries_rows.specs.declared.parting.Last.{Last}
+use Rattle.fib_entries_rows.specs.declared.replace.Own.{Own}
+use Rattle.fib_entries_rows.proofs.Counting.{counts_some}
+use Rattle.fib_entries_rows.proofs.Housing.{hosted_names}
+use Rattle.fib_entries_rows.proofs.Leafing.{is_not, only_one, part_cases, part_host, part_not}
 use Rattle.fib_entries.proofs.LedLaws.{led_late_covered, led_late_led, led_late_other}
 use Rattle.fib_entries.proofs.LedPairs.{gone_users, led_holders, led_source_after, led_source_before, led_to_own}
 use Rattle.fib_entries.proofs.LedReach.{late_cover_is, late_no_host, reach_best, reach_edit, reach_goals, reach_goals_before, reach_host_late, reach_turn, reach_was}
-use Rattle.fib_entries.proofs.Linking.{attached_one, but_self, zip_at}
-use Rattle.fib_entries.proofs.Listing.{pair_of}
-use Rattle.fib_entries.proofs.PartRows.{row_by}
-use Rattle.fib_entries.proofs.Putting.{paired_from, paired_names, put_from, put_ordered, put_row, put_with}
-use Rattle.fib_entries.proofs.Settling.{Relisting, counted_by, list_content, list_counted, list_stays, row_after, row_from, row_led, row_led_own, row_names, row_once, row_ordered, row_relinked}
-use Rattle.fib_entries.proofs.Taking.{list_is, list_self}
-use Rattle.fib_entries.proofs.Telling.{one_number}
-use Rattle.fib_entries.proofs.Using.{once, content_taken, counted_taken, recounted, taken_stays, unit_other, unit_same}
+use Rattle.fib_entries_rows.proofs.Linking.{attached_one, but_self, zip_at}
+use Rattle.fib_entries_rows.proofs.Listing.{pair_of}
+use Rattle.fib_entries_rows.proofs.PartRows.{row_by}
+use Rattle.fib_entries_rows.proofs.Putting.{paired_from, paired_names, put_from, put_ordered, put_row, put_with}
+use Rattle.fib_entries_rows.proofs.Settling.{Relisting, counted_by, list_content, list_counted, list_stays, row_after, row_from, row_led, row_led_own, row_names, row_once, row_ordered, row_relinked}
+use Rattle.fib_entries_rows.proofs.Taking.{list_is, list_self}
+use Rattle.fib_entries_rows.proofs.Telling.{one_number}
+use Rattle.fib_entries_rows.proofs.Using.{once, content_taken, counted_taken, recounted, taken_stays, unit_other, unit_same}
 use Rattle.fib_entries.proofs.WithHost.{no_source, zip_insert}
 
 -- among these rows the list is replaced, after which the lists have that many users
@@ -74,7 +74,7 @@ abbrev known_with : Known → List Row → List PathKept → Known
 known_with v rows lists = record { rows = rows; lists = lists; objects = v.objects }
 
 module _ (v : Known) (S T : Tables) (f : List Path → ℕ) (p : Prefix) (source : FibSource) (id : ℕ) (old new : List Path) (rest : List (FibSource × ℕ)) (own : Own) (late : Option Late) (mid : List Row) (later : List PathKept)
-    (put : IsPut v.rows mid v.lists later p id old new own late) (b : Basis v S T f p source id old new rest own put.start put.row) where
+    (put : IsRelisted v.rows mid v.lists later p id old new own late) (b : Basis v S T f p source id old new rest own put.start put.row) where
   put_set : (s : Row) → slice_get put.replaced.low put.place ≡ Some s → put.low ≡ slice_set put.replaced.low put.place (own_row p ((source, put.replaced.new_id) ∷ rest) own s.dependants)
   put_set s at =
       let x = zip_at _ put.start put.replaced.mid put.place put.row put.replaced.attached put.at in
@@ -172,7 +172,7 @@ used_after S T p source b = counts_some (λ z. pointwise same_path z.paths (path
 
 -- where no host comes
 module _ (v : Known) (mid : List Row) (later : List PathKept) (S T : Tables) (p : Prefix) (source : FibSource) (place id : ℕ) (old : List Path) (own : Own) (gone : Option Last) (k : StandsFor v S) (m : IsReaching v.rows v.lists (map prefix_of v.rows) T p source place id old None gone)
-    (differ : Differ (changes.Route p source ∷ []) S T) (after : IsSound T) (apart : AreInterned v.lists) (put : IsPut v.rows mid v.lists later p id old (paths_at p source T.routes) own None) (of_source : own.source ≡ source) where
+    (differ : Differ (changes.Route p source ∷ []) S T) (after : IsSound T) (apart : AreInterned v.lists) (put : IsRelisted v.rows mid v.lists later p id old (paths_at p source T.routes) own None) (of_source : own.source ≡ source) where
   edit : IsLedEdit S T p source (turned_addrs None gone)
   edit = reach_edit v S T p source place id old None gone k m differ after
 
@@ -304,7 +304,7 @@ used_before S T p source b paths = elim (either (pointwise same_path (paths_at p
 
 -- where the host of a late next hop comes
 module _ (v : Known) (mid : List Row) (later : List PathKept) (S T : Tables) (p : Prefix) (source : FibSource) (place id : ℕ) (old : List Path) (own : Own) (g : Late) (gone : Option Last) (k : StandsFor v S) (m : IsReaching v.rows v.lists (map prefix_of v.rows) T p source place id old (Some g) gone)
-    (differ : Differ (changes.Route p source ∷ []) S T) (after : IsSound T) (apart : AreInterned v.lists) (put : IsPut v.rows mid v.lists later p id old (paths_at p source T.routes) own (Some g)) (of_source : own.source ≡ source) where
+    (differ : Differ (changes.Route p source ∷ []) S T) (after : IsSound T) (apart : AreInterned v.lists) (put : IsRelisted v.rows mid v.lists later p id old (paths_at p source T.routes) own (Some g)) (of_source : own.source ≡ source) where
   edit_late : IsLedEdit S T p source (turned_addrs (Some g) gone)
   edit_late = reach_edit v S T p source place id old (Some g) gone k m differ after
 
@@ -625,20 +625,20 @@ module _ (v : Known) (mid : List Row) (later : List PathKept) (S T : Tables) (p 
 
 -- what the rows and lists are, whether a host comes or not
 pub settled : (v : Known) (mid : List Row) (later : List PathKept) (S T : Tables) (p : Prefix) (source : FibSource) (place id : ℕ) (old : List Path) (own : Own) (late : Option Late) (gone : Option Last) (k : StandsFor v S)
-    (m : IsReaching v.rows v.lists (map prefix_of v.rows) T p source place id old late gone) (differ : Differ (changes.Route p source ∷ []) S T) (after : IsSound T) (apart : AreInterned v.lists) (put : IsPut v.rows mid v.lists later p id old (paths_at p source T.routes) own late) → own.source ≡ source
+    (m : IsReaching v.rows v.lists (map prefix_of v.rows) T p source place id old late gone) (differ : Differ (changes.Route p source ∷ []) S T) (after : IsSound T) (apart : AreInterned v.lists) (put : IsRelisted v.rows mid v.lists later p id old (paths_at p source T.routes) own late) → own.source ≡ source
     → IsSettled v S T (λ paths. holders T paths + gone_users gone paths) p ((source, put.replaced.new_id) ∷ m.rest) put.replaced.new_id (paths_at p source T.routes) own late None mid later
 settled v mid later S T p source place id old own None gone k m differ after apart put is = settled_none v mid later S T p source place id old own gone k m differ after apart put is
 settled v mid later S T p source place id old own (Some g) gone k m differ after apart put is = settled_late v mid later S T p source place id old own g gone k m differ after apart put is
 
 -- a list that is still used, or that of the host that goes, keeps its number
 pub settled_stays : (v : Known) (mid : List Row) (later : List PathKept) (S T : Tables) (p : Prefix) (source : FibSource) (place id : ℕ) (old : List Path) (own : Own) (late : Option Late) (gone : Option Last) (k : StandsFor v S)
-    (m : IsReaching v.rows v.lists (map prefix_of v.rows) T p source place id old late gone) (differ : Differ (changes.Route p source ∷ []) S T) (after : IsSound T) (apart : AreInterned v.lists) (put : IsPut v.rows mid v.lists later p id old (paths_at p source T.routes) own late) → own.source ≡ source
+    (m : IsReaching v.rows v.lists (map prefix_of v.rows) T p source place id old late gone) (differ : Differ (changes.Route p source ∷ []) S T) (after : IsSound T) (apart : AreInterned v.lists) (put : IsRelisted v.rows mid v.lists later p id old (paths_at p source T.routes) own late) → own.source ≡ source
     → (i : ℕ) (list : List Path) → 0 < holders T list + gone_users gone list → content_of v.lists i ≡ Some list → content_of later i ≡ Some list
 settled_stays v mid later S T p source place id old own None gone k m differ after apart put is = stays_none v mid later S T p source place id old own gone k m differ after apart put is
 settled_stays v mid later S T p source place id old own (Some g) gone k m differ after apart put is = stays_late v mid later S T p source place id old own g gone k m differ after apart put is
 
 pub settled_names : (v : Known) (mid : List Row) (later : List PathKept) (S T : Tables) (p : Prefix) (source : FibSource) (place id : ℕ) (old : List Path) (own : Own) (late : Option Late) (gone : Option Last) (k : StandsFor v S)
-    (m : IsReaching v.rows v.lists (map prefix_of v.rows) T p source place id old late gone) (differ : Differ (changes.Route p source ∷ []) S T) (after : IsSound T) (apart : AreInterned v.lists) (put : IsPut v.rows mid v.lists later p id old (paths_at p source T.routes) own late) → own.source ≡ source
+    (m : IsReaching v.rows v.lists (map prefix_of v.rows) T p source place id old late gone) (differ : Differ (changes.Route p source ∷ []) S T) (after : IsSound T) (apart : AreInterned v.lists) (put : IsRelisted v.rows mid v.lists later p id old (paths_at p source T.routes) own late) → own.source ≡ source
     → map prefix_of mid ≡ late_names v.rows late
 settled_names v mid later S T p source place id old own None gone k m differ after apart put is = none_names v mid later S T p source place id old own gone k m differ after apart put is
 settled_names v mid later S T p source place id old own (Some g) gone k m differ after apart put is = late_rows v mid later S T p source place id old own g gone k m differ after apart put is

@@ -4,7 +4,7 @@ use Rattle.std.specs.Prelude.{Contains}
 use Rattle.std.specs.Cmp.Lexicographic.{pointwise}
 use Rattle.std.proofs.lemmas.Bool.{false≢true}
 use Rattle.std.proofs.lemmas.List.Elements.{Contains-append_cases, Contains-append_left}
-use Rattle.fib_list.proofs.Lists.{either, Contains-nil}
+use Rattle.fib_base_list.proofs.Lists.{either, Contains-nil}
 use Rattle.fib_addr.specs.Prefixes.{Prefix, same_prefix, host}
 use Rattle.fib_addr.proofs.PrefixLaws.{same_prefix-Decides}
 use Rattle.fib_reach.specs.Walks.{AllDiffer}
@@ -18,32 +18,32 @@ use Rattle.fib_resolve.specs.declared.types.FibSource.TheVariants as sources
 use Rattle.fib_resolve.specs.declared.types.Path.{Path}
 use Rattle.fib_resolve.specs.declared.types.PathKind.TheVariants as kinds
 use Rattle.fib_resolve.specs.declared.types.Tables.{Tables}
-use Rattle.fib_changes.specs.Differ.{Differ}
-use Rattle.fib_changes.specs.declared.change.Change.TheVariants as changes
-use Rattle.fib_changes.proofs.Edits.{in_front}
-use Rattle.fib_interned.specs.Interned.{AreInterned}
-use Rattle.fib_entries.specs.Known.{Known, PathKept, content_of, holders, prefix_of, StandsFor}
-use Rattle.fib_entries.specs.inner.Going.{IsWithdrawn}
-use Rattle.fib_entries.specs.inner.Hosting.{host_own}
-use Rattle.fib_entries.specs.inner.Leaf.{IsButFor}
-use Rattle.fib_entries.specs.inner.Led.{IsLedEdit, IsReaching, IsTurn}
-use Rattle.fib_entries.specs.inner.Part.{IsButForPart, in_part}
-use Rattle.fib_entries.specs.inner.Parting.{IsParted}
-use Rattle.fib_entries.specs.inner.Reaching.{IsOut, IsPut, IsSettled, gone_addrs, gone_hosts, late_addrs, late_hosts, turned_addrs}
-use Rattle.fib_entries.specs.declared.hosting.Late.{Late}
-use Rattle.fib_entries.specs.declared.parting.Last.{Last}
-use Rattle.fib_entries.specs.declared.replace.Own.{Own}
-use Rattle.fib_entries.specs.Rows.{Row}
-use Rattle.fib_entries.proofs.Counting.{counts_some}
-use Rattle.fib_entries.proofs.Hosts.{loose_pair, loose_there}
-use Rattle.fib_entries.proofs.Leafing.{is_not, only_one, part_cases, part_host, part_own}
+use Rattle.fib_resolve_changes.specs.Differ.{Differ}
+use Rattle.fib_resolve_changes.specs.declared.change.Change.TheVariants as changes
+use Rattle.fib_resolve_changes.proofs.Edits.{in_front}
+use Rattle.fib_base_interned.specs.Interned.{AreInterned}
+use Rattle.fib_entries_rows.specs.Known.{Known, PathKept, content_of, holders, prefix_of, StandsFor}
+use Rattle.fib_entries_rows.specs.inner.Going.{IsWithdrawn}
+use Rattle.fib_entries_rows.specs.inner.Hosting.{host_own}
+use Rattle.fib_entries_rows.specs.inner.Leaf.{IsButFor}
+use Rattle.fib_entries_rows.specs.inner.Led.{IsLedEdit, IsReaching, IsTurn}
+use Rattle.fib_entries_rows.specs.inner.Part.{IsButForPart, in_part}
+use Rattle.fib_entries_rows.specs.inner.Parting.{IsParted}
+use Rattle.fib_entries_rows.specs.inner.Reaching.{IsOut, IsRelisted, IsSettled, gone_addrs, gone_hosts, late_addrs, late_hosts, turned_addrs}
+use Rattle.fib_entries_rows.specs.declared.hosting.Late.{Late}
+use Rattle.fib_entries_rows.specs.declared.parting.Last.{Last}
+use Rattle.fib_entries_rows.specs.declared.replace.Own.{Own}
+use Rattle.fib_entries_rows.specs.Rows.{Row}
+use Rattle.fib_entries_rows.proofs.Counting.{counts_some}
+use Rattle.fib_entries_rows.proofs.Hosts.{loose_pair, loose_there}
+use Rattle.fib_entries_rows.proofs.Leafing.{is_not, only_one, part_cases, part_host, part_own}
 use Rattle.fib_entries.proofs.LedLaws.{led_late_other}
 use Rattle.fib_entries.proofs.LedPairs.{come_in, gone_users, go_in, led_go_entry, led_late}
 use Rattle.fib_entries.proofs.LedReach.{reach_best, reach_cover_gone, reach_edit, reach_host_gone, reach_none_gone, reach_turn}
 use Rattle.fib_entries.proofs.Settled.{settled, settled_stays, used_after}
-use Rattle.fib_entries.proofs.Taking.{list_self}
-use Rattle.fib_entries.proofs.Using.{counted_given, given_stays, recounted, unit_same}
-use Rattle.fib_entries.proofs.Withdrawing.{but_for, ordered_gone, row_was}
+use Rattle.fib_entries_rows.proofs.Taking.{list_self}
+use Rattle.fib_entries_rows.proofs.Using.{counted_given, given_stays, recounted, unit_same}
+use Rattle.fib_entries_rows.proofs.Withdrawing.{but_for, ordered_gone, row_was}
 
 -- a host that comes is a prefix of the list of those
 late_is : (late : Option Late) (e : Prefix) → Contains (late_hosts late) e → (a : ℕ) × Contains (late_addrs late) a × (host a ≡ e)
@@ -234,7 +234,7 @@ settled_same v S T f p held new_id paths own late mid later same s = record {
 
 -- what the rows and lists are once the host went, where one does
 pub settled_out : (v : Known) (mid out : List Row) (between later : List PathKept) (S T : Tables) (p : Prefix) (source : FibSource) (place id : ℕ) (old : List Path) (own : Own) (late : Option Late) (gone : Option Last) (made : ℕ) (k : StandsFor v S)
-    (m : IsReaching v.rows v.lists (map prefix_of v.rows) T p source place id old late gone) (differ : Differ (changes.Route p source ∷ []) S T) (after : IsSound T) (apart : AreInterned v.lists) (put : IsPut v.rows mid v.lists between p id old (paths_at p source T.routes) own late) → own.source ≡ source
+    (m : IsReaching v.rows v.lists (map prefix_of v.rows) T p source place id old late gone) (differ : Differ (changes.Route p source ∷ []) S T) (after : IsSound T) (apart : AreInterned v.lists) (put : IsRelisted v.rows mid v.lists between p id old (paths_at p source T.routes) own late) → own.source ≡ source
     → IsOut gone mid out between later made → IsSettled v S T (holders T) p ((source, put.replaced.new_id) ∷ m.rest) put.replaced.new_id (paths_at p source T.routes) own late gone out later
 settled_out v mid out between later S T p source place id old own late None made k m differ after apart put is parted =
     subst (λ l. IsSettled v S T (holders T) p ((source, put.replaced.new_id) ∷ m.rest) put.replaced.new_id (paths_at p source T.routes) own late None l later) (sym parted.0)

@@ -6,7 +6,7 @@ use Rattle.std.specs.Set.{is_member}
 use Rattle.std.proofs.lemmas.Bool.{false≢true}
 use Rattle.std.proofs.lemmas.List.Elements.{Contains-append_left}
 use Rattle.std.proofs.lemmas.Map.Views.{Contains-from_any}
-use Rattle.fib_list.proofs.Lists.{either, Contains-nil}
+use Rattle.fib_base_list.proofs.Lists.{either, Contains-nil}
 use Rattle.fib_addr.specs.Prefixes.{Prefix, host, same_prefix}
 use Rattle.fib_addr.proofs.PrefixLaws.{same_prefix-Decides}
 use Rattle.fib_cover.specs.Covers.{IsAscending}
@@ -15,26 +15,26 @@ use Rattle.fib_resolve.specs.declared.types.FibSource.{FibSource}
 use Rattle.fib_resolve.specs.declared.types.Path.{Path}
 use Rattle.fib_resolve.specs.declared.types.PathKind.TheVariants as kinds
 use Rattle.fib_resolve.specs.declared.types.Tables.{Tables}
-use Rattle.fib_changes.proofs.Edits.{in_front}
-use Rattle.fib_changes.proofs.SamePairs.{map_in}
-use Rattle.fib_interned.specs.Interned.{kept_of}
-use Rattle.fib_interned.proofs.Finding.{contains_at, none_some, some_is}
-use Rattle.fib_entries.specs.Known.{PathKept, content_of, prefix_of, rank_of, rank_in}
-use Rattle.fib_entries.specs.inner.Course.{AreWithLate, AreWithoutGone, IsCourse}
-use Rattle.fib_entries.specs.inner.Hosting.{IsComing}
-use Rattle.fib_entries.specs.inner.Leaf.{is_plain}
-use Rattle.fib_entries.specs.inner.Led.{IsReaching}
-use Rattle.fib_entries.specs.inner.Reaching.{HasPairs, IsFitGone, IsFitLate, IsUnseen, gone_hosts, late_hosts}
-use Rattle.fib_entries.specs.Rows.{Row}
-use Rattle.fib_entries.specs.declared.hosting.Late.{Late}
-use Rattle.fib_entries.specs.declared.parting.Last.{Last}
-use Rattle.fib_entries.specs.declared.reaching.Course.{Course}
-use Rattle.fib_entries.proofs.Leafing.{only_one}
-use Rattle.fib_entries.proofs.Naming.{some_content}
-use Rattle.fib_entries.proofs.PartRows.{row_by}
-use Rattle.fib_entries.proofs.Placing.{gap_absent}
-use Rattle.fib_entries.proofs.Reachings.{pairs_at}
-use Rattle.fib_entries.proofs.Turned.{but_turned_in}
+use Rattle.fib_resolve_changes.proofs.Edits.{in_front}
+use Rattle.fib_resolve_changes.proofs.SamePairs.{map_in}
+use Rattle.fib_base_interned.specs.Interned.{kept_of}
+use Rattle.fib_base_interned.proofs.Finding.{contains_at, none_some, some_is}
+use Rattle.fib_entries_rows.specs.Known.{PathKept, content_of, prefix_of, rank_of, rank_in}
+use Rattle.fib_entries_rows.specs.inner.Course.{AreWithLate, AreWithoutGone, IsCourse}
+use Rattle.fib_entries_rows.specs.inner.Hosting.{IsComing}
+use Rattle.fib_entries_rows.specs.inner.Leaf.{is_plain}
+use Rattle.fib_entries_rows.specs.inner.Led.{IsReaching}
+use Rattle.fib_entries_rows.specs.inner.Reaching.{HasPairs, IsFitGone, IsFitLate, IsUnseen, gone_hosts, late_hosts}
+use Rattle.fib_entries_rows.specs.Rows.{Row}
+use Rattle.fib_entries_rows.specs.declared.hosting.Late.{Late}
+use Rattle.fib_entries_rows.specs.declared.parting.Last.{Last}
+use Rattle.fib_entries_rows.specs.declared.reaching.Course.{Course}
+use Rattle.fib_entries_rows.proofs.Leafing.{only_one}
+use Rattle.fib_entries_rows.proofs.Naming.{some_content}
+use Rattle.fib_entries_rows.proofs.PartRows.{row_by}
+use Rattle.fib_entries_rows.proofs.Placing.{gap_absent}
+use Rattle.fib_entries_rows.proofs.Reachings.{pairs_at}
+use Rattle.fib_entries_rows.proofs.Turned.{but_turned_in}
 
 pub reaching_row : (rows : List Row) (lists : List PathKept) (order : List Prefix) (T : Tables) (p : Prefix) (source : FibSource) (place id : ℕ) (old : List Path) (late : Option Late) (gone : Option Last) → IsReaching rows lists order T p source place id old late gone → Contains (map prefix_of rows) p
 reaching_row rows lists order T p source place id old late _ m = subst (Contains (map prefix_of rows)) m.own (map_in prefix_of rows m.row (contains_at rows place m.row m.at))

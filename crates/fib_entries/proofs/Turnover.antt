@@ -7,26 +7,26 @@ use Rattle.fib_reach.specs.Walks.{AllDiffer}
 use Rattle.fib_resolve.specs.declared.types.FibSource.{FibSource}
 use Rattle.fib_resolve.specs.declared.types.Path.{Path}
 use Rattle.fib_resolve.specs.declared.types.Tables.{Tables}
-use Rattle.fib_changes.proofs.Edits.{in_cases, in_front, in_rest}
-use Rattle.fib_interned.specs.Interned.{AreInterned, Gives, Takes, kept_of, users_in, users_of}
-use Rattle.fib_interned.proofs.Finding.{contains_at, none_some, some_is}
-use Rattle.fib_entries.specs.Known.{PathKept, content_of, prefix_of}
+use Rattle.fib_resolve_changes.proofs.Edits.{in_cases, in_front, in_rest}
+use Rattle.fib_base_interned.specs.Interned.{AreInterned, Gives, Takes, kept_of, users_in, users_of}
+use Rattle.fib_base_interned.proofs.Finding.{contains_at, none_some, some_is}
+use Rattle.fib_entries_rows.specs.Known.{PathKept, content_of, prefix_of}
 use Rattle.fib_entries.specs.inner.Above.{IsPlanned}
 use Rattle.fib_entries.specs.inner.Adopting.{IsTurnedOver, drop_list}
-use Rattle.fib_entries.specs.inner.Led.{IsReaching}
-use Rattle.fib_entries.specs.inner.Leaf.{AreReplaced}
-use Rattle.fib_entries.specs.inner.Looping.{AreRelooped}
-use Rattle.fib_entries.specs.inner.Reaching.{HasPairs, HasReached, IsFitGone, IsFitLate, IsUnseen}
-use Rattle.fib_entries.specs.Rows.{Row}
-use Rattle.fib_entries.specs.declared.changes.Followed.{Followed}
-use Rattle.fib_entries.specs.declared.hosting.Late.{Late}
-use Rattle.fib_entries.specs.declared.parting.Last.{Last}
-use Rattle.fib_entries.specs.declared.reaching.Course.{Course}
-use Rattle.fib_entries.specs.declared.replace.Own.{Own}
-use Rattle.fib_entries.proofs.Naming.{some_content}
+use Rattle.fib_entries_rows.specs.inner.Led.{IsReaching}
+use Rattle.fib_entries_rows.specs.inner.Leaf.{AreReplaced}
+use Rattle.fib_entries_rows.specs.inner.Looping.{AreRelooped}
+use Rattle.fib_entries_rows.specs.inner.Reaching.{HasPairs, HasReached, IsFitGone, IsFitLate, IsUnseen}
+use Rattle.fib_entries_rows.specs.Rows.{Row}
+use Rattle.fib_entries_rows.specs.declared.changes.Followed.{Followed}
+use Rattle.fib_entries_rows.specs.declared.hosting.Late.{Late}
+use Rattle.fib_entries_rows.specs.declared.parting.Last.{Last}
+use Rattle.fib_entries_rows.specs.declared.reaching.Course.{Course}
+use Rattle.fib_entries_rows.specs.declared.replace.Own.{Own}
+use Rattle.fib_entries_rows.proofs.Naming.{some_content}
 use Rattle.fib_entries.proofs.Overtaking.{heads_same}
 use Rattle.fib_entries.proofs.Relent.{given_kept, given_lent, lent, lent_contents, lent_interned, lent_takes, taken_lent}
-use Rattle.fib_entries.proofs.Telling.{kept_some}
+use Rattle.fib_entries_rows.proofs.Telling.{kept_some}
 
 module _ (rows : List Row) (lists : List PathKept) (order : List Prefix) (T : Tables) (p : Prefix) (source : FibSource) (paths : List Path) (id : ℕ) (course : Course) (m : IsPlanned rows lists order T p source paths 0 course)
     (own : (r : Row) → Contains rows r → r.prefix ≡ p → r.pairs ≡ (source, id) ∷ []) (listed : content_of lists id ≡ Some drop_list) (shared : 1 < users_of lists id) (few : users_of lists id < 2 ^ 32) (other : content_of lists id ≡ Some paths → ⊥) where

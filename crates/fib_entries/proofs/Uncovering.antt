@@ -5,7 +5,7 @@ use Rattle.std.specs.Prelude.{Contains, min}
 use Rattle.std.specs.List.{AllByRecursion, list_all, list_any}
 use Rattle.std.specs.Cmp.Lexicographic.{pointwise}
 use Rattle.std.proofs.lemmas.Bool.Decides.{Decides-eqb}
-use Rattle.fib_list.proofs.Lists.{either, Contains-nil, Contains-flat_map}
+use Rattle.fib_base_list.proofs.Lists.{either, Contains-nil, Contains-flat_map}
 use Rattle.fib_addr.specs.Prefixes.{Prefix, IsPrefix, host, same_prefix}
 use Rattle.fib_addr.proofs.PrefixLaws.{same_prefix-Decides}
 use Rattle.fib_cover.specs.Covers.{IsAscending}
@@ -25,31 +25,31 @@ use Rattle.fib_resolve.specs.declared.types.Route.{Route}
 use Rattle.fib_resolve.specs.declared.types.Tables.{Tables}
 use Rattle.fib_resolve.proofs.OneList.{one_list, source_by_rank}
 use Rattle.fib_resolve.proofs.Touching.{best_of, BestOf, IsBest, untouched_pairs}
-use Rattle.fib_changes.specs.Differ.{Differ}
-use Rattle.fib_changes.specs.declared.change.Change.TheVariants as changes
-use Rattle.fib_changes.proofs.Edits.{in_cases, in_front, in_rest}
-use Rattle.fib_changes.proofs.SamePairs.{Origin, origin, from_origin, base, neighbor, derived, near_from, near_host, derived_host, flat_map_from, map_from, map_in}
-use Rattle.fib_interned.specs.Interned.{AreInterned}
-use Rattle.fib_interned.proofs.Finding.{contains_at, some_is}
-use Rattle.fib_entries.specs.Known.{Known, content_of, prefix_of, rank_of, ArePairs, IsHeld, IsRow, StandsFor, holders, kind_met}
-use Rattle.fib_entries.specs.inner.Coming.{with_pairs}
-use Rattle.fib_entries.specs.inner.Fields.{AreCounted}
-use Rattle.fib_entries.specs.inner.Leaf.{IsFollowed, is_plain}
-use Rattle.fib_entries.specs.inner.Part.{IsPartKept}
-use Rattle.fib_entries.specs.inner.Under.{HasBest, IsBared, IsNext}
-use Rattle.fib_entries.specs.Rows.{Row}
-use Rattle.fib_entries.specs.declared.changes.Followed.{Followed}
-use Rattle.fib_entries.proofs.Counting.{counts_some}
+use Rattle.fib_resolve_changes.specs.Differ.{Differ}
+use Rattle.fib_resolve_changes.specs.declared.change.Change.TheVariants as changes
+use Rattle.fib_resolve_changes.proofs.Edits.{in_cases, in_front, in_rest}
+use Rattle.fib_resolve_changes.proofs.SamePairs.{Origin, origin, from_origin, base, neighbor, derived, near_from, near_host, derived_host, flat_map_from, map_from, map_in}
+use Rattle.fib_base_interned.specs.Interned.{AreInterned}
+use Rattle.fib_base_interned.proofs.Finding.{contains_at, some_is}
+use Rattle.fib_entries_rows.specs.Known.{Known, content_of, prefix_of, rank_of, ArePairs, IsHeld, IsRow, StandsFor, holders, kind_met}
+use Rattle.fib_entries_rows.specs.inner.Coming.{with_pairs}
+use Rattle.fib_entries_rows.specs.inner.Fields.{AreCounted}
+use Rattle.fib_entries_rows.specs.inner.Leaf.{IsFollowed, is_plain}
+use Rattle.fib_entries_rows.specs.inner.Part.{IsPartKept}
+use Rattle.fib_entries_rows.specs.inner.Under.{HasBest, IsBared, IsNext}
+use Rattle.fib_entries_rows.specs.Rows.{Row}
+use Rattle.fib_entries_rows.specs.declared.changes.Followed.{Followed}
+use Rattle.fib_entries_rows.proofs.Counting.{counts_some}
 use Rattle.fib_entries.proofs.Doubled.{alike, entries_same, kept_after, looped_list, marks_list, met_list, quiet_back, sizes, touched_alike_to}
 use Rattle.fib_entries.proofs.Doubling.{IsBelow, no_host, over, over_best, over_differ, over_holders, over_is, over_others, over_own, over_paths, over_sound, over_targets}
-use Rattle.fib_entries.proofs.Leafing.{came_beside, each_has, entry_of_pair, is_it, is_not, kept_beside, pair_at, routes_beside, written_route}
+use Rattle.fib_entries_rows.proofs.Leafing.{came_beside, each_has, entry_of_pair, is_it, is_not, kept_beside, pair_at, routes_beside, written_route}
 use Rattle.fib_entries.proofs.LedReach.{list_of_route}
-use Rattle.fib_entries.proofs.Listing.{pair_of, source_of_route}
-use Rattle.fib_entries.proofs.PartRows.{entries_are, rows_are}
-use Rattle.fib_entries.proofs.Putting.{paired_from, paired_names, paired_ranks}
-use Rattle.fib_entries.proofs.Settling.{counted_by}
-use Rattle.fib_entries.proofs.Taking.{list_self}
-use Rattle.fib_entries.proofs.Using.{counted_given, given_stays, once}
+use Rattle.fib_entries_rows.proofs.Listing.{pair_of, source_of_route}
+use Rattle.fib_entries_rows.proofs.PartRows.{entries_are, rows_are}
+use Rattle.fib_entries_rows.proofs.Putting.{paired_from, paired_names, paired_ranks}
+use Rattle.fib_entries_rows.proofs.Settling.{counted_by}
+use Rattle.fib_entries_rows.proofs.Taking.{list_self}
+use Rattle.fib_entries_rows.proofs.Using.{counted_given, given_stays, once}
 
 -- the best pair's list is the chosen one
 best_chosen : (U : Tables) (e : Prefix) (x : Pair) → IsSound U → IsBest e (pairs U) x → x.paths ≡ chosen U e

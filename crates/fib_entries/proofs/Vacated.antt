@@ -3,16 +3,16 @@ use Rattle.std.proofs.Common.{arith, ◌≡◌, ◌≢◌, ℕ, ◌<◌, ◌≤�
 use Rattle.std.specs.Prelude.{Contains}
 use Rattle.std.specs.List.{list_all}
 use Rattle.std.proofs.lemmas.Bool.{false≢true}
-use Rattle.fib_list.proofs.Lists.{Contains-nil}
+use Rattle.fib_base_list.proofs.Lists.{Contains-nil}
 use Rattle.fib_addr.specs.Prefixes.{Prefix, IsPrefix, host, same_prefix}
 use Rattle.fib_cover.specs.Covers.{IsMatch}
 use Rattle.fib_reach.specs.Walks.{Next, Reaches}
-use Rattle.fib_changes.specs.Differ.{Differ}
-use Rattle.fib_changes.specs.Sources.{SamePairs}
-use Rattle.fib_changes.specs.declared.change.Change.TheVariants as changes
-use Rattle.fib_changes.proofs.Cycles.{path_edge}
-use Rattle.fib_changes.proofs.SamePairs.{Origin, origin, from_origin, base, neighbor, derived, near_from, near_host, derived_host, flat_map_from, map_from, map_in, same_chosen}
-use Rattle.fib_interned.proofs.Finding.{contains_at, none_some, some_is}
+use Rattle.fib_resolve_changes.specs.Differ.{Differ}
+use Rattle.fib_resolve_changes.specs.Sources.{SamePairs}
+use Rattle.fib_resolve_changes.specs.declared.change.Change.TheVariants as changes
+use Rattle.fib_resolve_changes.proofs.Cycles.{path_edge}
+use Rattle.fib_resolve_changes.proofs.SamePairs.{Origin, origin, from_origin, base, neighbor, derived, near_from, near_host, derived_host, flat_map_from, map_from, map_in, same_chosen}
+use Rattle.fib_base_interned.proofs.Finding.{contains_at, none_some, some_is}
 use Rattle.fib_resolve.specs.Aims.{marked_list}
 use Rattle.fib_resolve.specs.Edits.{paths_at}
 use Rattle.fib_resolve.specs.Loops.{kind_targets, targets}
@@ -26,16 +26,16 @@ use Rattle.fib_resolve.specs.declared.types.Path.{Path}
 use Rattle.fib_resolve.specs.declared.types.PathKind.{PathKind}
 use Rattle.fib_resolve.specs.declared.types.PathKind.TheVariants as kinds
 use Rattle.fib_resolve.specs.declared.types.Tables.{Tables}
-use Rattle.fib_entries.specs.Known.{Known, prefix_of, ArePairs, IsRow, StandsFor}
-use Rattle.fib_entries.specs.Rows.{Row}
+use Rattle.fib_entries_rows.specs.Known.{Known, prefix_of, ArePairs, IsRow, StandsFor}
+use Rattle.fib_entries_rows.specs.Rows.{Row}
 use Rattle.fib_entries.specs.inner.Adopting.{IsOpen}
 use Rattle.fib_entries.specs.inner.Releasing.{IsBetween, is_ending}
 use Rattle.fib_entries.specs.declared.releasing.Between.{Between}
 use Rattle.fib_entries.proofs.AdoptEdges.{cover_edge, edge_mark}
 use Rattle.fib_entries.proofs.Doubling.{no_host}
-use Rattle.fib_entries.proofs.Leafing.{base_beside, entry_of_pair, not_it, only_one, pair_at}
-use Rattle.fib_entries.proofs.Sharing.{each_true}
-use Rattle.fib_entries.proofs.Standing.{first_chosen}
+use Rattle.fib_entries_rows.proofs.Leafing.{base_beside, entry_of_pair, not_it, only_one, pair_at}
+use Rattle.fib_entries_rows.proofs.Sharing.{each_true}
+use Rattle.fib_entries_rows.proofs.Standing.{first_chosen}
 use Rattle.fib_entries.proofs.Uncovering.{had, none_own, real_after}
 
 -- the pairs of other prefixes that can be covers stay

@@ -3,7 +3,7 @@ use Rattle.std.proofs.Common.{arith, ◌≡◌, ◌≢◌, ℕ, zero, suc, ◌+�
 use Rattle.std.specs.Prelude.{Contains, min, flat_map, filter_map, option_map, slice_set}
 use Rattle.std.specs.List.{insert, AllZip}
 use Rattle.std.proofs.lemmas.Bool.{false≢true, cases_lt}
-use Rattle.fib_list.proofs.Lists.{either, Contains-nil, Contains-flat_map}
+use Rattle.fib_base_list.proofs.Lists.{either, Contains-nil, Contains-flat_map}
 use Rattle.fib_addr.specs.Prefixes.{Prefix, IsPrefix, same_prefix, host}
 use Rattle.fib_addr.proofs.PrefixLaws.{same_prefix-Decides}
 use Rattle.fib_cover.specs.Covers.{IsAscending, ArePrefixes}
@@ -28,44 +28,44 @@ use Rattle.fib_resolve.proofs.Entries.{chosen-no_entry}
 use Rattle.fib_resolve.proofs.PairLaws.{cover_short}
 use Rattle.std.specs.Set.{is_member}
 use Rattle.std.proofs.lemmas.Map.Views.{Contains-from_any}
-use Rattle.fib_changes.specs.Differ.{Differ}
-use Rattle.fib_changes.specs.Sources.{all_hops}
-use Rattle.fib_changes.specs.declared.change.Change.TheVariants as changes
-use Rattle.fib_changes.proofs.Edits.{in_cases, in_front, in_rest}
-use Rattle.fib_changes.proofs.SamePairs.{map_from}
-use Rattle.fib_changes.proofs.Targets.{hop_entry}
-use Rattle.fib_interned.specs.Interned.{AreInterned}
-use Rattle.fib_interned.proofs.Finding.{contains_at, some_is, none_some}
-use Rattle.fib_entries.specs.Known.{Known, content_of, prefix_of, rank_of, rank_in, ArePairs, IsRow, StandsFor, holders, kind_met}
-use Rattle.fib_entries.specs.Changes.{AreTouched, AreMoved}
-use Rattle.fib_entries.specs.inner.Clear.{IsApart}
-use Rattle.fib_entries.specs.inner.Coming.{blank_row}
-use Rattle.fib_entries.specs.inner.Fields.{AreCounted}
-use Rattle.fib_entries.specs.inner.Hosting.{IsHosting, HasHosted, host_own}
-use Rattle.fib_entries.specs.inner.Leaf.{IsLeafEdit, AreWhole, IsFollowed, AreAttached, goal_of, goals_of, pushed, plain_own}
-use Rattle.fib_entries.specs.inner.Part.{in_part, IsButForPart, IsPartEdit, IsPartMade}
-use Rattle.fib_entries.specs.declared.changes.Followed.{Followed}
-use Rattle.fib_entries.specs.declared.hosting.Late.{Late}
-use Rattle.fib_entries.specs.Rows.{Row}
+use Rattle.fib_resolve_changes.specs.Differ.{Differ}
+use Rattle.fib_resolve_changes.specs.Sources.{all_hops}
+use Rattle.fib_resolve_changes.specs.declared.change.Change.TheVariants as changes
+use Rattle.fib_resolve_changes.proofs.Edits.{in_cases, in_front, in_rest}
+use Rattle.fib_resolve_changes.proofs.SamePairs.{map_from}
+use Rattle.fib_resolve_changes.proofs.Targets.{hop_entry}
+use Rattle.fib_base_interned.specs.Interned.{AreInterned}
+use Rattle.fib_base_interned.proofs.Finding.{contains_at, some_is, none_some}
+use Rattle.fib_entries_rows.specs.Known.{Known, content_of, prefix_of, rank_of, rank_in, ArePairs, IsRow, StandsFor, holders, kind_met}
+use Rattle.fib_entries_rows.specs.Changes.{AreTouched, AreMoved}
+use Rattle.fib_entries_rows.specs.inner.Clear.{IsApart}
+use Rattle.fib_entries_rows.specs.inner.Coming.{blank_row}
+use Rattle.fib_entries_rows.specs.inner.Fields.{AreCounted}
+use Rattle.fib_entries_rows.specs.inner.Hosting.{IsHosting, HasHosted, host_own}
+use Rattle.fib_entries_rows.specs.inner.Leaf.{IsLeafEdit, AreWhole, IsFollowed, AreAttached, goal_of, goals_of, pushed, plain_own}
+use Rattle.fib_entries_rows.specs.inner.Part.{in_part, IsButForPart, IsPartEdit, IsPartMade}
+use Rattle.fib_entries_rows.specs.declared.changes.Followed.{Followed}
+use Rattle.fib_entries_rows.specs.declared.hosting.Late.{Late}
+use Rattle.fib_entries_rows.specs.Rows.{Row}
 use Rattle.fib_entries.proofs.Belonging.{none_was, belonging_edit, came_is_row}
 use Rattle.fib_entries.proofs.Covering.{cover_found}
-use Rattle.fib_entries.proofs.HopEnds.{ends_but}
-use Rattle.fib_entries.proofs.Hosts.{loose_pair, late_pair, late_there, late_entry, late_chosen, late_targets, late_marks, late_touched}
-use Rattle.fib_entries.proofs.LeafRows.{entry_own}
-use Rattle.fib_entries.proofs.Leafing.{late_led, late_cover, late_covered_before, late_hop, part_cases, part_own, part_host, part_not, part_edit, entry_of_pair, chosen_same, is_not, only_one, short_other}
-use Rattle.fib_entries.proofs.LeafSizes.{HasEnd, ends_by, ends_in, plain_targets, adjacencies_same}
+use Rattle.fib_entries_rows.proofs.HopEnds.{ends_but}
+use Rattle.fib_entries_rows.proofs.Hosts.{loose_pair, late_pair, late_there, late_entry, late_chosen, late_targets, late_marks, late_touched}
+use Rattle.fib_entries_rows.proofs.LeafRows.{entry_own}
+use Rattle.fib_entries_rows.proofs.Leafing.{late_led, late_cover, late_covered_before, late_hop, part_cases, part_own, part_host, part_not, part_edit, entry_of_pair, chosen_same, is_not, only_one, short_other}
+use Rattle.fib_entries_rows.proofs.LeafSizes.{HasEnd, ends_by, ends_in, plain_targets, adjacencies_same}
 use Rattle.fib_entries.proofs.BothRows.{AreBoth, both_ordered, both_with, both_others, both_p, both_h, both_ranks, both_rank_p, both_rank_h, both_names, h_names, h_ordered}
-use Rattle.fib_entries.proofs.Linking.{attached_one, but_self}
-use Rattle.fib_entries.proofs.Listing.{listed_route, chosen_before, chosen_after, own_touched, own_before, own_after, counted_own, counted_none, part_holders}
-use Rattle.fib_entries.proofs.PartRows.{row_by, no_row, entry_beside, stands_part, touched_inside, moved_inside}
-use Rattle.fib_entries.proofs.Orders.{order_size, size_of_order, order_grown}
-use Rattle.fib_entries.proofs.Placing.{gap_absent, inserted_from, size_came}
+use Rattle.fib_entries_rows.proofs.Linking.{attached_one, but_self}
+use Rattle.fib_entries_rows.proofs.Listing.{listed_route, chosen_before, chosen_after, own_touched, own_before, own_after, counted_own, counted_none, part_holders}
+use Rattle.fib_entries_rows.proofs.PartRows.{row_by, no_row, entry_beside, stands_part, touched_inside, moved_inside}
+use Rattle.fib_entries_rows.proofs.Orders.{order_size, size_of_order, order_grown}
+use Rattle.fib_entries_rows.proofs.Placing.{gap_absent, inserted_from, size_came}
 use Rattle.fib_entries.proofs.PartCounts.{part_counts, host_counted, host_uncounted}
-use Rattle.fib_entries.proofs.Replacing.{goal_long}
-use Rattle.fib_entries.proofs.Settling.{counted_by}
-use Rattle.fib_entries.proofs.Sharing.{led_but, hop_from}
-use Rattle.fib_entries.proofs.Standing.{first_chosen}
-use Rattle.fib_entries.proofs.Using.{once, recounted, counted_taken, taken_stays, content_taken}
+use Rattle.fib_entries_rows.proofs.Replacing.{goal_long}
+use Rattle.fib_entries_rows.proofs.Settling.{counted_by}
+use Rattle.fib_entries_rows.proofs.Sharing.{led_but, hop_from}
+use Rattle.fib_entries_rows.proofs.Standing.{first_chosen}
+use Rattle.fib_entries_rows.proofs.Using.{once, recounted, counted_taken, taken_stays, content_taken}
 
 -- the same row comes among rows that are alike
 pub zip_insert : (P : Row → Row → Type 0) (xs ys : List Row) (k : ℕ) (z : Row) → AllZip P xs ys → P z z → AllZip P (insert xs k z) (insert ys k z)

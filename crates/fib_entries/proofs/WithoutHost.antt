@@ -3,7 +3,7 @@ use Rattle.std.proofs.Common.{arith, ◌≡◌, ◌≢◌, ℕ, ◌+◌, ◌-◌
 use Rattle.std.specs.Prelude.{Contains, min, filter_map}
 use Rattle.std.specs.List.{list_any}
 use Rattle.std.proofs.lemmas.Bool.{false≢true, cases_lt}
-use Rattle.fib_list.proofs.Lists.{either, Contains-nil, Contains-flat_map}
+use Rattle.fib_base_list.proofs.Lists.{either, Contains-nil, Contains-flat_map}
 use Rattle.fib_addr.specs.Prefixes.{Prefix, IsPrefix, host}
 use Rattle.fib_cover.specs.Covers.{IsAscending, ArePrefixes}
 use Rattle.fib_resolve.specs.Edits.{paths_at}
@@ -20,42 +20,42 @@ use Rattle.fib_resolve.specs.declared.types.Path.{Path}
 use Rattle.fib_resolve.specs.declared.types.PathKind.{PathKind}
 use Rattle.fib_resolve.specs.declared.types.PathKind.TheVariants as kinds
 use Rattle.fib_resolve.specs.declared.types.Tables.{Tables}
-use Rattle.fib_changes.specs.Differ.{Differ}
-use Rattle.fib_changes.specs.Sources.{all_hops}
-use Rattle.fib_changes.specs.declared.change.Change.TheVariants as changes
-use Rattle.fib_changes.proofs.Edits.{in_cases, in_front, in_rest}
-use Rattle.fib_changes.proofs.SamePairs.{flat_map_from, map_from, map_in, from_origin, base, derived, derived_host}
-use Rattle.fib_interned.specs.Interned.{AreInterned}
-use Rattle.fib_interned.proofs.Finding.{contains_at}
-use Rattle.fib_entries.specs.Known.{Known, content_of, prefix_of, rank_of, rank_in, StandsFor, holders}
-use Rattle.fib_entries.specs.Changes.{AreTouched, AreMoved}
-use Rattle.fib_entries.specs.inner.Clear.{IsApart}
-use Rattle.fib_entries.specs.inner.Fields.{AreCounted}
-use Rattle.fib_entries.specs.inner.Leaf.{IsLeafEdit, AreWhole, IsFollowed, goals_of}
-use Rattle.fib_entries.specs.inner.Part.{in_part, IsButForPart, IsPartEdit, IsPartMade}
-use Rattle.fib_entries.specs.inner.Parting.{IsParting, HasParted}
-use Rattle.fib_entries.specs.declared.changes.Followed.{Followed}
-use Rattle.fib_entries.specs.declared.parting.Last.{Last}
-use Rattle.fib_entries.specs.Rows.{Row}
+use Rattle.fib_resolve_changes.specs.Differ.{Differ}
+use Rattle.fib_resolve_changes.specs.Sources.{all_hops}
+use Rattle.fib_resolve_changes.specs.declared.change.Change.TheVariants as changes
+use Rattle.fib_resolve_changes.proofs.Edits.{in_cases, in_front, in_rest}
+use Rattle.fib_resolve_changes.proofs.SamePairs.{flat_map_from, map_from, map_in, from_origin, base, derived, derived_host}
+use Rattle.fib_base_interned.specs.Interned.{AreInterned}
+use Rattle.fib_base_interned.proofs.Finding.{contains_at}
+use Rattle.fib_entries_rows.specs.Known.{Known, content_of, prefix_of, rank_of, rank_in, StandsFor, holders}
+use Rattle.fib_entries_rows.specs.Changes.{AreTouched, AreMoved}
+use Rattle.fib_entries_rows.specs.inner.Clear.{IsApart}
+use Rattle.fib_entries_rows.specs.inner.Fields.{AreCounted}
+use Rattle.fib_entries_rows.specs.inner.Leaf.{IsLeafEdit, AreWhole, IsFollowed, goals_of}
+use Rattle.fib_entries_rows.specs.inner.Part.{in_part, IsButForPart, IsPartEdit, IsPartMade}
+use Rattle.fib_entries_rows.specs.inner.Parting.{IsParting, HasParted}
+use Rattle.fib_entries_rows.specs.declared.changes.Followed.{Followed}
+use Rattle.fib_entries_rows.specs.declared.parting.Last.{Last}
+use Rattle.fib_entries_rows.specs.Rows.{Row}
 use Rattle.fib_entries.proofs.Covering.{cover_found}
-use Rattle.fib_entries.proofs.HopEnds.{ends_but}
-use Rattle.fib_entries.proofs.Hosts.{loose_pair, loose_before, loose_chosen, late_entry, late_entry_before, late_pair_before, late_there_before, late_targets_before, late_touched_before}
-use Rattle.fib_entries.proofs.LeafRows.{entry_own}
-use Rattle.fib_entries.proofs.Leafing.{routes_beside, from_route, chosen_same, unlooped_before, part_cases, part_own, part_host, part_not, part_edit, entry_of_pair, only_one, short_other}
-use Rattle.fib_entries.proofs.LeafSizes.{HasEnd, ends_by, ends_in, plain_targets, adjacencies_same}
-use Rattle.fib_entries.proofs.Listing.{source_of_route, chosen_before, chosen_after, own_touched, own_before, own_after, counted_own, counted_none, part_holders}
-use Rattle.fib_entries.proofs.Orders.{order_size, size_of_order, order_shrunk}
-use Rattle.fib_entries.proofs.Owning.{owned_all, owned_list, owned_some}
+use Rattle.fib_entries_rows.proofs.HopEnds.{ends_but}
+use Rattle.fib_entries_rows.proofs.Hosts.{loose_pair, loose_before, loose_chosen, late_entry, late_entry_before, late_pair_before, late_there_before, late_targets_before, late_touched_before}
+use Rattle.fib_entries_rows.proofs.LeafRows.{entry_own}
+use Rattle.fib_entries_rows.proofs.Leafing.{routes_beside, from_route, chosen_same, unlooped_before, part_cases, part_own, part_host, part_not, part_edit, entry_of_pair, only_one, short_other}
+use Rattle.fib_entries_rows.proofs.LeafSizes.{HasEnd, ends_by, ends_in, plain_targets, adjacencies_same}
+use Rattle.fib_entries_rows.proofs.Listing.{source_of_route, chosen_before, chosen_after, own_touched, own_before, own_after, counted_own, counted_none, part_holders}
+use Rattle.fib_entries_rows.proofs.Orders.{order_size, size_of_order, order_shrunk}
+use Rattle.fib_entries_rows.proofs.Owning.{owned_all, owned_list, owned_some}
 use Rattle.fib_entries.proofs.PartCounts.{part_counts, host_counted, host_uncounted}
-use Rattle.fib_entries.proofs.PartRows.{no_row, entry_beside, stands_part, touched_inside, moved_inside}
-use Rattle.fib_entries.proofs.Placing.{size_left}
-use Rattle.fib_entries.proofs.Departing.{unused_but}
-use Rattle.fib_entries.proofs.Ready.{clear_alone, clear_far}
-use Rattle.fib_entries.proofs.Settling.{counted_by}
-use Rattle.fib_entries.proofs.Sharing.{led_but, hop_from, path_there}
-use Rattle.fib_entries.proofs.Using.{once, unit_same, counted_given, given_stays}
+use Rattle.fib_entries_rows.proofs.PartRows.{no_row, entry_beside, stands_part, touched_inside, moved_inside}
+use Rattle.fib_entries_rows.proofs.Placing.{size_left}
+use Rattle.fib_entries_rows.proofs.Departing.{unused_but}
+use Rattle.fib_entries_rows.proofs.Ready.{clear_alone, clear_far}
+use Rattle.fib_entries_rows.proofs.Settling.{counted_by}
+use Rattle.fib_entries_rows.proofs.Sharing.{led_but, hop_from, path_there}
+use Rattle.fib_entries_rows.proofs.Using.{once, unit_same, counted_given, given_stays}
 use Rattle.fib_entries.proofs.WithHost.{list_hop, no_list, no_source}
-use Rattle.fib_entries.proofs.Withdrawing.{order_at, names_gone, ordered_gone, but_for, row_was}
+use Rattle.fib_entries_rows.proofs.Withdrawing.{order_at, names_gone, ordered_gone, but_for, row_was}
 
 abbrev pub is_cover : PathKind → Bool
 is_cover kinds.Cover = true

@@ -1,4 +1,1 @@
-pub mod Rows
-pub mod Known
-pub mod Changes
 pub mod inner

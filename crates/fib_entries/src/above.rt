@@ -2,38 +2,38 @@
 ghost use Rattle.std.specs.Prelude.{◌≡◌, ◌≢◌, ◌<◌, ◌-◌, ◌^◌, ◌∷◌, [], ℕ, None, Some, IfOk, IfSome, IfNone, IsFalse, IsSome, IsTrue, OnErr, OnOk, Contains, length, map, slice_get, List as Items};
 ghost use Rattle.fib_addr.specs.Prefixes.{Prefix as PrefixValue};
 ghost use Rattle.fib_cover.specs.Covers.{IsAscending};
-ghost use Rattle.fib_interned.specs.Interned.{kept_of, users_of};
+ghost use Rattle.fib_base_interned.specs.Interned.{kept_of, users_of};
 ghost use Rattle.fib_paths.specs.PathLists.{IsUsedLess};
 ghost use Rattle.fib_resolve.specs.Edits.{paths_at};
 ghost use Rattle.fib_resolve.specs.Keys.{source_rank};
 ghost use Rattle.fib_resolve.specs.Tables.{IsSound};
 ghost use Rattle.fib_resolve.specs.declared.types.FibSource.{FibSource as FibSourceValue};
 ghost use Rattle.fib_resolve.specs.declared.types.Tables.{Tables as TablesValue};
-ghost use Rattle.fib_changes.specs.Differ.{Differ};
-ghost use Rattle.fib_changes.specs.declared.change.Change.TheVariants as changes;
-ghost use Rattle.fib_entries.specs.Known.{StandsFor, content_of, prefix_of, rank_of};
-ghost use Rattle.fib_entries.specs.Rows.{Row as RowValue};
+ghost use Rattle.fib_resolve_changes.specs.Differ.{Differ};
+ghost use Rattle.fib_resolve_changes.specs.declared.change.Change.TheVariants as changes;
+ghost use Rattle.fib_entries_rows.specs.Known.{StandsFor, content_of, prefix_of, rank_of};
+ghost use Rattle.fib_entries_rows.specs.Rows.{Row as RowValue};
 ghost use Rattle.fib_entries.specs.inner.Above.{IsAbove, IsOver, IsPlanned, IsUnder, doubled};
-ghost use Rattle.fib_entries.specs.inner.Building.{AreHeld};
-ghost use Rattle.fib_entries.specs.inner.Fields.{AreAmong, has_several};
-ghost use Rattle.fib_entries.specs.inner.Leaf.{IsFollowed};
+ghost use Rattle.fib_entries_rows.specs.inner.Building.{AreHeld};
+ghost use Rattle.fib_entries_rows.specs.inner.Fields.{AreAmong, has_several};
+ghost use Rattle.fib_entries_rows.specs.inner.Leaf.{IsFollowed};
 
-use crate::apply::is_other;
-use crate::change::Target;
-use crate::changes::Followed;
-use crate::coming::set_pairs;
-use crate::course::course;
 use crate::entries::Entries;
-use crate::going::rank_at;
-use crate::index::Index;
-use crate::leaf::{is_short, is_written};
-use crate::look::place_of;
-use crate::reaching::{Course, Turned, reaching, turn_reached};
-use crate::rows::Row;
 use fib_addr::Prefix;
-use fib_blocks::Blocks;
+use fib_base_blocks::Blocks;
+use fib_base_list::List;
 use fib_cover::PrefixSet;
-use fib_list::List;
+use fib_entries_rows::apply::is_other;
+use fib_entries_rows::change::Target;
+use fib_entries_rows::changes::Followed;
+use fib_entries_rows::coming::set_pairs;
+use fib_entries_rows::course::course;
+use fib_entries_rows::going::rank_at;
+use fib_entries_rows::index::Index;
+use fib_entries_rows::leaf::{is_short, is_written};
+use fib_entries_rows::look::place_of;
+use fib_entries_rows::reaching::{Course, Turned, reaching, turn_reached};
+use fib_entries_rows::rows::Row;
 use fib_paths::{PathListId, PathLists};
 use fib_resolve::{FibSource, Path, Tables};
 use std::alloc::{AllocError, Global};
@@ -54,7 +54,8 @@ pub struct Above {
 
 /// The number of the row's best list, where that is of a worse source.
 fn worse_list(r: &Row, source: FibSource) -> Option<PathListId>
-    ensures { IfSome result (λ id. (worse : FibSourceValue) × (rest : Items (FibSourceValue × ℕ)) × (r.now.pairs ≡ (worse, id) ∷ rest) × (source_rank source < source_rank worse)) }
+    ensures { IfSome result (λ id. (worse : FibSourceValue) × (rest : Items (FibSourceValue × ℕ))
+        × (r.now.pairs ≡ (worse, id) ∷ rest) × (source_rank source < source_rank worse)) }
 {
     let pair = r.pairs().first()?;
     if source.rank() < pair.0.rank() {
@@ -142,7 +143,8 @@ fn double(
 ) -> Result<List<(FibSource, PathListId)>, AllocError>
     requires { at.now.place < length rows.old }
     ensures former { IfOk result (λ v. (r : RowValue) → slice_get rows.old at.now.place ≡ Some r → v ≡ r.pairs) }
-    ensures doubled { OnOk result ((r : RowValue) → slice_get rows.old at.now.place ≡ Some r → rows.new ≡ doubled rows.old at.now.place (source, at.now.id) r) }
+    ensures doubled { OnOk result ((r : RowValue) → slice_get rows.old at.now.place ≡ Some r
+        → rows.new ≡ doubled rows.old at.now.place (source, at.now.id) r) }
     ensures err { OnErr result (rows.new ≡ rows.old) }
 {
     let former = pairs_at(alloc, rows, at.place)?;
@@ -173,7 +175,8 @@ pub fn plan(
     requires list { to.now.new.now ≡ paths_at to.now.prefix to.now.source to.now.tables.now.routes }
     requires there { Contains (map prefix_of rows.now) to.now.prefix }
     requires rank { rank_of rows.now to.now.prefix ≡ to.now.rank }
-    ensures { IfOk result (λ o. IfSome o (λ c. IsPlanned rows.now lists.now order.now to.now.tables.now to.now.prefix to.now.source to.now.new.now to.now.rank c)) }
+    ensures { IfOk result (λ o. IfSome o (λ c. IsPlanned rows.now lists.now order.now to.now.tables.now to.now.prefix to.now.source
+        to.now.new.now to.now.rank c)) }
 {
     let found = reaching(alloc, rows, lists, order, index, to)?;
     let Some(spot) = found else {
@@ -204,7 +207,8 @@ pub fn plan_above(
     requires several { AreAmong has_several rows.old index.now.several }
     requires noted { Contains index.now.several to.now.prefix }
     requires list { to.now.new.now ≡ paths_at to.now.prefix to.now.source to.now.tables.now.routes }
-    ensures above { IfOk result (λ o. IfSome o (λ a. IsAbove rows.old lists.now order.now to.now.tables.now to.now.prefix to.now.source to.now.new.now a)) }
+    ensures above { IfOk result (λ o. IfSome o
+        (λ a. IsAbove rows.old lists.now order.now to.now.tables.now to.now.prefix to.now.source to.now.new.now a)) }
     ensures rows { rows.new ≡ rows.old }
 {
     let Some(at) = find_under(rows, lists, to.prefix, to.source) else {
@@ -246,11 +250,13 @@ pub fn come_above(
     above: Above,
 ) -> Result<Followed, AllocError>
     requires ascending { IsAscending (map prefix_of rows.old) }
-    requires above { (order : Items PrefixValue) × IsAbove rows.old lists.old order to.now.tables.now to.now.prefix to.now.source to.now.new.now above }
+    requires above { (order : Items PrefixValue)
+        × IsAbove rows.old lists.old order to.now.tables.now to.now.prefix to.now.source to.now.new.now above }
     requires kept { IsSome (kept_of lists.old above.at.id) }
     requires other { content_of lists.old above.at.id ≢ Some to.now.new.now }
     requires room { IsUsedLess lists.old to.now.new.now (2 ^ 32 - 1) }
-    ensures done { IfOk result (λ f. (order : Items PrefixValue) (m : IsAbove rows.old lists.old order to.now.tables.now to.now.prefix to.now.source to.now.new.now above) →
+    ensures done { IfOk result (λ f. (order : Items PrefixValue)
+        (m : IsAbove rows.old lists.old order to.now.tables.now to.now.prefix to.now.source to.now.new.now above) →
         IsOver rows.old rows.new lists.old lists.new order to.now.tables.now to.now.prefix to.now.source to.now.new.now above m f) }
     ensures rows { OnErr result (rows.new ≡ rows.old) }
     ensures lists { OnErr result (lists.new ≡ lists.old) }
@@ -274,11 +280,14 @@ pub fn come_above(
 impl Entries {
     /// The list comes above the others of the prefix's row, with all that comes of it. Tells that. After want of memory all is as before.
     fn overtake(&mut self, to: &Target<'_>, above: Above) -> Result<Followed, AllocError>
-        requires above { IsAbove self.old.rows self.old.lists (map prefix_of self.old.rows) to.now.tables.now to.now.prefix to.now.source to.now.new.now above }
+        requires above { IsAbove self.old.rows self.old.lists
+            (map prefix_of self.old.rows) to.now.tables.now to.now.prefix to.now.source to.now.new.now above }
         requires other { content_of self.old.lists above.at.id ≢ Some to.now.new.now }
         requires room { IsUsedLess self.old.lists to.now.new.now (2 ^ 32 - 1) }
-        ensures done { IfOk result (λ f. (m : IsAbove self.old.rows self.old.lists (map prefix_of self.old.rows) to.now.tables.now to.now.prefix to.now.source to.now.new.now above) →
-            IsOver self.old.rows self.new.rows self.old.lists self.new.lists (map prefix_of self.old.rows) to.now.tables.now to.now.prefix to.now.source to.now.new.now above m f) }
+        ensures done { IfOk result (λ f. (m : IsAbove self.old.rows self.old.lists
+            (map prefix_of self.old.rows) to.now.tables.now to.now.prefix to.now.source to.now.new.now above) →
+            IsOver self.old.rows self.new.rows self.old.lists self.new.lists
+            (map prefix_of self.old.rows) to.now.tables.now to.now.prefix to.now.source to.now.new.now above m f) }
         ensures objects { OnOk result (self.new.objects ≡ self.old.objects) }
         ensures err { OnErr result (self.new ≡ self.old) }
     {

@@ -3,7 +3,7 @@ ghost use Rattle.std.specs.Prelude.{◌≡◌, ◌↔◌, ◌⊎◌, ◌≤◌, 
 ghost use Rattle.std.specs.List.{insert, list_all, list_any};
 ghost use Rattle.fib_addr.specs.Prefixes.{Prefix as PrefixValue, contains};
 ghost use Rattle.fib_cover.specs.Covers.{IsAscending, IsLongestMatch};
-ghost use Rattle.fib_interned.specs.Interned.{kept_of, users_of};
+ghost use Rattle.fib_base_interned.specs.Interned.{kept_of, users_of};
 ghost use Rattle.fib_paths.specs.PathLists.{IsUsedLess};
 ghost use Rattle.fib_reach.specs.Walks.{AllDiffer};
 ghost use Rattle.fib_resolve.specs.Edits.{paths_at};
@@ -12,38 +12,38 @@ ghost use Rattle.fib_resolve.specs.Tables.{IsSound};
 ghost use Rattle.fib_resolve.specs.declared.types.FibSource.{FibSource as FibSourceValue};
 ghost use Rattle.fib_resolve.specs.declared.types.PathKind.TheVariants as kinds;
 ghost use Rattle.fib_resolve.specs.declared.types.Tables.{Tables as TablesValue};
-ghost use Rattle.fib_changes.specs.Differ.{Differ};
-ghost use Rattle.fib_changes.specs.declared.change.Change.TheVariants as changes;
-ghost use Rattle.fib_entries.specs.Known.{StandsFor, content_of, prefix_of, rank_of};
-ghost use Rattle.fib_entries.specs.Rows.{Row as RowValue};
+ghost use Rattle.fib_resolve_changes.specs.Differ.{Differ};
+ghost use Rattle.fib_resolve_changes.specs.declared.change.Change.TheVariants as changes;
+ghost use Rattle.fib_entries_rows.specs.Known.{StandsFor, content_of, prefix_of, rank_of};
+ghost use Rattle.fib_entries_rows.specs.Rows.{Row as RowValue};
 ghost use Rattle.fib_entries.specs.declared.adopting.Kin.{Kin as KinValue};
 ghost use Rattle.fib_entries.specs.inner.Adopting.{IsAdopted, IsBetween, IsKin, IsTurnedOver, drop_mark, has_cover_mark, is_aimed_at, is_cover_mark, is_covered, open_row, opened};
-ghost use Rattle.fib_entries.specs.inner.Building.{AreHeld};
-ghost use Rattle.fib_entries.specs.inner.Fields.{AreAmong, has_several};
-ghost use Rattle.fib_entries.specs.inner.Leaf.{IsFollowed};
-ghost use Rattle.fib_entries.specs.inner.Plies.{IsGap};
+ghost use Rattle.fib_entries_rows.specs.inner.Building.{AreHeld};
+ghost use Rattle.fib_entries_rows.specs.inner.Fields.{AreAmong, has_several};
+ghost use Rattle.fib_entries_rows.specs.inner.Leaf.{IsFollowed};
+ghost use Rattle.fib_entries_rows.specs.inner.Plies.{IsGap};
 
 use crate::above::{is_shared, plan};
-use crate::apply::is_other;
-use crate::change::Target;
-use crate::changes::{Followed, Touched};
-use crate::coming::{gap_of, put_in};
-use crate::cover_of::cover_of;
-use crate::dependants::Dependants;
 use crate::entries::Entries;
-use crate::going::take_out;
-use crate::hosting::is_loose;
-use crate::index::Index;
-use crate::leaf::{bits, is_none, is_short, is_written};
-use crate::look::{is_same, place_of, row};
-use crate::plies::{own_size, raised};
-use crate::reaching::turn_reached;
-use crate::rows::{Body, Row};
 use crate::shifting::{aim_all, exchange_dependants};
 use fib_addr::Prefix;
-use fib_blocks::Blocks;
+use fib_base_blocks::Blocks;
+use fib_base_list::List;
 use fib_cover::PrefixSet;
-use fib_list::List;
+use fib_entries_rows::apply::is_other;
+use fib_entries_rows::change::Target;
+use fib_entries_rows::changes::{Followed, Touched};
+use fib_entries_rows::coming::{gap_of, put_in};
+use fib_entries_rows::cover_of::cover_of;
+use fib_entries_rows::dependants::Dependants;
+use fib_entries_rows::going::take_out;
+use fib_entries_rows::hosting::is_loose;
+use fib_entries_rows::index::Index;
+use fib_entries_rows::leaf::{bits, is_none, is_short, is_written};
+use fib_entries_rows::look::{is_same, place_of, row};
+use fib_entries_rows::plies::{own_size, raised};
+use fib_entries_rows::reaching::turn_reached;
+use fib_entries_rows::rows::{Body, Row};
 use fib_paths::{PathListId, PathLists};
 use fib_resolve::{Aim, End, FibSource, Marked, Need, Path, PathKind, Tables};
 use std::alloc::{AllocError, Global};
@@ -118,7 +118,8 @@ fn drop_list(lists: &PathLists) -> Option<PathListId>
 /// The place of the row of the prefix's cover.
 fn cover_place(rows: &Blocks<Row>, order: &PrefixSet, p: Prefix) -> Option<usize>
     requires { IsAscending (map prefix_of rows.now) }
-    ensures cover { IfSome result (λ k. (r : RowValue) × (slice_get rows.now k ≡ Some r) × IsLongestMatch order.now p.len p.bits (Some r.prefix)) }
+    ensures cover { IfSome result (λ k. (r : RowValue) × (slice_get rows.now k ≡ Some r)
+        × IsLongestMatch order.now p.len p.bits (Some r.prefix)) }
     ensures inside { IfSome result (λ k. k < length rows.now) }
 {
     let Some(cover) = cover_of(order, p) else {
@@ -355,8 +356,10 @@ fn open_gap(
     requires inside { beside.now.gap.place ≤ length rows.old }
     requires low { beside.now.gap.cover < beside.now.gap.place }
     requires over { beside.now.over.now ≡ kin.led }
-    ensures rows { OnOk result ((r : RowValue) → slice_get rows.old beside.now.gap.cover ≡ Some r → rows.new ≡ opened rows.old beside.now.gap to.now.prefix to.now.source kin r) }
-    ensures former { IfOk result (λ f. (r : RowValue) → slice_get rows.old beside.now.gap.cover ≡ Some r → (f.dependants ≡ r.dependants) × (f.cover ≡ r.prefix)) }
+    ensures rows { OnOk result ((r : RowValue) → slice_get rows.old beside.now.gap.cover ≡ Some r
+        → rows.new ≡ opened rows.old beside.now.gap to.now.prefix to.now.source kin r) }
+    ensures former { IfOk result (λ f. (r : RowValue) → slice_get rows.old beside.now.gap.cover ≡ Some r
+        → (f.dependants ≡ r.dependants) × (f.cover ≡ r.prefix)) }
     ensures err { OnErr result (rows.new ≡ rows.old) }
 {
     let Kin { led, kept } = kin;
@@ -381,7 +384,9 @@ fn close_gap(
     requires ascending { IsAscending (map prefix_of rows.old) }
     requires inside { g.place < length rows.old }
     requires low { g.cover < g.place }
-    ensures { (before : Items RowValue) (p : PrefixValue) (source : FibSourceValue) (k : KinValue) (r : RowValue) → slice_get before g.cover ≡ Some r → IsAscending (map prefix_of before) → IsKin before p r k → IsGap (map prefix_of before) g.place p
+    ensures { (before : Items RowValue) (p : PrefixValue) (source : FibSourceValue) (k : KinValue) (r : RowValue)
+        → slice_get before g.cover ≡ Some r → IsAscending (map prefix_of before) → IsKin before p r k
+        → IsGap (map prefix_of before) g.place p
         → rows.old ≡ opened before g p source k r → dependants ≡ r.dependants → cover ≡ r.prefix → over.now ≡ k.led → rows.new ≡ before }
 {
     aim_all(alloc, rows, over, cover);
@@ -411,7 +416,9 @@ fn turn_opened(
     requires few { users_of lists.old beside.now.gap.list < 2 ^ 32 }
     requires other { content_of lists.old beside.now.gap.list ≡ Some to.now.new.now → ⊥ }
     requires room { IsUsedLess lists.old to.now.new.now (2 ^ 32 - 1) }
-    ensures done { IfOk result (λ o. IfSome o (λ f. IsTurnedOver rows.old rows.new lists.old lists.new beside.now.order.now to.now.tables.now to.now.prefix to.now.source to.now.new.now beside.now.gap.list beside.now.over.now f)) }
+    ensures done { IfOk result (λ o. IfSome o
+        (λ f. IsTurnedOver rows.old rows.new lists.old lists.new beside.now.order.now to.now.tables.now to.now.prefix to.now.source
+        to.now.new.now beside.now.gap.list beside.now.over.now f)) }
     ensures none { IfOk result (λ o. IfNone o ((rows.new ≡ rows.old) × (lists.new ≡ lists.old))) }
     ensures rows { OnErr result (rows.new ≡ rows.old) }
     ensures lists { OnErr result (lists.new ≡ lists.old) }
@@ -451,7 +458,8 @@ fn come_between(
     requires other { content_of lists.old beside.now.gap.list ≡ Some to.now.new.now → ⊥ }
     requires room { IsUsedLess lists.old to.now.new.now (2 ^ 32 - 1) }
     ensures done { IfOk result (λ o. IfSome o (λ f. (r : RowValue) → slice_get rows.old beside.now.gap.cover ≡ Some r →
-        IsAdopted rows.old rows.new lists.old lists.new beside.now.order.now to.now.tables.now to.now.prefix to.now.source to.now.new.now beside.now.gap kin r f)) }
+        IsAdopted rows.old rows.new lists.old lists.new beside.now.order.now to.now.tables.now to.now.prefix to.now.source
+        to.now.new.now beside.now.gap kin r f)) }
     ensures none { IfOk result (λ o. IfNone o ((rows.new ≡ rows.old) × (lists.new ≡ lists.old))) }
     ensures rows { OnErr result (rows.new ≡ rows.old) }
     ensures lists { OnErr result (lists.new ≡ lists.old) }
@@ -487,7 +495,9 @@ impl Entries {
         requires other { content_of self.old.lists gap.list ≡ Some to.now.new.now → ⊥ }
         requires room { IsUsedLess self.old.lists to.now.new.now (2 ^ 32 - 1) }
         ensures done { IfOk result (λ o. IfSome o (λ f. (r : RowValue) → slice_get self.old.rows gap.cover ≡ Some r →
-            IsAdopted self.old.rows self.new.rows self.old.lists self.new.lists (map prefix_of (opened self.old.rows gap to.now.prefix to.now.source kin r)) to.now.tables.now to.now.prefix to.now.source to.now.new.now gap kin r f)) }
+            IsAdopted self.old.rows self.new.rows self.old.lists self.new.lists
+            (map prefix_of (opened self.old.rows gap to.now.prefix to.now.source kin r)) to.now.tables.now to.now.prefix
+            to.now.source to.now.new.now gap kin r f)) }
         ensures none { IfOk result (λ o. IfNone o (self.new ≡ self.old)) }
         ensures objects { OnOk result (self.new.objects ≡ self.old.objects) }
         ensures err { OnErr result (self.new ≡ self.old) }

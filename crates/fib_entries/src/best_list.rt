@@ -4,28 +4,30 @@ ghost use Rattle.std.specs.List.{list_all};
 ghost use Rattle.fib_resolve.specs.Edits.{paths_at, with_routes};
 ghost use Rattle.fib_resolve.specs.Tables.{IsSound};
 ghost use Rattle.fib_resolve.specs.declared.types.Tables.{Tables as TablesValue};
-ghost use Rattle.fib_entries.specs.Known.{StandsFor, prefix_of};
+ghost use Rattle.fib_entries_rows.specs.Known.{StandsFor, prefix_of};
 ghost use Rattle.fib_resolve.specs.declared.types.Path.{Path as PathValue};
 ghost use Rattle.fib_resolve.specs.declared.types.Route.{Route as RouteValue};
 ghost use Rattle.fib_paths.specs.PathLists.{IsUsedLess};
 ghost use Rattle.fib_entries.specs.inner.Best.{IsPlan};
-ghost use Rattle.fib_entries.specs.inner.Course.{IsCourse};
-ghost use Rattle.fib_entries.specs.inner.Led.{IsReaching};
-ghost use Rattle.fib_entries.specs.inner.Raising.{moved_from};
-ghost use Rattle.fib_entries.specs.inner.Reaching.{HasReached, gone_moved, late_moved, turned_hosts};
-ghost use Rattle.fib_entries.specs.inner.Leaf.{IsFollowed, is_plain};
-ghost use Rattle.fib_changes.specs.Differ.{Differ};
-ghost use Rattle.fib_changes.specs.declared.change.Change.TheVariants as changes;
+ghost use Rattle.fib_entries_rows.specs.inner.Course.{IsCourse};
+ghost use Rattle.fib_entries_rows.specs.inner.Led.{IsReaching};
+ghost use Rattle.fib_entries_rows.specs.inner.Raising.{moved_from};
+ghost use Rattle.fib_entries_rows.specs.inner.Reaching.{HasReached, gone_moved, late_moved, turned_hosts};
+ghost use Rattle.fib_entries_rows.specs.inner.Leaf.{IsFollowed, is_plain};
+ghost use Rattle.fib_resolve_changes.specs.Differ.{Differ};
+ghost use Rattle.fib_resolve_changes.specs.declared.change.Change.TheVariants as changes;
 
-use crate::apply::is_other;
-use crate::change::Target;
-use crate::changes::Followed;
-use crate::course::{course, host_gone, host_of, made_by, put_late, take_gone, take_late};
 use crate::entries::Entries;
-use crate::hosting::MOST_OF_ONE;
-use crate::plies::raised;
-use crate::reaching::{Course, Spot, reaching, turn_reached};
 use fib_addr::Prefix;
+use fib_entries_rows::apply::is_other;
+use fib_entries_rows::change::Target;
+use fib_entries_rows::changes::Followed;
+use fib_entries_rows::course::{
+    course, host_gone, host_of, made_by, put_late, take_gone, take_late,
+};
+use fib_entries_rows::hosting::MOST_OF_ONE;
+use fib_entries_rows::plies::raised;
+use fib_entries_rows::reaching::{Course, Spot, reaching, turn_reached};
 use fib_resolve::{FibSource, Path, Tables};
 use std::alloc::AllocError;
 
@@ -74,9 +76,11 @@ impl Entries {
     ) -> Result<Option<Followed>, AllocError>
         requires most { most < 2 ^ 32 - 1 }
         ensures followed { IfOk result (λ o. IfSome o (λ f. (S : TablesValue) (routes : Items RouteValue) → StandsFor self.old S →
-            IsSound (with_routes tables.now routes) → new.now ≡ paths_at prefix source routes → Differ (changes.Route prefix source ∷ []) S (with_routes tables.now routes)
+            IsSound (with_routes tables.now routes) → new.now ≡ paths_at prefix source routes
+            → Differ (changes.Route prefix source ∷ []) S (with_routes tables.now routes)
             → IsFollowed self.old self.new S (with_routes tables.now routes) most f)) }
-        ensures fit { IfOk result (λ o. IfSome o (λ f. Contains f.touched prefix × (list_all is_plain new.now ≡ true) × (list_all (λ n. nat_lt n.addr (2 ^ 32)) tables.now.neighbors ≡ true))) }
+        ensures fit { IfOk result (λ o. IfSome o (λ f. Contains f.touched prefix × (list_all is_plain new.now ≡ true)
+            × (list_all (λ n. nat_lt n.addr (2 ^ 32)) tables.now.neighbors ≡ true))) }
         ensures none { IfOk result (λ o. IfNone o (self.new ≡ self.old)) }
         ensures err { OnErr result (self.new ≡ self.old) }
     {
@@ -97,7 +101,9 @@ impl Entries {
     /// How the prefix's best list is replaced by that one, whatever rank is given. None where rows and neighbors don't tell what is touched, that
     /// isn't found soon, or there are more objects then than that.
     pub(crate) fn plan_best(&self, to: &Target<'_>, most: u32) -> Result<Option<Plan>, AllocError>
-        ensures plan { IfOk result (λ o. IfSome o (λ m. IsPlan self.now.rows self.now.lists (map prefix_of self.now.rows) self.now.objects to.now.tables.now to.now.prefix to.now.source to.now.new.now most m)) }
+        ensures plan { IfOk result (λ o. IfSome o
+            (λ m. IsPlan self.now.rows self.now.lists
+            (map prefix_of self.now.rows) self.now.objects to.now.tables.now to.now.prefix to.now.source to.now.new.now most m)) }
     {
         let found = reaching(
             self.alloc,
@@ -142,12 +148,21 @@ impl Entries {
 
     /// Replaces the list as planned, whatever rank is given beside it, and tells what comes of it. After want of memory all is as before.
     pub(crate) fn carry_out(&mut self, to: &Target<'_>, plan: Plan) -> Result<Followed, AllocError>
-        requires plan { (most : ℕ) × (most < 2 ^ 32 - 1) × IsPlan self.old.rows self.old.lists (map prefix_of self.old.rows) self.old.objects to.now.tables.now to.now.prefix to.now.source to.now.new.now most plan }
-        ensures followed { IfOk result (λ f. (most : ℕ) → most < 2 ^ 32 - 1 → IsPlan self.old.rows self.old.lists (map prefix_of self.old.rows) self.old.objects to.now.tables.now to.now.prefix to.now.source to.now.new.now most plan
-            → (S : TablesValue) (routes : Items RouteValue) → StandsFor self.old S → IsSound (with_routes to.now.tables.now routes) → to.now.new.now ≡ paths_at to.now.prefix to.now.source routes
-            → Differ (changes.Route to.now.prefix to.now.source ∷ []) S (with_routes to.now.tables.now routes) → IsFollowed self.old self.new S (with_routes to.now.tables.now routes) most f) }
-        ensures touched { IfOk result (λ f. f.touched ≡ to.now.prefix ∷ turned_hosts plan.spot.turned.late plan.spot.turned.gone ++ plan.course.again) }
-        ensures moved { IfOk result (λ f. f.moved ≡ (late_moved plan.spot.turned.late ++ gone_moved self.old.rows plan.spot.turned.gone) ++ map (moved_from self.old.rows) plan.course.raised) }
+        requires plan { (most : ℕ) × (most < 2 ^ 32 - 1)
+            × IsPlan self.old.rows self.old.lists (map prefix_of self.old.rows) self.old.objects to.now.tables.now to.now.prefix
+            to.now.source to.now.new.now most plan }
+        ensures followed { IfOk result (λ f. (most : ℕ) → most < 2 ^ 32 - 1
+            → IsPlan self.old.rows self.old.lists (map prefix_of self.old.rows) self.old.objects to.now.tables.now to.now.prefix
+            to.now.source to.now.new.now most plan
+            → (S : TablesValue) (routes : Items RouteValue) → StandsFor self.old S → IsSound (with_routes to.now.tables.now routes)
+            → to.now.new.now ≡ paths_at to.now.prefix to.now.source routes
+            → Differ (changes.Route to.now.prefix to.now.source ∷ []) S (with_routes to.now.tables.now routes)
+            → IsFollowed self.old self.new S (with_routes to.now.tables.now routes) most f) }
+        ensures touched { IfOk result (λ f. f.touched ≡ to.now.prefix ∷ turned_hosts plan.spot.turned.late plan.spot.turned.gone
+            ++ plan.course.again) }
+        ensures moved { IfOk result (λ f. f.moved
+            ≡ (late_moved plan.spot.turned.late ++ gone_moved self.old.rows plan.spot.turned.gone)
+            ++ map (moved_from self.old.rows) plan.course.raised) }
         ensures err { OnErr result (self.new ≡ self.old) }
     {
         let Plan {
@@ -176,11 +191,19 @@ impl Entries {
         to: &Target<'_>,
         course: Course,
     ) -> Result<(Followed, u32), AllocError>
-        requires reaching { (old : Items PathValue) × (routes : Items RouteValue) × IsReaching self.old.rows self.old.lists (map prefix_of self.old.rows) (with_routes to.now.tables.now routes) to.now.prefix to.now.source spot.now.place spot.now.id old spot.now.turned.late spot.now.turned.gone }
-        requires course { (old : Items PathValue) × IsCourse self.old.rows to.now.tables.now to.now.prefix to.now.source old to.now.new.now to.now.rank spot.now.turned.late spot.now.turned.gone course }
+        requires reaching { (old : Items PathValue) × (routes : Items RouteValue)
+            × IsReaching self.old.rows self.old.lists (map prefix_of self.old.rows)
+            (with_routes to.now.tables.now routes) to.now.prefix to.now.source spot.now.place spot.now.id old spot.now.turned.late
+            spot.now.turned.gone }
+        requires course { (old : Items PathValue)
+            × IsCourse self.old.rows to.now.tables.now to.now.prefix to.now.source old to.now.new.now to.now.rank
+            spot.now.turned.late spot.now.turned.gone course }
         requires room { IsUsedLess self.old.lists to.now.new.now (2 ^ 32 - 1) }
-        ensures done { IfOk result (λ x. (old : Items PathValue) (k : IsCourse self.old.rows to.now.tables.now to.now.prefix to.now.source old to.now.new.now to.now.rank spot.now.turned.late spot.now.turned.gone course) →
-            HasReached self.old.rows self.new.rows self.old.lists self.new.lists to.now.prefix spot.now.id to.now.new.now course.own course.turned.late course.turned.gone k.few k.edges course.again course.raised x.1 x.0) }
+        ensures done { IfOk result (λ x. (old : Items PathValue)
+            (k : IsCourse self.old.rows to.now.tables.now to.now.prefix to.now.source old to.now.new.now to.now.rank
+            spot.now.turned.late spot.now.turned.gone course) →
+            HasReached self.old.rows self.new.rows self.old.lists self.new.lists to.now.prefix spot.now.id to.now.new.now course.own
+            course.turned.late course.turned.gone k.few k.edges course.again course.raised x.1 x.0) }
         ensures few { IfOk result (λ x. x.1 ≤ 9) }
         ensures objects { OnOk result (self.new.objects ≡ self.old.objects) }
         ensures err { OnErr result (self.new ≡ self.old) }

@@ -3,50 +3,21 @@ ghost use Rattle.std.specs.Prelude.{◌≡◌, ◌<◌, ◌^◌, [], false, IfOk
 ghost use Rattle.fib_addr.specs.Prefixes.{Prefix as PrefixValue};
 ghost use Rattle.fib_cover.specs.Covers.{IsAscending};
 ghost use Rattle.fib_resolve.specs.declared.types.Neighbor.{Neighbor as NeighborValue};
-ghost use Rattle.fib_entries.specs.Known.{prefix_of, row_of};
-ghost use Rattle.fib_entries.specs.inner.Clear.{IsApart, IsNarrower};
-ghost use Rattle.fib_entries.specs.inner.Fields.{are_several};
-ghost use Rattle.fib_entries.specs.inner.Leaf.{IsClear};
+ghost use Rattle.fib_entries_rows.specs.Known.{prefix_of, row_of};
+ghost use Rattle.fib_entries_rows.specs.inner.Clear.{IsApart};
+ghost use Rattle.fib_entries_rows.specs.inner.Fields.{are_several};
+ghost use Rattle.fib_entries_rows.specs.inner.Leaf.{IsClear};
 
 use crate::entries::Entries;
-use crate::index::{Kind, is_of};
-use crate::look::row;
-use crate::rows::Row;
 use fib_addr::{Addr, Prefix};
-use fib_blocks::Blocks;
+use fib_base_blocks::Blocks;
 use fib_cover::PrefixSet;
+use fib_entries_rows::index::{Kind, is_of};
+use fib_entries_rows::look::row;
+use fib_entries_rows::outlying::apart;
+use fib_entries_rows::rows::Row;
 use fib_resolve::{Neighbor, Tables};
 use std::alloc::AllocError;
-
-/// The longer member in which the address lies, or what was found before where it lies outside the prefix or that is a host; None where
-/// it lies in the prefix and in no longer member. What was found before spares the look-up where the address lies in it too.
-fn apart(order: &PrefixSet, p: Prefix, addr: Addr, found: Prefix) -> Option<Prefix>
-    requires { p.len < found.len → IsNarrower order.now p found }
-    ensures next { IfSome result (λ q. p.len < q.len → IsNarrower order.now p q) }
-    ensures apart { IfSome result (λ _. IsApart order.now p addr) }
-{
-    if p.len() == 32 {
-        return Some(found);
-    }
-    if !p.contains(addr) {
-        return Some(found);
-    }
-    if p.len() < found.len() && found.contains(addr) {
-        return Some(found);
-    }
-    let cover = order.cover(addr)?;
-    if cover.len() <= p.len() {
-        return None;
-    }
-    Some(cover)
-}
-
-/// Whether the address lies outside the prefix or in a longer member, or the prefix is a host.
-pub fn is_apart(order: &PrefixSet, p: Prefix, addr: Addr) -> bool
-    ensures { IsTrue result → IsApart order.now p addr }
-{
-    apart(order, p, addr, p).is_some()
-}
 
 /// Whether that is so of each of these hosts.
 fn hosts_apart(order: &PrefixSet, p: Prefix, hosts: &[Prefix]) -> bool

@@ -8,23 +8,23 @@ ghost use Rattle.fib_resolve.specs.Loops.{targets, looped_at};
 ghost use Rattle.fib_resolve.specs.Sizes.{size};
 ghost use Rattle.fib_resolve.specs.Tables.{IsSound, fresh};
 ghost use Rattle.fib_resolve.specs.declared.types.Tables.{Tables as TablesValue};
-ghost use Rattle.fib_entries.specs.Known.{StandsFor, ArePairs, row_of, rank_of, chosen_of, prefix_of};
+ghost use Rattle.fib_entries_rows.specs.Known.{StandsFor, ArePairs, row_of, rank_of, chosen_of, prefix_of};
 ghost use Rattle.fib_resolve.specs.declared.types.FibSource.{FibSource as Source};
-ghost use Rattle.fib_interned.specs.Interned.{kept_of};
-ghost use Rattle.fib_entries.specs.inner.Compare.{AreKept};
+ghost use Rattle.fib_base_interned.specs.Interned.{kept_of};
+ghost use Rattle.fib_entries_rows.specs.inner.Compare.{AreKept};
 
-use crate::build::take_all;
-use crate::index::Index;
-use crate::look::row;
-use crate::rows::Row;
-use crate::sizes::size_of;
-use crate::whole;
 use fib_addr::{Addr, Prefix};
-use fib_blocks::Blocks;
+use fib_base_blocks::Blocks;
 use fib_cover::PrefixSet;
+use fib_entries_rows::build::take_all;
+use fib_entries_rows::index::Index;
+use fib_entries_rows::look::row;
+use fib_entries_rows::rows::Row;
+use fib_entries_rows::sizes::size_of;
+use fib_entries_rows::whole;
 use fib_paths::{PathListId, PathLists};
-use fib_plain::Meaning;
 use fib_resolve::{FibSource, Marked, Path, Tables};
+use fib_resolve_pairs::Meaning;
 use std::alloc::{AllocError, Global};
 use std::marker::Model;
 
@@ -54,13 +54,13 @@ impl Drop for Entries {
 }
 
 impl Model for Entries {
-    ghost use Rattle.fib_entries.specs.Known.{Known};
+    ghost use Rattle.fib_entries_rows.specs.Known.{Known};
 
     ghost Value = { Known };
 
     ghost view = { λ s. record { rows = s.rows; lists = s.lists; objects = s.objects } };
 
-    ghost use Rattle.fib_entries.specs.inner.Fields.{AreFields};
+    ghost use Rattle.fib_entries_rows.specs.inner.Fields.{AreFields};
 
     ghost invariant = { λ s. AreFields s.rows s.lists s.order s.index };
 }

@@ -4,16 +4,16 @@ ghost use Rattle.fib_resolve.specs.Edits.{paths_at};
 ghost use Rattle.fib_resolve.specs.Sizes.{size};
 ghost use Rattle.fib_resolve.specs.Tables.{IsSound};
 ghost use Rattle.fib_resolve.specs.declared.types.Tables.{Tables as TablesValue};
-ghost use Rattle.fib_entries.specs.Known.{StandsFor};
-ghost use Rattle.fib_entries.specs.inner.Leaf.{IsClear, IsFollowed};
-ghost use Rattle.fib_changes.specs.Differ.{Differ};
-ghost use Rattle.fib_changes.specs.declared.change.Change.TheVariants as changes;
+ghost use Rattle.fib_entries_rows.specs.Known.{StandsFor};
+ghost use Rattle.fib_entries_rows.specs.inner.Leaf.{IsClear, IsFollowed};
+ghost use Rattle.fib_resolve_changes.specs.Differ.{Differ};
+ghost use Rattle.fib_resolve_changes.specs.declared.change.Change.TheVariants as changes;
 
-use crate::changes::Followed;
-use crate::coming::arriving;
 use crate::entries::Entries;
-use crate::plies::{beyond, own_size};
 use fib_addr::Prefix;
+use fib_entries_rows::changes::Followed;
+use fib_entries_rows::coming::arriving;
+use fib_entries_rows::plies::{beyond, own_size};
 use fib_resolve::{FibSource, Path, Tables};
 use std::alloc::AllocError;
 

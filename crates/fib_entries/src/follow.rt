@@ -4,22 +4,22 @@ ghost use Rattle.fib_resolve.specs.Sizes.{size};
 ghost use Rattle.fib_resolve.specs.Tables.{IsSound};
 ghost use Rattle.fib_resolve.specs.Touched.{is_touched};
 ghost use Rattle.fib_resolve.specs.declared.types.Tables.{Tables as TablesValue};
-ghost use Rattle.fib_changes.specs.Differ.{Differ};
-ghost use Rattle.fib_changes.specs.declared.change.Change.TheVariants as change_kinds;
-ghost use Rattle.fib_entries.specs.Known.{StandsFor, prefix_of, row_of, rank_of};
-ghost use Rattle.fib_entries.specs.inner.Compare.{AreKept, is_new, moved_one, moved_new};
-ghost use Rattle.fib_entries.specs.inner.Leaf.{IsFollowed};
-ghost use Rattle.fib_entries.specs.Changes.{AreTouched, AreMoved, IsTooMany};
+ghost use Rattle.fib_resolve_changes.specs.Differ.{Differ};
+ghost use Rattle.fib_resolve_changes.specs.declared.change.Change.TheVariants as change_kinds;
+ghost use Rattle.fib_entries_rows.specs.Known.{StandsFor, prefix_of, row_of, rank_of};
+ghost use Rattle.fib_entries_rows.specs.inner.Compare.{AreKept, is_new, moved_one, moved_new};
+ghost use Rattle.fib_entries_rows.specs.inner.Leaf.{IsFollowed};
+ghost use Rattle.fib_entries_rows.specs.Changes.{AreTouched, AreMoved, IsTooMany};
 
-use crate::changes::{FollowError, Followed, Moved, Touched};
-use crate::compare::are_alike;
 use crate::entries::Entries;
-use crate::rows::Row;
 use fib_addr::{Addr, Prefix};
-use fib_changes::Change;
+use fib_base_list::List;
 use fib_config::Config;
-use fib_list::List;
+use fib_entries_rows::changes::{FollowError, Followed, Moved, Touched};
+use fib_entries_rows::compare::are_alike;
+use fib_entries_rows::rows::Row;
 use fib_resolve::{FibSource, Tables};
+use fib_resolve_changes::Change;
 use std::alloc::{AllocError, Global};
 
 /// What a change does to prefixes.
@@ -40,7 +40,8 @@ fn note(
     rank_after: u32,
 ) -> Result<(), AllocError>
     ensures touched { OnOk result (out.new.touched ≡ (if is_touched then out.old.touched ++ prefix ∷ [] else out.old.touched)) }
-    ensures moved { OnOk result (out.new.moved ≡ out.old.moved ++ (if rank == rank_after then [] else record { prefix = prefix; rank = rank } ∷ [])) }
+    ensures moved { OnOk result (out.new.moved ≡ out.old.moved
+        ++ (if rank == rank_after then [] else record { prefix = prefix; rank = rank } ∷ [])) }
 {
     if is_touched {
         out.touched.push(prefix)?;
@@ -124,7 +125,8 @@ fn compared_before(
 fn add_all_new(out: &mut Differences, before: &Entries, after: &Entries) -> Result<(), AllocError>
     ensures touched { OnOk result ((S T : TablesValue) → StandsFor before.now S → StandsFor after.now T →
         out.new.touched ≡ out.old.touched ++ filter (is_new before.now.rows S T) (map prefix_of after.now.rows)) }
-    ensures moved { OnOk result (out.new.moved ≡ out.old.moved ++ flat_map (moved_new before.now.rows after.now.rows) (map prefix_of after.now.rows)) }
+    ensures moved { OnOk result (out.new.moved ≡ out.old.moved
+        ++ flat_map (moved_new before.now.rows after.now.rows) (map prefix_of after.now.rows)) }
 {
     for place in 0..after.len() {
         add_new(out, before, after, after.row_at(place))?;

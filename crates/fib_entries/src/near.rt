@@ -6,35 +6,35 @@ ghost use Rattle.fib_resolve.specs.Resolution.{mac_of};
 ghost use Rattle.fib_resolve.specs.Tables.{IsSound};
 ghost use Rattle.fib_resolve.specs.declared.types.PathKind.TheVariants as kinds;
 ghost use Rattle.fib_resolve.specs.declared.types.Tables.{Tables as TablesValue};
-ghost use Rattle.fib_changes.specs.Differ.{Differ};
-ghost use Rattle.fib_changes.specs.declared.change.Change.TheVariants as changes;
-ghost use Rattle.fib_entries.specs.Known.{StandsFor, prefix_of};
-ghost use Rattle.fib_entries.specs.Rows.{Row as RowValue};
-ghost use Rattle.fib_entries.specs.declared.ends.News.TheVariants as news;
-ghost use Rattle.fib_entries.specs.inner.Building.{AreHeld};
-ghost use Rattle.fib_entries.specs.inner.Compare.{AreKept};
-ghost use Rattle.fib_entries.specs.inner.Leaf.{IsFollowed};
+ghost use Rattle.fib_resolve_changes.specs.Differ.{Differ};
+ghost use Rattle.fib_resolve_changes.specs.declared.change.Change.TheVariants as changes;
+ghost use Rattle.fib_entries_rows.specs.Known.{StandsFor, prefix_of};
+ghost use Rattle.fib_entries_rows.specs.Rows.{Row as RowValue};
+ghost use Rattle.fib_entries_rows.specs.declared.ends.News.TheVariants as news;
+ghost use Rattle.fib_entries_rows.specs.inner.Building.{AreHeld};
+ghost use Rattle.fib_entries_rows.specs.inner.Compare.{AreKept};
+ghost use Rattle.fib_entries_rows.specs.inner.Leaf.{IsFollowed};
 ghost use Rattle.fib_entries.specs.inner.Near.{IsAttaching, IsNearComing, IsNearGoing, are_more, are_some};
 
-use crate::apply::moved;
-use crate::change::Target;
-use crate::changes::{Followed, Touched};
-use crate::coming::{come, gap_of};
-use crate::ends;
-use crate::ends::News;
 use crate::entries::Entries;
-use crate::going::{rank_at, size_at, withdraw};
-use crate::leaf::only_list;
-use crate::look::{place_of, row};
-use crate::plies::{lowered, own_size, raised};
-use crate::rows::Row;
 use fib_addr::{Addr, Prefix};
-use fib_blocks::Blocks;
+use fib_base_blocks::Blocks;
+use fib_base_list::List;
 use fib_cover::PrefixSet;
-use fib_effective::is_same_list;
-use fib_list::List;
+use fib_entries_rows::apply::moved;
+use fib_entries_rows::change::Target;
+use fib_entries_rows::changes::{Followed, Touched};
+use fib_entries_rows::coming::{come, gap_of};
+use fib_entries_rows::ends;
+use fib_entries_rows::ends::News;
+use fib_entries_rows::going::{rank_at, size_at, withdraw};
+use fib_entries_rows::leaf::only_list;
+use fib_entries_rows::look::{place_of, row};
+use fib_entries_rows::plies::{lowered, own_size, raised};
+use fib_entries_rows::rows::Row;
 use fib_paths::{PathListId, PathLists};
 use fib_resolve::{FibSource, Need, Path, PathKind, Tables};
+use fib_resolve_pairs::is_same_list;
 use std::alloc::{AllocError, Global};
 
 /// The path of a neighbor's host.
@@ -97,7 +97,8 @@ fn is_attached(
 ) -> bool
     requires ascending { IsAscending (map prefix_of rows.now) }
     requires held { AreHeld rows.now lists.now }
-    ensures { IsTrue result → (r : RowValue) × Contains rows.now r × IsLongestMatch order.now 32 addr (Some r.prefix) × IsAttaching lists.now interface r }
+    ensures { IsTrue result → (r : RowValue) × Contains rows.now r × IsLongestMatch order.now 32 addr (Some r.prefix)
+        × IsAttaching lists.now interface r }
 {
     match order.cover(addr) {
         Some(cover) => match row(rows, cover) {

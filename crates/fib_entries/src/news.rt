@@ -2,20 +2,20 @@
 ghost use Rattle.std.specs.Prelude.{◌∷◌, ◌-◌, ◌^◌, IfNone, OnErr, ◌≡◌, ◌<◌, IfOk, IfSome, []};
 ghost use Rattle.fib_resolve.specs.Tables.{IsSound};
 ghost use Rattle.fib_resolve.specs.declared.types.Tables.{Tables as TablesValue};
-ghost use Rattle.fib_entries.specs.Known.{StandsFor};
-ghost use Rattle.fib_entries.specs.inner.Ends.{IsNews};
-ghost use Rattle.fib_entries.specs.inner.Leaf.{IsFollowed};
-ghost use Rattle.fib_changes.specs.Differ.{Differ};
-ghost use Rattle.fib_changes.specs.declared.change.Change.TheVariants as changes;
+ghost use Rattle.fib_entries_rows.specs.Known.{StandsFor};
+ghost use Rattle.fib_entries_rows.specs.inner.Ends.{IsNews};
+ghost use Rattle.fib_entries_rows.specs.inner.Leaf.{IsFollowed};
+ghost use Rattle.fib_resolve_changes.specs.Differ.{Differ};
+ghost use Rattle.fib_resolve_changes.specs.declared.change.Change.TheVariants as changes;
 
-use crate::change::change;
-use crate::changes::Followed;
-use crate::ends;
-use crate::ends::News;
 use crate::entries::Entries;
 use fib_addr::Addr;
-use fib_changes::Change;
+use fib_entries_rows::change::change;
+use fib_entries_rows::changes::Followed;
+use fib_entries_rows::ends;
+use fib_entries_rows::ends::News;
 use fib_resolve::Tables;
+use fib_resolve_changes::Change;
 use std::alloc::AllocError;
 
 impl Entries {

@@ -3,21 +3,21 @@ ghost use Rattle.std.specs.Prelude.{◌∷◌, ◌-◌, ◌^◌, IfNone, OnErr, 
 ghost use Rattle.fib_resolve.specs.Edits.{paths_at};
 ghost use Rattle.fib_resolve.specs.Tables.{IsSound};
 ghost use Rattle.fib_resolve.specs.declared.types.Tables.{Tables as TablesValue};
-ghost use Rattle.fib_entries.specs.Known.{StandsFor};
-ghost use Rattle.fib_entries.specs.inner.Leaf.{IsClear, IsFollowed};
-ghost use Rattle.fib_changes.specs.Differ.{Differ};
-ghost use Rattle.fib_changes.specs.declared.change.Change.TheVariants as changes;
+ghost use Rattle.fib_entries_rows.specs.Known.{StandsFor};
+ghost use Rattle.fib_entries_rows.specs.inner.Leaf.{IsClear, IsFollowed};
+ghost use Rattle.fib_resolve_changes.specs.Differ.{Differ};
+ghost use Rattle.fib_resolve_changes.specs.declared.change.Change.TheVariants as changes;
 
-use crate::apply::is_other;
-use crate::change::{Target, change};
-use crate::changes::Followed;
-use crate::coming::{arriving, come};
 use crate::entries::Entries;
-use crate::going::{leave, leaving, size_at};
-use crate::index::own_host;
-use crate::leaf::{ready, top_rank};
-use crate::plies::{lowered, own_size, raised};
 use fib_addr::Prefix;
+use fib_entries_rows::apply::is_other;
+use fib_entries_rows::change::{Target, change};
+use fib_entries_rows::changes::Followed;
+use fib_entries_rows::coming::{arriving, come};
+use fib_entries_rows::going::{leave, leaving, size_at};
+use fib_entries_rows::index::own_host;
+use fib_entries_rows::leaf::{ready, top_rank};
+use fib_entries_rows::plies::{lowered, own_size, raised};
 use fib_resolve::{FibSource, Path, Tables};
 use std::alloc::AllocError;
 

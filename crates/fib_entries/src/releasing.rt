@@ -4,40 +4,40 @@ ghost use Rattle.std.specs.List.{list_all};
 ghost use Rattle.std.specs.Set.{is_member};
 ghost use Rattle.fib_addr.specs.Prefixes.{Prefix as PrefixValue, same_prefix};
 ghost use Rattle.fib_cover.specs.Covers.{IsAscending};
-ghost use Rattle.fib_interned.specs.Interned.{AreInterned};
+ghost use Rattle.fib_base_interned.specs.Interned.{AreInterned};
 ghost use Rattle.fib_reach.specs.Walks.{AllDiffer};
 ghost use Rattle.fib_resolve.specs.Edits.{paths_at};
 ghost use Rattle.fib_resolve.specs.Tables.{IsSound};
 ghost use Rattle.fib_resolve.specs.declared.types.Tables.{Tables as TablesValue};
-ghost use Rattle.fib_changes.specs.Differ.{Differ};
-ghost use Rattle.fib_changes.specs.declared.change.Change.TheVariants as changes;
-ghost use Rattle.fib_entries.specs.Known.{StandsFor, prefix_of, rank_of};
-ghost use Rattle.fib_entries.specs.Rows.{Row as RowValue};
+ghost use Rattle.fib_resolve_changes.specs.Differ.{Differ};
+ghost use Rattle.fib_resolve_changes.specs.declared.change.Change.TheVariants as changes;
+ghost use Rattle.fib_entries_rows.specs.Known.{StandsFor, prefix_of, rank_of};
+ghost use Rattle.fib_entries_rows.specs.Rows.{Row as RowValue};
 ghost use Rattle.fib_entries.specs.inner.Adopting.{drop_list};
-ghost use Rattle.fib_entries.specs.inner.Building.{AreHeld};
-ghost use Rattle.fib_entries.specs.inner.Compare.{AreKept};
-ghost use Rattle.fib_entries.specs.inner.Hosting.{IsLoose};
-ghost use Rattle.fib_entries.specs.inner.Leaf.{IsFollowed, moved_at};
+ghost use Rattle.fib_entries_rows.specs.inner.Building.{AreHeld};
+ghost use Rattle.fib_entries_rows.specs.inner.Compare.{AreKept};
+ghost use Rattle.fib_entries_rows.specs.inner.Hosting.{IsLoose};
+ghost use Rattle.fib_entries_rows.specs.inner.Leaf.{IsFollowed, moved_at};
 ghost use Rattle.fib_entries.specs.inner.Releasing.{AreJoined, HasOnly, IsBetween, IsReleased, but_for, covering, is_ending, only_in, released};
 
-use crate::apply::moved;
 use crate::best_list::Plan;
-use crate::change::Target;
-use crate::changes::{Followed, Moved, Touched};
-use crate::cover_of::cover_of;
-use crate::dependants::Dependants;
 use crate::entries::Entries;
-use crate::going::{rank_at, size_at};
-use crate::hosting::is_loose;
-use crate::leaf::{is_none, is_short, is_written, only_list};
-use crate::look::{is_same, place_of};
-use crate::parting::rank;
-use crate::rows::Row;
 use crate::shifting::{aim_all, exchange_dependants};
 use fib_addr::Prefix;
-use fib_blocks::Blocks;
+use fib_base_blocks::Blocks;
+use fib_base_list::List;
 use fib_cover::PrefixSet;
-use fib_list::List;
+use fib_entries_rows::apply::moved;
+use fib_entries_rows::change::Target;
+use fib_entries_rows::changes::{Followed, Moved, Touched};
+use fib_entries_rows::cover_of::cover_of;
+use fib_entries_rows::dependants::Dependants;
+use fib_entries_rows::going::{rank_at, size_at};
+use fib_entries_rows::hosting::is_loose;
+use fib_entries_rows::leaf::{is_none, is_short, is_written, only_list};
+use fib_entries_rows::look::{is_same, place_of};
+use fib_entries_rows::parting::rank;
+use fib_entries_rows::rows::Row;
 use fib_paths::{PathListId, PathLists};
 use fib_resolve::{Aim, FibSource, Marked, Need, Path, PathKind, Tables};
 use std::alloc::{AllocError, Global};
@@ -272,7 +272,8 @@ impl Entries {
         again: &[Prefix],
     ) -> Result<(List<Prefix>, List<Moved>), AllocError>
         requires { b.now.place < length self.now.rows }
-        ensures touched { IfOk result (λ x. (r : RowValue) → slice_get self.now.rows b.now.place ≡ Some r → x.0 ≡ p ∷ again.now ++ but_for again.now r.dependants) }
+        ensures touched { IfOk result (λ x. (r : RowValue) → slice_get self.now.rows b.now.place ≡ Some r
+            → x.0 ≡ p ∷ again.now ++ but_for again.now r.dependants) }
         ensures moved { IfOk result (λ x. (r : RowValue) → slice_get self.now.rows b.now.place ≡ Some r → x.1 ≡ moved_at p r.rank 0) }
     {
         let over = self.rows[b.place].dependants().as_slice();
@@ -285,7 +286,8 @@ impl Entries {
     fn both(&self, b: &Between) -> Result<Dependants, AllocError>
         requires place { b.now.place < length self.now.rows }
         requires at { b.now.at < length self.now.rows }
-        ensures { IfOk result (λ v. (r q : RowValue) → slice_get self.now.rows b.now.place ≡ Some r → slice_get self.now.rows b.now.at ≡ Some q → AreJoined q.dependants r.dependants v) }
+        ensures { IfOk result (λ v. (r q : RowValue) → slice_get self.now.rows b.now.place ≡ Some r
+            → slice_get self.now.rows b.now.at ≡ Some q → AreJoined q.dependants r.dependants v) }
     {
         joined(
             self.alloc,

@@ -1,16 +1,16 @@
 // Rows that lead to their cover, as another entry becomes it.
 ghost use Rattle.std.specs.Prelude.{◌≡◌, ◌<◌, ◌∷◌, [], Some, length, map, slice_get, slice_set};
 ghost use Rattle.fib_cover.specs.Covers.{IsAscending};
-ghost use Rattle.fib_entries.specs.Known.{prefix_of};
-ghost use Rattle.fib_entries.specs.Rows.{Row as RowValue};
+ghost use Rattle.fib_entries_rows.specs.Known.{prefix_of};
+ghost use Rattle.fib_entries_rows.specs.Rows.{Row as RowValue};
 ghost use Rattle.fib_entries.specs.inner.Adopting.{aimed, aimed_in, aimed_mark, with_dependants};
 
-use crate::dependants::Dependants;
-use crate::look::place_of;
-use crate::rows::Row;
 use fib_addr::Prefix;
-use fib_blocks::Blocks;
-use fib_list::List;
+use fib_base_blocks::Blocks;
+use fib_base_list::List;
+use fib_entries_rows::dependants::Dependants;
+use fib_entries_rows::look::place_of;
+use fib_entries_rows::rows::Row;
 use fib_resolve::{Aim, Marked};
 use std::alloc::Global;
 use std::mem;

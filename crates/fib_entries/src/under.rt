@@ -2,29 +2,29 @@
 ghost use Rattle.std.specs.Prelude.{◌≡◌, ◌<◌, ◌-◌, ◌^◌, ◌∷◌, [], ℕ, IfNone, IfOk, IfSome, OnErr, Some, length, map, slice_get, slice_set, List as Items};
 ghost use Rattle.std.specs.List.{remove};
 ghost use Rattle.fib_cover.specs.Covers.{IsAscending};
-ghost use Rattle.fib_interned.specs.Interned.{AreInterned};
+ghost use Rattle.fib_base_interned.specs.Interned.{AreInterned};
 ghost use Rattle.fib_resolve.specs.Edits.{paths_at};
 ghost use Rattle.fib_resolve.specs.Tables.{IsSound};
 ghost use Rattle.fib_resolve.specs.declared.types.FibSource.{FibSource as FibSourceValue};
 ghost use Rattle.fib_resolve.specs.declared.types.Tables.{Tables as TablesValue};
-ghost use Rattle.fib_changes.specs.Differ.{Differ};
-ghost use Rattle.fib_changes.specs.declared.change.Change.TheVariants as changes;
-ghost use Rattle.fib_entries.specs.Known.{StandsFor, prefix_of};
-ghost use Rattle.fib_entries.specs.Rows.{Row as RowValue};
-ghost use Rattle.fib_entries.specs.inner.Coming.{with_pairs};
-ghost use Rattle.fib_entries.specs.inner.Leaf.{IsFollowed};
-ghost use Rattle.fib_entries.specs.inner.Under.{HasBest, IsBared, IsNext};
+ghost use Rattle.fib_resolve_changes.specs.Differ.{Differ};
+ghost use Rattle.fib_resolve_changes.specs.declared.change.Change.TheVariants as changes;
+ghost use Rattle.fib_entries_rows.specs.Known.{StandsFor, prefix_of};
+ghost use Rattle.fib_entries_rows.specs.Rows.{Row as RowValue};
+ghost use Rattle.fib_entries_rows.specs.inner.Coming.{with_pairs};
+ghost use Rattle.fib_entries_rows.specs.inner.Leaf.{IsFollowed};
+ghost use Rattle.fib_entries_rows.specs.inner.Under.{HasBest, IsBared, IsNext};
 
-use crate::change::copied;
-use crate::changes::Followed;
 use crate::entries::Entries;
-use crate::leaf::{is_none, is_short, is_written};
-use crate::led::best_list;
-use crate::look::place_of;
-use crate::rows::Row;
 use fib_addr::Prefix;
-use fib_blocks::Blocks;
-use fib_list::List;
+use fib_base_blocks::Blocks;
+use fib_base_list::List;
+use fib_entries_rows::change::copied;
+use fib_entries_rows::changes::Followed;
+use fib_entries_rows::leaf::{is_none, is_short, is_written};
+use fib_entries_rows::led::best_list;
+use fib_entries_rows::look::place_of;
+use fib_entries_rows::rows::Row;
 use fib_paths::PathListId;
 use fib_resolve::{FibSource, Path, Tables, keys};
 use std::alloc::{AllocError, Global};
@@ -32,7 +32,8 @@ use std::mem;
 
 /// The number of the row's second list, where the first is of that source.
 fn second_list(r: &Row, source: FibSource) -> Option<PathListId>
-    ensures { IfSome result (λ id. (top : ℕ) × (next : FibSourceValue) × (rest : Items (FibSourceValue × ℕ)) × (r.now.pairs ≡ (source, top) ∷ (next, id) ∷ rest)) }
+    ensures { IfSome result (λ id. (top : ℕ) × (next : FibSourceValue) × (rest : Items (FibSourceValue × ℕ))
+        × (r.now.pairs ≡ (source, top) ∷ (next, id) ∷ rest)) }
 {
     match r.pairs() {
         [top, next, ..] => {
@@ -92,7 +93,8 @@ fn bare(alloc: Global, rows: &mut Blocks<Row>, place: usize)
 impl Entries {
     /// The best list of the prefix's row goes, where that alone is of that source. Takes no memory.
     fn drop_best(&mut self, prefix: Prefix, source: FibSource)
-        ensures bared { HasBest self.old.rows prefix source → IsBared self.old.rows self.new.rows self.old.lists self.new.lists prefix source }
+        ensures bared { HasBest self.old.rows prefix source
+            → IsBared self.old.rows self.new.rows self.old.lists self.new.lists prefix source }
         ensures interned { AreInterned self.old.lists }
         ensures objects { self.new.objects ≡ self.old.objects }
     {

@@ -3,26 +3,26 @@ ghost use Rattle.std.specs.Prelude.{◌∷◌, ◌-◌, ◌^◌, IfNone, OnErr, 
 ghost use Rattle.fib_resolve.specs.Edits.{paths_at};
 ghost use Rattle.fib_resolve.specs.Tables.{IsSound};
 ghost use Rattle.fib_resolve.specs.declared.types.Tables.{Tables as TablesValue};
-ghost use Rattle.fib_entries.specs.Known.{StandsFor, prefix_of};
+ghost use Rattle.fib_entries_rows.specs.Known.{StandsFor, prefix_of};
 ghost use Rattle.fib_resolve.specs.declared.types.Path.{Path as PathValue};
-ghost use Rattle.fib_entries.specs.inner.Gateway.{IsGaining};
-ghost use Rattle.fib_entries.specs.inner.Leaf.{IsClear, IsFollowed};
-ghost use Rattle.fib_entries.specs.inner.Losing.{IsLosing};
-ghost use Rattle.fib_changes.specs.Differ.{Differ};
-ghost use Rattle.fib_changes.specs.declared.change.Change.TheVariants as changes;
+ghost use Rattle.fib_entries_rows.specs.inner.Gateway.{IsGaining};
+ghost use Rattle.fib_entries_rows.specs.inner.Leaf.{IsClear, IsFollowed};
+ghost use Rattle.fib_entries_rows.specs.inner.Losing.{IsLosing};
+ghost use Rattle.fib_resolve_changes.specs.Differ.{Differ};
+ghost use Rattle.fib_resolve_changes.specs.declared.change.Change.TheVariants as changes;
 
-use crate::change::Target;
-use crate::changes::Followed;
-use crate::coming::belongs;
 use crate::entries::Entries;
-use crate::gateway::{Gateway, gain, gateway_for};
-use crate::going::size_at;
-use crate::index::own_host;
-use crate::leaf::{is_none, leaf_place, only_list, top_rank};
-use crate::led::are_beside;
-use crate::losing::{lose, spare_for};
-use crate::plies::{lowered, own_size, raised};
 use fib_addr::Prefix;
+use fib_entries_rows::change::Target;
+use fib_entries_rows::changes::Followed;
+use fib_entries_rows::coming::belongs;
+use fib_entries_rows::gateway::{Gateway, gain, gateway_for};
+use fib_entries_rows::going::size_at;
+use fib_entries_rows::index::own_host;
+use fib_entries_rows::leaf::{is_none, leaf_place, only_list, top_rank};
+use fib_entries_rows::led::are_beside;
+use fib_entries_rows::losing::{lose, spare_for};
+use fib_entries_rows::plies::{lowered, own_size, raised};
 use fib_paths::PathListId;
 use fib_resolve::{FibSource, Path, Tables};
 use std::alloc::AllocError;
@@ -39,7 +39,8 @@ impl Entries {
     ) -> Option<(usize, Gateway)>
         requires list { new.now ≡ paths_at prefix source tables.now.routes }
         requires clear { IsClear self.now.rows tables.now.neighbors prefix }
-        ensures { IfSome result (λ x. IsGaining self.now.rows self.now.lists (map prefix_of self.now.rows) tables.now prefix source x.0 x.1) }
+        ensures { IfSome result (λ x. IsGaining self.now.rows self.now.lists
+            (map prefix_of self.now.rows) tables.now prefix source x.0 x.1) }
     {
         let Some(place) = belongs(&self.rows, tables, prefix, source, new) else {
             return None;
@@ -128,7 +129,8 @@ impl Entries {
     ) -> Option<((usize, PathListId), Gateway)>
         requires list { new.now ≡ paths_at prefix source tables.now.routes }
         requires clear { IsClear self.now.rows tables.now.neighbors prefix }
-        ensures { IfSome result (λ x. (old : Items PathValue) × IsLosing self.now.rows self.now.lists tables.now prefix source x.0.0 x.0.1 old x.1) }
+        ensures { IfSome result (λ x. (old : Items PathValue)
+            × IsLosing self.now.rows self.now.lists tables.now prefix source x.0.0 x.0.1 old x.1) }
     {
         let _tables = tables;
         let Some(place) = leaf_place(&self.rows, prefix, source) else {

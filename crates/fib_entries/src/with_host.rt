@@ -3,23 +3,25 @@ ghost use Rattle.std.specs.Prelude.{◌∷◌, ◌-◌, ◌^◌, IfNone, OnErr, 
 ghost use Rattle.fib_resolve.specs.Edits.{paths_at};
 ghost use Rattle.fib_resolve.specs.Tables.{IsSound};
 ghost use Rattle.fib_resolve.specs.declared.types.Tables.{Tables as TablesValue};
-ghost use Rattle.fib_entries.specs.Known.{StandsFor, prefix_of};
+ghost use Rattle.fib_entries_rows.specs.Known.{StandsFor, prefix_of};
 ghost use Rattle.fib_resolve.specs.declared.types.Path.{Path as PathValue};
-ghost use Rattle.fib_entries.specs.inner.Hosting.{IsHosting};
-ghost use Rattle.fib_entries.specs.inner.Leaf.{IsClear, IsFollowed};
-ghost use Rattle.fib_entries.specs.inner.Parting.{IsParting};
-ghost use Rattle.fib_changes.specs.Differ.{Differ};
-ghost use Rattle.fib_changes.specs.declared.change.Change.TheVariants as changes;
+ghost use Rattle.fib_entries_rows.specs.inner.Hosting.{IsHosting};
+ghost use Rattle.fib_entries_rows.specs.inner.Leaf.{IsClear, IsFollowed};
+ghost use Rattle.fib_entries_rows.specs.inner.Parting.{IsParting};
+ghost use Rattle.fib_resolve_changes.specs.Differ.{Differ};
+ghost use Rattle.fib_resolve_changes.specs.declared.change.Change.TheVariants as changes;
 
-use crate::change::Target;
-use crate::changes::Followed;
-use crate::coming::belongs;
 use crate::entries::Entries;
-use crate::hosting::{Late, MOST_OF_TWO, come_hosted, greater, insert_both, late_for, remove_both};
-use crate::leaf::{is_none, is_short, leaf_place, only_list, top_rank};
-use crate::parting::{Last, last_for, leave_parting};
-use crate::plies::raised;
 use fib_addr::Prefix;
+use fib_entries_rows::change::Target;
+use fib_entries_rows::changes::Followed;
+use fib_entries_rows::coming::belongs;
+use fib_entries_rows::hosting::{
+    Late, MOST_OF_TWO, come_hosted, greater, insert_both, late_for, remove_both,
+};
+use fib_entries_rows::leaf::{is_none, is_short, leaf_place, only_list, top_rank};
+use fib_entries_rows::parting::{Last, last_for, leave_parting};
+use fib_entries_rows::plies::raised;
 use fib_paths::PathListId;
 use fib_resolve::{FibSource, Path, Tables};
 use std::alloc::AllocError;
@@ -36,7 +38,8 @@ impl Entries {
     ) -> Option<(usize, Late)>
         requires list { new.now ≡ paths_at prefix source tables.now.routes }
         requires clear { IsClear self.now.rows tables.now.neighbors prefix }
-        ensures { IfSome result (λ x. IsHosting self.now.rows self.now.lists (map prefix_of self.now.rows) tables.now prefix source x.0 x.1) }
+        ensures { IfSome result (λ x. IsHosting self.now.rows self.now.lists
+            (map prefix_of self.now.rows) tables.now prefix source x.0 x.1) }
     {
         if !is_short(prefix) {
             return None;
@@ -117,7 +120,8 @@ impl Entries {
     ) -> Option<((usize, PathListId), Last)>
         requires list { new.now ≡ paths_at prefix source tables.now.routes }
         requires clear { IsClear self.now.rows tables.now.neighbors prefix }
-        ensures { IfSome result (λ x. (old : Items PathValue) × IsParting self.now.rows self.now.lists (map prefix_of self.now.rows) tables.now prefix source x.0.0 x.0.1 old x.1) }
+        ensures { IfSome result (λ x. (old : Items PathValue)
+            × IsParting self.now.rows self.now.lists (map prefix_of self.now.rows) tables.now prefix source x.0.0 x.0.1 old x.1) }
     {
         let _tables = tables;
         if !is_short(prefix) {

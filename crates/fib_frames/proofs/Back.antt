@@ -12,7 +12,7 @@ use Rattle.fib_capture.specs.declared.packet.Order.TheVariants.{Little}
 use Rattle.fib_capture.specs.declared.packet.Link.TheVariants.{Ethernet}
 use Rattle.fib_capture.specs.declared.packet.Packet.TheVariants as packets
 use Rattle.fib_capture.proofs.WrittenFiles.{written_files_are_read_back}
-use Rattle.fib_taps.specs.Taps.{Pairs}
+use Rattle.fib_rounds_taps.specs.Taps.{Pairs}
 use Rattle.fib_resolve.specs.declared.types.End.{End}
 use Rattle.fib_resolve.specs.declared.types.End.TheVariants as ends
 use Rattle.fib_rewrite.specs.Sent.{has_expired, hopped, sent, sent_bytes}

@@ -3,7 +3,7 @@ use Rattle.std.proofs.Common.{◌≡◌, ◌≤◌, ◌+◌, ◌-◌, ◌++◌, 
 use Rattle.std.proofs.lemmas.List.{append-nil, take_all}
 use Rattle.std.proofs.Math.Seq.{take-add}
 use Rattle.fib_outside.specs.Outside.{Appends}
-use Rattle.fib_taps.specs.Taps.{Pairs}
+use Rattle.fib_rounds_taps.specs.Taps.{Pairs}
 use Rattle.fib_rounds.specs.Writes.{AppendsSome}
 use Rattle.fib_rounds.proofs.Moves.{Appends-more}
 use Rattle.fib_rounds.proofs.Running.{some_of_both}

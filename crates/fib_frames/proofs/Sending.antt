@@ -6,8 +6,8 @@ use Rattle.fib_capture.specs.Spans.{Span}
 use Rattle.fib_capture.specs.Written.{record_bytes}
 use Rattle.fib_capture.specs.declared.packet.Order.TheVariants.{Little}
 use Rattle.fib_rewrite.specs.Sent.{has_expired, sent, sent_record}
-use Rattle.fib_taps.specs.Taps.{Pairs}
-use Rattle.fib_results.specs.declared.record.Record.{Record}
+use Rattle.fib_rounds_taps.specs.Taps.{Pairs}
+use Rattle.fib_core_results.specs.declared.record.Record.{Record}
 use Rattle.fib_resolve.specs.declared.types.End.{End}
 use Rattle.fib_resolve.specs.declared.types.End.TheVariants as ends
 use Rattle.fib_frames.specs.Frames.{sent_by, expires_by, frames_in, expired_in, records_in, expired_text, expired_line, packet_in}

@@ -2,12 +2,12 @@
 use Rattle.std.proofs.Common.{◌≡◌, ◌++◌, [], ℕ, List, Option, Some, None, Result, Ok, Err, OnOk, OnErr, Contains, lit<, refl, ap, sym, ◌∙◌, subst}
 use Rattle.std.specs.Prelude.{◌/◌, IfOk}
 use Rattle.fib_outside.specs.Outside.{Appends}
-use Rattle.fib_settings.specs.declared.sizes.Settings.{Settings}
-use Rattle.fib_lines.specs.Lines.{lines_of}
+use Rattle.fib_core.specs.declared.settings.Settings.{Settings}
+use Rattle.fib_base_lines.specs.Lines.{lines_of}
 use Rattle.fib_capture.specs.Captures.{Capture}
 use Rattle.fib_capture.specs.Spans.{Span, spans_of}
-use Rattle.fib_taps.specs.Taps.{Pairs}
-use Rattle.fib_crew.specs.Results.{numbered}
+use Rattle.fib_rounds_taps.specs.Taps.{Pairs}
+use Rattle.fib_worker_crew.specs.Results.{numbered}
 use Rattle.fib_rounds.specs.Runs.{GainsPart, GainsTaken}
 use Rattle.fib_rounds.specs.Writes.{AppendsSome}
 use Rattle.fib_rounds.proofs.Moves.{Appends-more, Appends-none}

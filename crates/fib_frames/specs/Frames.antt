@@ -9,7 +9,7 @@ use Rattle.fib_capture.specs.Written.{Frame, record_bytes, header_bytes}
 use Rattle.fib_capture.specs.declared.packet.Packet.{Packet}
 use Rattle.fib_capture.specs.declared.packet.Order.TheVariants.{Little}
 use Rattle.fib_capture.specs.declared.packet.Link.TheVariants.{Ethernet}
-use Rattle.fib_taps.specs.Taps.{Pairs}
+use Rattle.fib_rounds_taps.specs.Taps.{Pairs}
 use Rattle.fib_rewrite.specs.Sent.{has_expired, sent}
 
 -- the bytes of a span

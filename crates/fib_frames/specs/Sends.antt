@@ -1,13 +1,13 @@
 -- What a run sends: its text and its frames.
 use Rattle.std.specs.Prelude.{ℕ, ◌≡◌, ◌/◌, ◌++◌, [], List, Option, Some, None, Ok, is_some, option_map, Bool}
 use Rattle.fib_outside.specs.Outside.{Appends}
-use Rattle.fib_lines.specs.Lines.{lines_of}
-use Rattle.fib_results.specs.declared.record.Record.{Record}
+use Rattle.fib_base_lines.specs.Lines.{lines_of}
+use Rattle.fib_core_results.specs.declared.record.Record.{Record}
 use Rattle.fib_capture.specs.Captures.{Capture}
 use Rattle.fib_capture.specs.Spans.{Span, spans_of}
-use Rattle.fib_crew.specs.Results.{numbered}
+use Rattle.fib_worker_crew.specs.Results.{numbered}
 use Rattle.fib_words.specs.Words.{Origin, soak, files, asked}
-use Rattle.fib_settings.specs.declared.sizes.Settings.{Settings}
+use Rattle.fib_core.specs.declared.settings.Settings.{Settings}
 use Rattle.fib_frames.specs.declared.words.Job.{Job}
 use Rattle.fib_rounds.specs.Output.{OutputWith}
 use Rattle.fib_rounds.specs.Writes.{AppendsSome}

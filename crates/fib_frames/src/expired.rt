@@ -4,8 +4,8 @@ ghost use Rattle.fib_frames.specs.Frames.{AreInside, expired_line, expired_text,
 
 use crate::frames::packet_in;
 use fib_capture::Spans;
+use fib_core_results::Record;
 use fib_resolve::End;
-use fib_results::Record;
 use std::alloc::AllocError;
 
 // Whether a packet that ends so would leave, but has no hop left.

@@ -6,8 +6,8 @@ ghost use Rattle.fib_capture.specs.Written.{record_bytes};
 ghost use Rattle.fib_capture.specs.declared.packet.Order.TheVariants.{Little};
 
 use fib_capture::Spans;
+use fib_core_results::Record;
 use fib_resolve::End;
-use fib_results::Record;
 use fib_rewrite::put_frame;
 use std::alloc::AllocError;
 

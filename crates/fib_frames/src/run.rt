@@ -2,7 +2,7 @@
 ghost use Rattle.std.specs.Prelude.{◌≡◌, ◌≤◌, ◌⊎◌, ◌/◌, Some, true, false, length, OnOk, OnErr, IsErrOf};
 ghost use Rattle.fib_outside.specs.Outside.{Appends, HasRisen};
 ghost use Rattle.fib_outside.specs.declared.part.Part.{Part};
-ghost use Rattle.fib_settings.specs.Ranges.{InRange};
+ghost use Rattle.fib_core.specs.Ranges.{InRange};
 ghost use Rattle.fib_rounds.specs.Writes.{AppendsSome};
 ghost use Rattle.fib_run.specs.Files.{MayBeLong, MayOpen, MayRefuse, names_capture};
 ghost use Rattle.fib_frames.specs.Frames.{AreInside, expired_text, frame_file};
@@ -12,10 +12,10 @@ use crate::seen::{Seen, see_capture};
 use crate::send::{write_expired, write_frames};
 use crate::words::Job;
 use fib_commands::Script;
+use fib_core_results::Record;
 use fib_outside::{Gate, Part, Shelf, Sink};
-use fib_results::Record;
+use fib_rounds_taps::KeptTap;
 use fib_run::{Fault, RunFault, Settings, read_commands, run_to};
-use fib_taps::KeptTap;
 use std::alloc::Global;
 use std::sync::Wait;
 use std::thread::Threads;
@@ -99,7 +99,8 @@ pub fn run_job<R: Threads + Wait + Sync, H: Shelf, K: Sink, F: Sink, G: Gate>(
     ensures done { OnOk result (GainsBoth (MaySend (H.holds shelf.old) (wants job.entry))
         (K.written text.old) (K.written text.new) (F.written frames.old) (F.written frames.new)) }
     ensures part { OnErr result (NoneGrew (K.written text.old) (K.written text.new) (F.written frames.old) (F.written frames.new)
-        ⊎ GainsParts (MaySend (H.holds shelf.old) (wants job.entry)) (K.written text.old) (K.written text.new) (F.written frames.old) (F.written frames.new)) }
+        ⊎ GainsParts (MaySend (H.holds shelf.old) (wants job.entry)) (K.written text.old) (K.written text.new)
+        (F.written frames.old) (F.written frames.new)) }
     ensures first { IsErrOf result Fault.Write → GainsParts (MaySend (H.holds shelf.old) (wants job.entry))
         (K.written text.old) (K.written text.new) (F.written frames.old) (F.written frames.new) }
     ensures unwritten { IsErrOf result Fault.Write → HasRisen (K.faults text.old) (K.faults text.new)

@@ -7,8 +7,8 @@ ghost use Rattle.fib_frames.specs.Frames.{AreInside, expired_text, file_header, 
 use crate::expired::put_expired;
 use crate::frames::put_frames;
 use crate::seen::Seen;
+use fib_core_results::Record;
 use fib_outside::{Failed, Sink};
-use fib_results::Record;
 use fib_run::{RunFault, put_all};
 
 /// How many results' frames or lines are made before they are written.

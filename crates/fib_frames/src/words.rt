@@ -1,10 +1,10 @@
 // What the words ask for.
 ghost use Rattle.std.specs.Prelude.{◌≡◌, Some, map, string_bytes, option_map, IfOk, IfSome};
-ghost use Rattle.fib_settings.specs.Ranges.{InRange};
+ghost use Rattle.fib_core.specs.Ranges.{InRange};
 ghost use Rattle.fib_run.specs.Files.{wanted_files};
 ghost use Rattle.fib_frames.specs.Sends.{job_in, wanted};
 
-use fib_settings::Settings;
+use fib_core::Settings;
 use fib_words::{Source, read_words};
 use std::alloc::{AllocError, Global};
 

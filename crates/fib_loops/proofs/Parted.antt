@@ -12,7 +12,7 @@ use Rattle.fib_reach.proofs.Visits.{same_or_not}
 use Rattle.fib_loops.specs.inner.Entering.{unset}
 use Rattle.fib_loops.specs.inner.Parting.{IsOrdered, IsParted, IsGrowing, take_one}
 use Rattle.fib_loops.proofs.Entered.{unset_less}
-use Rattle.fib_list.proofs.Lists.{either}
+use Rattle.fib_base_list.proofs.Lists.{either}
 
 -- a number above 0 is written where none was
 unset_suc : (v : ℕ) (xs : List ℕ) (i : ℕ) → 0 < v → i < length xs → get_or xs i 0 ≡ 0 → unset (set xs i v) + 1 ≡ unset xs

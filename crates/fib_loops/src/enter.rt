@@ -74,7 +74,8 @@ fn leave(walk: &mut Entering, node: u32) -> Result<(), AllocError>
 fn step(graph: &Graph, walk: &mut Entering, newest: Frame) -> Result<(), AllocError>
     requires closed { IsClosed graph.now }
     requires few { length graph.now < 2 ^ 32 }
-    requires enters { IsEntering graph.now walk.old.starts.items walk.old.ranks.items walk.old.order.items (nodes_of (walk.old.path.items ++ newest ∷ [])) }
+    requires enters { IsEntering graph.now walk.old.starts.items walk.old.ranks.items walk.old.order.items
+        (nodes_of (walk.old.path.items ++ newest ∷ [])) }
     requires passed { ArePassed graph.now walk.old.starts.items (walk.old.path.items ++ newest ∷ []) }
     ensures enters { OnOk result (Enters graph.now walk.new) }
     ensures keeps { OnOk result (KeepsEntered walk.old.starts.items walk.new.starts.items) }

@@ -42,7 +42,8 @@ pub trait Shelf {
         ensures within { IfOk result (λ n. n ≤ length into.old) }
         ensures ok { IfOk result (λ n. Consumes (left self.old) (left self.new) (take n into.new)) }
         ensures end { IfOk result (λ n. 0 < length into.old → n ≡ 0 → IsAtEnd (left self.old)) }
-        ensures failed { OnErr result ((part : Part) → fetched self.old ≡ Some part → HasRisen (faults self.old part) (faults self.new part)) }
+        ensures failed { OnErr result ((part : Part) → fetched self.old ≡ Some part
+            → HasRisen (faults self.old part) (faults self.new part)) }
         ensures err { OnErr result (left self.new ≡ left self.old) }
         ensures counted { (part : Part) → faults self.old part ≤ faults self.new part }
         ensures others { (other : Part) → fetched self.old ≢ Some other → faults self.new other ≡ faults self.old other }
@@ -140,7 +141,8 @@ impl Shelf for MemoryShelf {
     fn fetch(&mut self, part: Part, name: &str) -> Result<(), Failed>
         ensures ok { OnOk result (fetch_fails self.old name.now ≡ false) }
         ensures err { OnErr result (fetch_fails self.old name.now ≡ true) }
-        ensures after { self.new ≡ (if fetch_fails self.old name.now then after_refusal self.old part else after_fetch self.old part name.now) }
+        ensures after { self.new ≡ (if fetch_fails self.old name.now then after_refusal self.old part else after_fetch self.old part
+            name.now) }
     {
         let number = self.fetches;
         self.fetches = number.saturating_add(1);

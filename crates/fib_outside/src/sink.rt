@@ -43,7 +43,14 @@ impl Model for MemorySink {
 
     ghost Value = { Stream };
 
-    ghost view = { λ s. record { written = s.bytes.items; room = s.room; failing = s.failing.items; writes = s.writes; faults = s.faults } };
+    ghost view = { λ s. record {
+      written = s.bytes.items;
+      room = s.room;
+      failing = s.failing.items;
+      writes = s.writes;
+      faults =
+          s.faults;
+    } };
 
     ghost invariant = { λ s. (vec_len s.bytes ≤ s.room) × (s.room ≤ vec_capacity s.bytes) };
 }

@@ -3,11 +3,11 @@ use Rattle.std.proofs.Common.{arith, ◌≡◌, ◌≢◌, ℕ, zero, suc, ◌+�
 use Rattle.std.specs.Prelude.{IsSome, Contains, option_map}
 use Rattle.std.specs.Cmp.Lexicographic.{pointwise}
 use Rattle.std.proofs.lemmas.Bool.{false≢true, cases_eq}
-use Rattle.fib_list.proofs.Lists.{either}
+use Rattle.fib_base_list.proofs.Lists.{either}
 use Rattle.fib_resolve.specs.declared.types.Path.{Path}
 use Rattle.fib_resolve.specs.contracts.types.PathPartialEq.TheImpl.{eq-value}
-use Rattle.fib_interned.specs.Interned.{Kept, kept_of, users_in, users_of, AreInterned, Takes, Gives, lowered}
-use Rattle.fib_interned.proofs.Finding.{find_only, get_or_at}
+use Rattle.fib_base_interned.specs.Interned.{Kept, kept_of, users_in, users_of, AreInterned, Takes, Gives, lowered}
+use Rattle.fib_base_interned.proofs.Finding.{find_only, get_or_at}
 use Rattle.fib_paths.specs.PathLists.{IsUsedLess}
 use Rattle.fib_paths.specs.inner.Vectors.{listed, AreApart}
 use Rattle.fib_paths.proofs.SamePaths.{same_paths, lists_are}

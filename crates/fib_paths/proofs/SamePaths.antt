@@ -2,7 +2,7 @@
 use Rattle.std.proofs.Common.{rules, ◌≡◌, true, List, [], ◌∷◌, refl, subst, ap, ◌∙◌}
 use Rattle.std.specs.Cmp.Lexicographic.{pointwise}
 use Rattle.std.proofs.lemmas.Bool.{false≢true}
-use Rattle.fib_list.proofs.Booleans.{and_both}
+use Rattle.fib_base_list.proofs.Booleans.{and_both}
 use Rattle.fib_resolve.specs.declared.types.Path.{Path}
 use Rattle.fib_resolve.specs.contracts.types.PathPartialEq.TheImpl.{eq-value}
 use Rattle.fib_resolve.specs.contracts.types.PathEq.TheImpl.Laws as laws

@@ -1,7 +1,7 @@
--- Interned path-lists: `fib_interned`'s words at lists of paths.
+-- Interned path-lists: `fib_base_interned`'s words at lists of paths.
 use Rattle.std.specs.Prelude.{◌≡◌, ◌<◌, ℕ, List, Contains}
 use Rattle.fib_resolve.specs.declared.types.Path.{Path}
-use Rattle.fib_interned.specs.Interned.{Kept}
+use Rattle.fib_base_interned.specs.Interned.{Kept}
 
 abbrev pub KeptList : Type 0
 KeptList = Kept (List Path)

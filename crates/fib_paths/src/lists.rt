@@ -1,9 +1,9 @@
 // Kept path-lists.
 ghost use Rattle.std.specs.Prelude.{◌≡◌, ◌≢◌, ◌<◌, ◌-◌, ◌^◌, [], length, Some, IsSome, IsTrue, ◌↔◌, IfOk, IfSome, IfNone, OnErr, Contains, slice_get, option_map};
-ghost use Rattle.fib_interned.specs.Interned.{kept_of, users_of, AreInterned, Takes, Gives};
+ghost use Rattle.fib_base_interned.specs.Interned.{kept_of, users_of, AreInterned, Takes, Gives};
 ghost use Rattle.fib_paths.specs.PathLists.{IsUsedLess, KeptList};
 
-use fib_interned::Numbered;
+use fib_base_interned::Numbered;
 use fib_resolve::Path;
 use std::alloc::{AllocError, Global};
 use std::marker::Model;
@@ -32,7 +32,7 @@ pub struct PathLists {
 impl Model for PathLists {
     ghost use Rattle.std.specs.Prelude.{List, map};
     ghost use Rattle.fib_resolve.specs.declared.types.Path.{Path as PathValue};
-    ghost use Rattle.fib_interned.specs.Interned.{Kept};
+    ghost use Rattle.fib_base_interned.specs.Interned.{Kept};
     ghost use Rattle.fib_paths.specs.inner.Vectors.{listed, AreApart};
 
     ghost Value = { List (Kept (List PathValue)) };

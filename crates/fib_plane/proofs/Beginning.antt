@@ -10,13 +10,13 @@ use Rattle.fib_union.proofs.Counts.{counted_has_in}
 use Rattle.fib_pool.specs.declared.object.Kind.TheVariants as kinds
 use Rattle.fib_pool.specs.declared.object.Object.{Object}
 use Rattle.fib_pool.specs.Objects.{at, count_in, count_of, as_new, fresh_objects}
-use Rattle.fib_interned.specs.Interned as interned
+use Rattle.fib_base_interned.specs.Interned as interned
 use Rattle.fib_pool.specs.declared.object.AdjacencyRecord.{AdjacencyRecord}
 use Rattle.fib_core.specs.Words.{decoded}
 use Rattle.fib_core.specs.Union.{edge_in}
 use Rattle.fib_core.proofs.Numbers.{decoded-zero, zeros}
-use Rattle.fib_board.proofs.Serving.{edge_at_drop}
-use Rattle.fib_board.specs.Boards.{Board, word_in, union_of, IsFresh}
+use Rattle.fib_core_board.proofs.Serving.{edge_at_drop}
+use Rattle.fib_core_board.specs.Boards.{Board, word_in, union_of, IsFresh}
 use Rattle.fib_plane.specs.inner.Joined.{IsAtRest}
 
 none_at : (n k : ℕ) → edge_at (replicate n None) k ≡ None

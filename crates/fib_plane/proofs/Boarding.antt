@@ -14,13 +14,13 @@ use Rattle.fib_core.specs.Words.{IsRoomy, encoded, decoded, goes, target, is_edg
 use Rattle.fib_core.specs.Union.{edge_in, must_retire, retire_if}
 use Rattle.fib_core.proofs.Numbers.{decoded_encoded}
 use Rattle.fib_core.proofs.Unions.{edge_in_at}
-use Rattle.fib_lawful.specs.State.{fresh_marks}
+use Rattle.fib_core_lawful.specs.State.{fresh_marks}
 use Rattle.fib_pool.specs.declared.object.Object.{Object}
 use Rattle.fib_pool.specs.Objects.{at, count_in, count_of, recount, with_count, IsDying}
 use Rattle.fib_pool.proofs.Pools.{none_some, at_in}
-use Rattle.fib_board.specs.Boards.{Board, as_control, edge_of, word_in, union_of, board_stored}
-use Rattle.fib_board.specs.May.{IsReached}
-use Rattle.fib_board.proofs.Serving.{union_stored}
+use Rattle.fib_core_board.specs.Boards.{Board, as_control, edge_of, word_in, union_of, board_stored}
+use Rattle.fib_core_board.specs.May.{IsReached}
+use Rattle.fib_core_board.proofs.Serving.{union_stored}
 use Rattle.fib_plane.specs.Planes.{leads_from, is_word, filled}
 
 pub edge_at_word : (b : Board) (k : ℕ) → edge_at (union_of b).edges k ≡ leads_from b k

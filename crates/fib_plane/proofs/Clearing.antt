@@ -13,14 +13,14 @@ use Rattle.fib_union.proofs.Stores.{some_none}
 use Rattle.fib_pool.specs.declared.object.Object.{Object}
 use Rattle.fib_pool.specs.Objects.{at, count_of, with_count, IsLive, IsDying}
 use Rattle.fib_core.specs.declared.word.Word.TheVariants as words
-use Rattle.fib_board.specs.Boards.{Board, edge_of, word_in, union_of, board_stored}
-use Rattle.fib_board.specs.May.{Allows, MayClear, MayStore}
+use Rattle.fib_core_board.specs.Boards.{Board, edge_of, word_in, union_of, board_stored}
+use Rattle.fib_core_board.specs.May.{Allows, MayClear, MayStore}
 use Rattle.fib_plane.specs.Planes.{with_cells}
 use Rattle.fib_plane.specs.Planes.{IsSwept, leads_from, uncounted}
 use Rattle.fib_plane.specs.inner.Joined.{IsJoined, AreDying}
 use Rattle.fib_core.specs.Words.{encoded}
 use Rattle.fib_pool.proofs.Pools.{at_in, live_at}
-use Rattle.fib_board.proofs.Serving.{edge_drop, union_stored, clear_empties}
+use Rattle.fib_core_board.proofs.Serving.{edge_drop, union_stored, clear_empties}
 use Rattle.fib_plane.proofs.Boarding.{into_stored, leaves, left_is, not_reached, retired_same, word_same, word_other, filled_less, dying_count, at_same, at_other, count_same, none_same, kind_same, count_less}
 
 module _ (b : Board) (u : Kept) (xs : List (Option Object)) (h : IsJoined b u xs) (o slot : ℕ) (small : slot < 16) (dying : IsDying xs o) where

@@ -2,7 +2,8 @@
 use Rattle.std.proofs.Common.{arith, ◌≡◌, ◌≢◌, ℕ, ◌+◌, ◌-◌, ◌*◌, ◌<◌, ◌≤◌, ◌^◌, inl, inr, true, false, true≢false, Bool, List, length, Option, Some, None, refl, sym, ◌∙◌, ap, subst, zero, suc, get_or-set_same, get_or-set_other, length-set}
 use Rattle.std.specs.Prelude.{◌==◌, IfSome, IsSome, option_map, if◌then◌else◌, slice_index, slice_set}
 use Rattle.std.proofs.lemmas.Bool.{cases_eq}
-use Rattle.fib_interned.specs.Interned as interned
+use Rattle.std.proofs.lemmas.Bool.Decides.{nat_tests}
+use Rattle.fib_base_interned.specs.Interned as interned
 use Rattle.fib_resolve.specs.Tables.{fresh}
 use Rattle.fib_resolve.specs.declared.types.End.TheVariants as answers
 use Rattle.fib_union.specs.Unions as edges
@@ -16,22 +17,22 @@ use Rattle.fib_core.specs.StandsFor.{mac_word}
 use Rattle.fib_core.proofs.Numbers.{decoded_encoded, goes_of, target_of}
 use Rattle.fib_core.proofs.Unions.{none_counted}
 use Rattle.fib_core.specs.Union as unions
-use Rattle.fib_lawful.specs.State.{fresh_marks}
-use Rattle.fib_lawful.proofs.Fresh.{fresh_drops}
-use Rattle.fib_steady.proofs.Storing.{aside_stored}
-use Rattle.fib_rule.specs.Steady.{versions}
-use Rattle.fib_rule.proofs.Aside.{walk_aside}
-use Rattle.fib_rule.proofs.Steps.{zero_version}
+use Rattle.fib_core_lawful.specs.State.{fresh_marks}
+use Rattle.fib_core_lawful.proofs.Fresh.{fresh_drops}
+use Rattle.fib_core_steady.proofs.Storing.{aside_stored}
+use Rattle.fib_core_rule.specs.Steady.{versions}
+use Rattle.fib_core_rule.proofs.Aside.{walk_aside}
+use Rattle.fib_core_rule.proofs.Steps.{zero_version}
 use Rattle.fib_pool.specs.declared.object.Kind.TheVariants as kinds
 use Rattle.fib_pool.specs.declared.object.Object.{Object}
 use Rattle.fib_pool.specs.declared.object.AdjacencyRecord.{AdjacencyRecord}
 use Rattle.fib_pool.specs.Objects.{at, count_in, count_of, with_count, as_new, IsTaken, IsLive}
 use Rattle.fib_pool.specs.Records.{AreAdjacencies, IsKeptAs}
 use Rattle.fib_pool.proofs.Pools.{none_some}
-use Rattle.fib_board.specs.Boards.{Board, as_control, edge_of, union_of, word_in, board_stored}
-use Rattle.fib_board.specs.May.{Allows, MayChange, MayStore, Serves}
-use Rattle.fib_board.specs.Told.{IsBoard}
-use Rattle.fib_board.proofs.Serving.{edge_none, edge_at_drop, serves_held}
+use Rattle.fib_core_board.specs.Boards.{Board, as_control, edge_of, union_of, word_in, board_stored}
+use Rattle.fib_core_board.specs.May.{Allows, MayChange, MayStore, Serves}
+use Rattle.fib_core_board.specs.Told.{IsBoard}
+use Rattle.fib_core_board.proofs.Serving.{edge_none, edge_at_drop, serves_held}
 use Rattle.fib_plane.specs.Planes.{Plane, IsHeld, released, counted_more, uncounted}
 use Rattle.fib_plane.specs.Sound.{AreRecords, IsInRange, record_word}
 use Rattle.fib_plane.specs.Records.{board_filled, given_objects}
@@ -320,6 +321,12 @@ records_forgotten b xs ys rows new o ok gives one live pool = subst (λ (zs : Li
 
 pub given_released : (p : Plane) (o : ℕ) → interned.users_of p.records o ≡ 1 → given_objects p o ≡ released p o
 given_released p o one = ap (λ (t : Bool). if t then released p o else p.objects) (let t : (interned.users_of p.records o == 1) ≡ true = ap (λ (n : ℕ). n == 1) one in t)
+
+pub given_same : (p : Plane) (o : ℕ) → interned.users_of p.records o ≢ 1 → given_objects p o ≡ p.objects
+given_same p o more = ap (λ (t : Bool). if t then released p o else p.objects) (let t : (interned.users_of p.records o == 1) ≡ false = not_one (interned.users_of p.records o) more in t)
+  where
+    not_one : (n : ℕ) → n ≢ 1 → (n == 1) ≡ false
+    not_one n ne = grind (arith, nat_tests)
 
 -- a free object is no record's
 pub taken_apart : (b : Board) (xs ys : List (Option Object)) (rows : List (interned.Kept AdjacencyRecord)) (o : ℕ) → AreRecords b xs rows → IsTaken xs ys o kinds.Adjacency → (k : interned.Kept AdjacencyRecord) → interned.kept_of rows o ≡ Some k → ⊥

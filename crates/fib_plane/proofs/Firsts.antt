@@ -15,20 +15,20 @@ use Rattle.fib_core.specs.Words.{encoded, decoded, goes, target}
 use Rattle.fib_core.specs.Walk.{root, from_ply, after, end_at, walk, word_at}
 use Rattle.fib_core.specs.Union as unions
 use Rattle.fib_core.specs.Union.{HasForm}
-use Rattle.fib_interned.specs.Interned.{Kept}
+use Rattle.fib_base_interned.specs.Interned.{Kept}
 use Rattle.fib_pool.specs.declared.object.Object.{Object}
 use Rattle.fib_pool.specs.declared.object.AdjacencyRecord.{AdjacencyRecord}
 use Rattle.fib_core.proofs.Numbers.{decoded_encoded, goes-zero, target_of}
 use Rattle.fib_core.proofs.Walks.{after_ended}
-use Rattle.fib_lawful.specs.State.{first_control}
-use Rattle.fib_lawful.specs.May.{IsFilling}
-use Rattle.fib_lawful.proofs.Begins.{falses}
-use Rattle.fib_steady.proofs.Blocks.{nibble_small}
-use Rattle.fib_rule.specs.May as events
-use Rattle.fib_rule.proofs.Example.{first_store}
-use Rattle.fib_board.specs.Boards.{Board, Pass, board_of, union_of, word_in}
-use Rattle.fib_board.specs.May.{Allows, MayChange}
-use Rattle.fib_board.proofs.Serving.{drop_zero, edge_drop, edge_some}
+use Rattle.fib_core_lawful.specs.State.{first_control}
+use Rattle.fib_core_lawful.specs.May.{IsFilling}
+use Rattle.fib_core_lawful.proofs.Begins.{falses}
+use Rattle.fib_core_steady.proofs.Blocks.{nibble_small}
+use Rattle.fib_core_rule.specs.May as events
+use Rattle.fib_core_rule.proofs.Example.{first_store}
+use Rattle.fib_core_board.specs.Boards.{Board, Pass, board_of, union_of, word_in}
+use Rattle.fib_core_board.specs.May.{Allows, MayChange}
+use Rattle.fib_core_board.proofs.Serving.{drop_zero, edge_drop, edge_some}
 use Rattle.fib_plane.specs.Planes.{Plane}
 use Rattle.fib_plane.specs.Puts.{Closes, MayPut}
 use Rattle.fib_plane.specs.Sound.{IsPlane}
@@ -96,9 +96,9 @@ module _ (id : List ℕ) (passes : List (Option Pass)) (objects workers : ℕ) (
   fresh_put objs rows spare = record {
     allowed = inr (refl, falses 8);
     roomy = omega arith;
-    seen = λ far f. first_change;
+    seen = λ other far f. first_change;
     dropped = λ closes. absurd (none_closes closes);
-    aside = λ either. absurd (⊎_elim (λ (e : words.ToBalance 1 ≡ words.Drop). no_drop 1 e) none_closes either);
+    aside = λ other either. absurd (⊎_elim (λ (e : words.ToBalance 1 ≡ words.Drop). no_drop 1 e) none_closes either);
     serves = λ z puts other begun. absurd (not_before 0 refl begun);
   }
 
@@ -160,8 +160,8 @@ module _ (p : Plane) (o : ℕ) (told : IsPlane p) (allowed : Allows p.board) (no
   empty_put = record {
     allowed = allowed;
     roomy = tt;
-    seen = λ far f. empty_change;
+    seen = λ other far f. empty_change;
     dropped = λ closes. absurd (no_cycle closes);
-    aside = λ either away. absurd (away (inl refl));
+    aside = λ other either away. absurd (away (inl refl));
     serves = λ z puts other begun. absurd (not_before p.board.log.version.applied none begun);
   }

@@ -3,13 +3,13 @@ use Rattle.std.proofs.Common.{arith, ◌≡◌, ◌≢◌, ◌<◌, ◌+◌, ◌
 use Rattle.fib_union.specs.Unions.{owner, into, Kept}
 use Rattle.fib_pool.specs.declared.object.Object.{Object}
 use Rattle.fib_pool.specs.Objects.{at, count_in, count_of, IsDying}
-use Rattle.fib_board.specs.Boards.{Board, HasNoPly, union_of, board_scanned, board_scans}
+use Rattle.fib_core_board.specs.Boards.{Board, HasNoPly, union_of, board_scanned, board_scans}
 use Rattle.fib_plane.specs.Planes.{IsHeld, IsSwept}
 use Rattle.fib_plane.specs.inner.Joined.{IsJoined, IsDropped}
 use Rattle.fib_union.specs.Unions.{times}
-use Rattle.fib_board.specs.May.{Serves}
-use Rattle.fib_board.specs.Told.{IsBoard}
-use Rattle.fib_board.proofs.Serving.{serves_scanned, hangs_aside}
+use Rattle.fib_core_board.specs.May.{Serves}
+use Rattle.fib_core_board.specs.Told.{IsBoard}
+use Rattle.fib_core_board.proofs.Serving.{serves_scanned, hangs_aside}
 use Rattle.fib_plane.proofs.Boarding.{dying_count}
 
 pub held_stays : (b d : Board) (xs ys : List (Option Object)) → IsSwept b d xs ys → (o : ℕ) → IsHeld b xs o → IsHeld d ys o

@@ -1,3 +1,4 @@
+pub mod Views
 pub mod Boarding
 pub mod Clearing
 pub mod Sweeping
@@ -9,6 +10,4 @@ pub mod Holding
 pub mod Recording
 pub mod Filling
 pub mod Firsts
-pub mod Trying
-pub mod Living
-pub mod Growing
+pub mod Leaving

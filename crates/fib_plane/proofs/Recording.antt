@@ -3,7 +3,7 @@ use Rattle.std.proofs.Common.{arith, ◌≡◌, ℕ, ◌+◌, ◌*◌, ◌-◌, 
 use Rattle.std.proofs.Common.{Bool, true, false, inl, inr}
 use Rattle.std.specs.Prelude.{◌==◌, if◌then◌else◌}
 use Rattle.std.proofs.lemmas.Bool.{cases_eq}
-use Rattle.fib_interned.specs.Interned.{Kept, kept_of, users_in, users_of, lowered, Takes, Gives}
+use Rattle.fib_base_interned.specs.Interned.{Kept, kept_of, users_in, users_of, lowered, Takes, Gives}
 use Rattle.fib_union.specs.Unions as edges
 use Rattle.fib_union.specs.Unions.{owner, into, left_at_once}
 use Rattle.fib_core.specs.declared.word.Word.{Word}
@@ -14,7 +14,7 @@ use Rattle.fib_pool.specs.declared.object.AdjacencyRecord.{AdjacencyRecord}
 use Rattle.fib_pool.specs.Objects.{at, count_in, count_of, with_count, IsLive}
 use Rattle.fib_pool.specs.Records.{IsAdjacency, IsKeptAs}
 use Rattle.fib_pool.proofs.Pools.{live_at}
-use Rattle.fib_board.specs.Boards.{Board, word_in, union_of, board_stored, board_scanned, board_scans, edge_of}
+use Rattle.fib_core_board.specs.Boards.{Board, word_in, union_of, board_stored, board_scanned, board_scans, edge_of}
 use Rattle.fib_plane.specs.Planes.{Plane, IsHeld, IsSwept, IsUncounted, counted_more, uncounted}
 use Rattle.fib_plane.specs.Sound.{AreRecords, IsInRange, IsPlane, record_word}
 use Rattle.fib_plane.specs.inner.Joined.{IsJoined}

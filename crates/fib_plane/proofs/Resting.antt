@@ -1,5 +1,5 @@
 -- Between calls: what is always so of a plane, at its calls.
-use Rattle.std.proofs.Common.{arith, ◌≡◌, ◌≢◌, ℕ, zero, suc, ◌+◌, ◌*◌, ◌-◌, ◌<◌, ◌≤◌, inl, inr, List, [], length, set, map, Option, Some, None, refl, sym, ◌∙◌, ap, subst, get_or-set_same, get_or-set_other, length-set}
+use Rattle.std.proofs.Common.{arith, ◌≡◌, ◌≢◌, ℕ, zero, suc, ◌+◌, ◌*◌, ◌-◌, ◌<◌, ◌≤◌, inl, inr, ⊎_elim, List, [], length, set, map, Option, Some, None, refl, sym, ◌∙◌, ap, subst, get_or-set_same, get_or-set_other, length-set}
 use Rattle.std.specs.Prelude.{IfSome, IfNone}
 use Rattle.std.proofs.lemmas.Bool.{cases_eq}
 use Rattle.std.proofs.lemmas.List.{length-map}
@@ -10,23 +10,26 @@ use Rattle.fib_pool.specs.declared.object.Object.{Object}
 use Rattle.fib_pool.specs.Objects.{at, count_in, count_of, with_count, as_new, IsTaken, IsLive, IsDying}
 use Rattle.fib_core.specs.declared.word.Word.{Word}
 use Rattle.fib_core.specs.declared.word.Word.TheVariants as words
-use Rattle.fib_board.specs.Boards.{Board, HasNoPly, edge_of, word_in, union_of, board_stored, board_begun, board_settled}
-use Rattle.fib_board.specs.May.{MayStore}
+use Rattle.fib_core_board.specs.Boards.{Board, HasNoPly, edge_of, word_in, union_of, board_stored, board_begun, board_settled}
+use Rattle.fib_core_board.specs.May.{MayStore}
 use Rattle.fib_plane.specs.Planes.{IsHeld, IsSwept, counted_more, uncounted}
-use Rattle.fib_plane.specs.Puts.{MayPut, Closes}
+use Rattle.fib_plane_view.specs.declared.put.Put.{Put}
+use Rattle.fib_plane_view.specs.declared.put.Put.TheVariants as puts
+use Rattle.fib_plane.specs.Puts.{MayPut, Closes, IsPut, IsStored}
+use Rattle.fib_plane.specs.Views.{plane_of}
 use Rattle.fib_plane.specs.Sound.{IsCounted}
 use Rattle.fib_plane.specs.inner.Joined.{IsJoined, AreDying, IsAtRest}
-use Rattle.fib_interned.specs.Interned as interned
+use Rattle.fib_base_interned.specs.Interned as interned
 use Rattle.fib_union.proofs.Stores.{some_none}
 use Rattle.fib_core.specs.Words.{IsRoomy}
 use Rattle.fib_core.specs.Union.{edge_in}
 use Rattle.fib_pool.specs.declared.object.AdjacencyRecord.{AdjacencyRecord}
 use Rattle.fib_pool.proofs.Pools.{none_some, at_in, live_at}
-use Rattle.fib_board.proofs.Serving.{edge_drop}
+use Rattle.fib_core_board.proofs.Serving.{edge_drop}
 use Rattle.fib_plane.specs.Planes.{Plane}
 use Rattle.fib_plane.specs.Sound.{AreRecords, IsPlane}
 use Rattle.fib_resolve.specs.declared.types.Tables.{Tables}
-use Rattle.fib_board.specs.Told.{IsBoard}
+use Rattle.fib_core_board.specs.Told.{IsBoard}
 use Rattle.fib_plane.proofs.Holding.{held_stays, free_plies}
 use Rattle.fib_plane.proofs.Recording.{records_swept, records_stored}
 use Rattle.fib_plane.proofs.Boarding.{word_same, dying_count, at_other, count_same, none_same}
@@ -158,12 +161,12 @@ module _ (p : Plane) (o s : ℕ) (w : Word) (small : s < 16) (inside : o < p.boa
       target = λ y e. (target y e, λ l. far (y, e, l));
       allowed = may.allowed;
     };
-    seen = may.seen far;
-    aside = λ is none. may.aside (inl is) none;
+    seen = may.seen other far;
+    aside = λ is none. may.aside other (inl is) none;
   }
 
-  pub may_drop : Closes p.board (16 * o + s) w → word_in p.board (16 * o + s) ≢ words.Drop → MayStore p.board (16 * o + s) words.Drop
-  may_drop closes filled = record {
+  pub may_drop : word_in p.board (16 * o + s) ≢ w → Closes p.board (16 * o + s) w → word_in p.board (16 * o + s) ≢ words.Drop → MayStore p.board (16 * o + s) words.Drop
+  may_drop other closes filled = record {
     place = record {
       inside = omega arith;
       other = filled;
@@ -171,7 +174,7 @@ module _ (p : Plane) (o s : ℕ) (w : Word) (small : s < 16) (inside : o < p.boa
       allowed = may.allowed;
     };
     seen = λ f. may.dropped closes (f refl);
-    aside = λ is none. may.aside (inr closes) none;
+    aside = λ is none. may.aside other (inr closes) none;
   }
 
   -- a word that may be put is one of a cell
@@ -285,3 +288,62 @@ put_word b c u xs ys o s w h small source target roomy swept held =
   where
     here : 16 * o + s < length b.union.cells
     here = (let i = live_in b u xs h o source in let l = h.long in omega arith)
+
+-- a change of a cell, and what it frees
+pub change_rest : (b c : Board) (u v : Kept) (xs ys : List (Option Object)) (rows : List (interned.Kept AdjacencyRecord)) (ds es : List ℕ) (room more : ℕ) (o s : ℕ) (w : Word) (answer : Put)
+    → IsAtRest b u xs rows ds room → s < 16 → IsLive xs o → ((y : ℕ) → edge_of w ≡ Some y → IsLive xs y) → interned.kept_of rows o ≡ None → word_in b (16 * o + s) ≢ w
+    → IsPut (plane_of b u xs []) (plane_of c v ys []) (16 * o + s) w answer
+    → IsJoined c v ys → IsAcyclic (Edge (union_of c)) → AreDying ys [] → es ≡ [] → c.objects ≤ more → IsAtRest c v ys rows es more
+change_rest b c u v xs ys rows ds es room more o s w puts.Same p small source target apart other put joined acyclic none empty roomy = absurd (other put.0)
+change_rest b c u v xs ys rows ds es room more o s w puts.Stored p small source target apart other put joined acyclic none empty roomy =
+    put_rest b c u v xs ys rows ds es room more o s w p small source target apart put.2.swept joined acyclic none empty roomy
+change_rest b c u v xs ys rows ds es room more o s w puts.Dropped p small source target apart other put joined acyclic none empty roomy = ⊎_elim
+    (λ (n : (word_in b (16 * o + s) ≡ words.Drop) × (plane_of c v ys [] ≡ plane_of b u xs [])). record {
+      joined = joined;
+      acyclic = acyclic;
+      none = none;
+      calm = empty;
+      roomy = roomy;
+      records = subst (λ (q : Plane). AreRecords q.board q.objects rows) (sym n.1) p.records;
+    })
+    (λ (n : (word_in b (16 * o + s) ≢ words.Drop) × IsStored (plane_of b u xs []) (plane_of c v ys []) (16 * o + s) words.Drop).
+    put_rest b c u v xs ys rows ds es room more o s words.Drop p small source (λ y e. absurd (some_none y (sym edge_drop ∙ e))) apart n.1.swept joined acyclic none empty roomy)
+    put.2
+
+-- what a put does says nothing of the records, which it keeps
+module _ (b c : Board) (u v : Kept) (xs ys : List (Option Object)) (rows : List (interned.Kept AdjacencyRecord)) (k : ℕ) where
+  abbrev with_rows : Plane → Plane
+  with_rows p = record { board = p.board; objects = p.objects; records = rows; spare = p.spare }
+
+  stored_rows : (w : Word) → IsStored (plane_of b u xs []) (plane_of c v ys []) k w → IsStored (plane_of b u xs rows) (plane_of c v ys rows) k w
+  stored_rows w s = record { swept = s.swept; records = refl; spare = s.spare; spared = s.spared }
+
+  pub put_rows : (w : Word) (answer : Put) → IsPut (plane_of b u xs []) (plane_of c v ys []) k w answer → IsPut (plane_of b u xs rows) (plane_of c v ys rows) k w answer
+  put_rows w puts.Same put = (put.0, ap with_rows put.1)
+  put_rows w puts.Stored put = (put.0, put.1, stored_rows w put.2)
+  put_rows w puts.Dropped put = (
+    put.0,
+    put.1,
+    ⊎_elim
+        (λ (n : (word_in b k ≡ words.Drop) × (plane_of c v ys [] ≡ plane_of b u xs [])). inl (n.0, ap with_rows n.1))
+        (λ (n : (word_in b k ≢ words.Drop) × IsStored (plane_of b u xs []) (plane_of c v ys []) k words.Drop). inr (n.0, stored_rows words.Drop n.1))
+        put.2,
+  )
+
+  pub may_rows : (w : Word) → MayPut (plane_of b u xs rows) k w → MayPut (plane_of b u xs []) k w
+  may_rows w may = record { allowed = may.allowed; roomy = may.roomy; seen = may.seen; dropped = may.dropped; aside = may.aside; serves = may.serves }
+
+-- what is told of a plane by its parts
+pub told_of : (p : Plane) (b : Board) (u : Kept) (xs : List (Option Object)) (rows : List (interned.Kept AdjacencyRecord)) (ds : List ℕ) (room : ℕ)
+    → plane_of b u xs rows ≡ p → IsAtRest b u xs rows ds room → IsBoard b → interned.AreInterned rows → IsPlane p
+told_of p b u xs rows ds room is rest told kept = subst IsPlane is (all_told b u xs rows ds room u.spare rest told kept)
+
+-- a plane keeps fewer copies than 32 bits number
+pub few_copies : (p : Plane) (b : Board) (u : Kept) (xs : List (Option Object)) (rows : List (interned.Kept AdjacencyRecord))
+    → plane_of b u xs rows ≡ p → IsJoined b u xs → length (union_of p.board).retired < 4294967296
+few_copies p b u xs rows is joined = subst (λ (q : Plane). length (union_of q.board).retired < 4294967296) is (subst (λ (v : Union). length v.retired < 4294967296) joined.same joined.short)
+
+-- where nothing is taken the plane is as it was
+pub none_taken : (p : Plane) (b : Board) (u : Kept) (xs ys : List (Option Object)) (rows : List (interned.Kept AdjacencyRecord)) (r : Option ℕ) → plane_of b u xs rows ≡ p → IfNone r (ys ≡ xs) → IfNone r (plane_of b u ys rows ≡ p)
+none_taken p b u xs ys rows None is same = ap (λ (l : List (Option Object)). plane_of b u l rows) same ∙ is
+none_taken p b u xs ys rows (Some o) is same = tt

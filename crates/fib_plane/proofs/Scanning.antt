@@ -15,16 +15,16 @@ use Rattle.std.proofs.lemmas.List.Sums.{sum_by-append, sum_by_push}
 use Rattle.fib_union.specs.Unions.{Union, owner, Edge, one, into, scanned, gone_to, Kept}
 use Rattle.fib_pool.specs.declared.object.Object.{Object}
 use Rattle.fib_pool.specs.Objects.{at, count_of, with_count, IsLive}
-use Rattle.fib_board.specs.Boards.{Board, union_of, board_scanned, board_scans}
-use Rattle.fib_board.specs.May.{Allows}
+use Rattle.fib_core_board.specs.Boards.{Board, union_of, board_scanned, board_scans}
+use Rattle.fib_core_board.specs.May.{Allows}
 use Rattle.fib_plane.specs.Planes.{with_cells}
-use Rattle.fib_plane.specs.Planes.{AreAtRest, IsUncounted, IsSwept, IsScanned, Plane}
+use Rattle.fib_plane.specs.Planes.{AreAtRest, IsUncounted, IsSwept, IsScanned, Plane, left_after}
 use Rattle.fib_plane.specs.inner.Joined.{IsJoined, IsLoose, IsDropped, AreDying}
 use Rattle.fib_union.specs.Unions.{times}
 use Rattle.fib_union.proofs.Scans.{into-scanned, acyclic-scanned}
 use Rattle.fib_core.specs.Union.{Retired as Copy, copy_of, scan_retired}
 use Rattle.fib_pool.proofs.Pools.{at_in, live_at}
-use Rattle.fib_board.proofs.Serving.{union_scanned}
+use Rattle.fib_core_board.proofs.Serving.{union_scanned}
 use Rattle.fib_plane.proofs.Boarding.{dying_count, none_same, kind_same, count_less}
 
 times-append : (o : ℕ) (xs ys : List ℕ) → times o (xs ++ ys) ≡ times o xs + times o ys
@@ -232,6 +232,7 @@ scanned_nothing p e =
       words = ws;
       each = length-replicate p.board.workers 0;
       rests = λ n lt home. ap is_even (get_or-replicate p.board.workers n 0 0 (let l : length (replicate {A = ℕ} p.board.workers 0) ≡ p.board.workers = length-replicate p.board.workers 0 in omega (arith, lt, l)));
+      copies = e ∙ sym (ap (λ (rs : List Copy). left_after 0 ws rs) e);
       mid = p.objects;
       counted = subst (λ (q : Board). IsUncounted p.board q p.objects p.objects) (sym same) (record { size = refl; counts = λ o. refl; none = λ o q. q; kinds = λ o y q. (y, q, refl) });
       swept = subst (λ (q : Board). IsSwept q p.board p.objects p.objects) (sym same) (swept_none p.board p.objects);

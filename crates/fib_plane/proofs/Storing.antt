@@ -11,7 +11,7 @@ use Rattle.fib_union.proofs.Stores.{acyclic-stored, some_none}
 use Rattle.fib_pool.specs.declared.object.Object.{Object}
 use Rattle.fib_pool.specs.Objects.{at, count_in, count_of, with_count, IsLive}
 use Rattle.fib_core.specs.declared.word.Word.{Word}
-use Rattle.fib_board.specs.Boards.{Board, edge_of, union_of, board_stored}
+use Rattle.fib_core_board.specs.Boards.{Board, edge_of, union_of, board_stored}
 use Rattle.fib_plane.specs.Planes.{IsHeld, IsSwept, uncounted, counted_more}
 use Rattle.fib_plane.specs.Puts.{Closes}
 use Rattle.fib_plane.specs.inner.Joined.{IsJoined, AreDying}
@@ -19,7 +19,7 @@ use Rattle.fib_union.specs.Unions as edges
 use Rattle.fib_core.specs.Words.{encoded}
 use Rattle.fib_core.specs.Union.{edge_in, copy_of}
 use Rattle.fib_pool.proofs.Pools.{live_at}
-use Rattle.fib_board.proofs.Serving.{edge_at_drop, union_stored}
+use Rattle.fib_core_board.proofs.Serving.{edge_at_drop, union_stored}
 use Rattle.fib_plane.proofs.Boarding.{edge_at_word, edge_same, into_stored, word_other, dying_count, at_other, count_same, none_same, count_less}
 
 unfolding_few : (u : Union) (o : ℕ) → into u o ≤ length u.edges + length u.retired

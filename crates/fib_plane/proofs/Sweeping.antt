@@ -9,8 +9,8 @@ use Rattle.fib_pool.specs.declared.object.Object.{Object}
 use Rattle.fib_pool.specs.Objects.{at, count_in, count_of, IsDying, free_in}
 use Rattle.fib_pool.proofs.Pools.{free_few}
 use Rattle.fib_core.specs.declared.word.Word.TheVariants as words
-use Rattle.fib_board.specs.Boards.{Board, word_in, union_of}
-use Rattle.fib_board.specs.May.{Allows}
+use Rattle.fib_core_board.specs.Boards.{Board, word_in, union_of}
+use Rattle.fib_core_board.specs.May.{Allows}
 use Rattle.fib_plane.specs.Planes.{with_cells}
 use Rattle.fib_plane.specs.Planes.{IsSwept}
 use Rattle.fib_plane.specs.inner.Joined.{IsJoined, AreDying}

@@ -1,7 +1,7 @@
 -- A board joined with the pool of its objects and the adjacency records: what contracts see, and what clearing does.
-use Rattle.std.specs.Prelude.{◌≡◌, ℕ, ◌+◌, ◌-◌, ◌<◌, ◌≤◌, ◌⊎◌, Bool, true, false, List, Option, Some, None, length, count_by, slice_index, slice_index_or}
-use Rattle.fib_interned.specs.Interned.{Kept}
-use Rattle.fib_union.specs.Marks.{is_even}
+use Rattle.std.specs.Prelude.{◌≡◌, ℕ, ◌+◌, ◌-◌, ◌<◌, ◌≤◌, ◌⊎◌, Bool, true, false, not, List, [], ◌∷◌, Option, Some, None, length, map, filter, count_by, slice_index, slice_index_or}
+use Rattle.fib_base_interned.specs.Interned.{Kept}
+use Rattle.fib_union.specs.Marks.{Mark, all_passed, is_even, looked}
 use Rattle.fib_union.specs.Unions.{owner, into}
 use Rattle.fib_core.specs.declared.word.Word.{Word}
 use Rattle.fib_core.specs.declared.word.Word.TheVariants as words
@@ -10,7 +10,7 @@ use Rattle.fib_core.specs.Union.{Retired, edge_in}
 use Rattle.fib_pool.specs.declared.object.Object.{Object}
 use Rattle.fib_pool.specs.declared.object.AdjacencyRecord.{AdjacencyRecord}
 use Rattle.fib_pool.specs.Objects.{at, count_of, with_count, IsLive}
-use Rattle.fib_board.specs.Boards.{Board, union_of, word_in, board_scans}
+use Rattle.fib_core_board.specs.Boards.{Board, union_of, word_in, board_scans}
 
 pub record Plane : Type 0 where
   pub board : Board
@@ -86,11 +86,28 @@ pub record IsUncounted (b c : Board) (xs ys : List (Option Object)) : Type 0 whe
 abbrev pub AreAtRest : Board → List ℕ → Type 0
 AreAtRest b words = (n : ℕ) → n < length words → slice_index_or b.out n false ≡ false → is_even (slice_index words n) ≡ true
 
+-- a copy after looks at the words of the workers from n on, and whether it stays then: some worker has not passed it
+abbrev pub looked_from : ℕ → List ℕ → List Mark → List Mark
+looked_from n [] marks = marks
+looked_from n (w ∷ ws) marks = looked_from (n + 1) ws (looked n w marks)
+
+abbrev pub looked_copy : ℕ → List ℕ → Retired → Retired
+looked_copy n ws r = record { cell = r.cell; word = r.word; marks = looked_from n ws r.marks }
+
+abbrev pub stays : ℕ → List ℕ → Retired → Bool
+stays n ws r = not (all_passed (looked_from n ws r.marks))
+
+-- the copies that stay, with their marks
+abbrev pub left_after : ℕ → List ℕ → List Retired → List Retired
+left_after n ws rs = map (looked_copy n ws) (filter (stays n ws) rs)
+
 -- the workers' pass words were looked at, the edges that left were counted no more, and what that freed was cleared and given back
 pub record IsScanned (p q : Plane) : Type 0 where
   pub words : List ℕ
   pub each : length words ≡ p.board.workers
   pub rests : AreAtRest p.board words
+  -- a copy leaves exactly where it is passed for every worker
+  pub copies : q.board.union.retired ≡ left_after 0 words p.board.union.retired
   pub mid : List (Option Object)
   pub counted : IsUncounted p.board (board_scans 0 words p.board) p.objects mid
   pub swept : IsSwept (board_scans 0 words p.board) q.board mid q.objects

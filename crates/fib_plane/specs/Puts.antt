@@ -6,10 +6,10 @@ use Rattle.fib_core.specs.declared.word.Word.{Word}
 use Rattle.fib_core.specs.declared.word.Word.TheVariants as words
 use Rattle.fib_core.specs.Words.{IsRoomy}
 use Rattle.fib_pool.specs.declared.object.Object.{Object}
-use Rattle.fib_board.specs.Boards.{Board, edge_of, union_of, word_in, board_stored}
-use Rattle.fib_board.specs.May.{Allows, IsReached, MayChange, MayEmpty, Serves}
-use Rattle.fib_joined.specs.declared.put.Put.{Put}
-use Rattle.fib_joined.specs.declared.put.Put.TheVariants as puts
+use Rattle.fib_core_board.specs.Boards.{Board, edge_of, union_of, word_in, board_stored}
+use Rattle.fib_core_board.specs.May.{Allows, IsReached, MayChange, MayEmpty, Serves}
+use Rattle.fib_plane_view.specs.declared.put.Put.{Put}
+use Rattle.fib_plane_view.specs.declared.put.Put.TheVariants as puts
 use Rattle.fib_plane.specs.Planes.{Plane, Holds, IsSwept, counted_more, uncounted}
 
 -- the edge from the cell k would close a cycle in the union of current and retired edges
@@ -50,8 +50,8 @@ Puts b k w z = ((z ≡ w) × (Closes b k w → ⊥)) ⊎ ((z ≡ words.Drop) × 
 pub record MayPut (p : Plane) (k : ℕ) (w : Word) : Type 0 where
   pub allowed : Allows p.board
   pub roomy : IsRoomy w
-  pub seen : (Closes p.board k w → ⊥) → (w ≡ words.Drop → IsReached p.board (owner k)) → MayChange p.board k w
+  pub seen : word_in p.board k ≢ w → (Closes p.board k w → ⊥) → (w ≡ words.Drop → IsReached p.board (owner k)) → MayChange p.board k w
   pub dropped : Closes p.board k w → IsReached p.board (owner k) → MayChange p.board k words.Drop
-  pub aside : (w ≡ words.Drop) ⊎ Closes p.board k w → (IsReached p.board (owner k) → ⊥) → MayEmpty p.board k
+  pub aside : word_in p.board k ≢ w → (w ≡ words.Drop) ⊎ Closes p.board k w → (IsReached p.board (owner k) → ⊥) → MayEmpty p.board k
   -- the promise of steady traffic holds after the store too, for names whose balances are held
   pub serves : (z : Word) → Puts p.board k w z → word_in p.board k ≢ z → Serves (board_stored p.board k z) (Holds p)

@@ -1,13 +1,13 @@
 -- What the calls on adjacency records do.
 use Rattle.std.specs.Prelude.{◌≡◌, ◌≢◌, ℕ, ◌+◌, ◌*◌, ◌≤◌, ◌==◌, if◌then◌else◌, List, Option, Some, None}
-use Rattle.fib_interned.specs.Interned.{Kept, kept_of, users_of, Takes, Gives}
+use Rattle.fib_base_interned.specs.Interned.{Kept, kept_of, users_of, Takes, Gives}
 use Rattle.fib_core.specs.declared.word.Word.TheVariants as words
 use Rattle.fib_core.specs.StandsFor.{mac_word}
 use Rattle.fib_pool.specs.declared.object.Kind.TheVariants as kinds
 use Rattle.fib_pool.specs.declared.object.Object.{Object}
 use Rattle.fib_pool.specs.declared.object.AdjacencyRecord.{AdjacencyRecord}
 use Rattle.fib_pool.specs.Objects.{IsTaken}
-use Rattle.fib_board.specs.Boards.{Board, board_stored}
+use Rattle.fib_core_board.specs.Boards.{Board, board_stored}
 use Rattle.fib_plane.specs.Planes.{Plane, IsSwept, released}
 
 -- the record's three words were stored into the object

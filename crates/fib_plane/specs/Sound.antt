@@ -1,6 +1,6 @@
 -- What holds of every plane between two calls.
 use Rattle.std.specs.Prelude.{◌≡◌, ◌≢◌, ℕ, zero, suc, ◌+◌, ◌*◌, ◌^◌, ◌<◌, ◌≤◌, List, Option, Some, None, IfSome, length}
-use Rattle.fib_interned.specs.Interned.{Kept, kept_of, AreInterned}
+use Rattle.fib_base_interned.specs.Interned.{Kept, kept_of, AreInterned}
 use Rattle.fib_reach.specs.Walks.{IsAcyclic}
 use Rattle.fib_union.specs.Unions.{owner, Edge, into}
 use Rattle.fib_core.specs.declared.word.Word.{Word}
@@ -10,8 +10,8 @@ use Rattle.fib_pool.specs.declared.object.Object.{Object}
 use Rattle.fib_pool.specs.declared.object.AdjacencyRecord.{AdjacencyRecord}
 use Rattle.fib_pool.specs.Objects.{at, count_of}
 use Rattle.fib_pool.specs.Records.{AreAdjacencies}
-use Rattle.fib_board.specs.Boards.{Board, union_of, word_in}
-use Rattle.fib_board.specs.Told.{IsBoard}
+use Rattle.fib_core_board.specs.Boards.{Board, union_of, word_in}
+use Rattle.fib_core_board.specs.Told.{IsBoard}
 use Rattle.fib_plane.specs.Planes.{Plane, IsHeld, Holds}
 
 -- an object's count is the number of edges of the union into it, copies counted, and one more where the control plane holds it

@@ -1,3 +1,2 @@
-pub mod Grown
+-- Relations that carry proofs and no claim: none is needed to believe a public clause.
 pub mod Joined
-pub mod Young

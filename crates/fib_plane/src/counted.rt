@@ -1,14 +1,14 @@
 // A board that counts its stores.
 ghost use Rattle.std.specs.Prelude.{IsTrue, ℕ, false, true, length, slice_index, slice_index_or, ◌%◌, ◌*◌, ◌+◌, ◌<◌, ◌^◌, ◌↔◌, ◌≡◌};
 ghost use Rattle.fib_union.specs.Marks.{is_even};
-ghost use Rattle.fib_lawful.specs.State.{left_of};
-ghost use Rattle.fib_board.specs.Boards.{board_begun, board_scanned, board_settled, board_stored, word_in};
-ghost use Rattle.fib_board.specs.Crews.{IsOut, MaySend, board_joined, board_sent, new_seat};
-ghost use Rattle.fib_board.specs.May.{MayBegin, MaySettle, MayStore};
-ghost use Rattle.fib_board.specs.Told.{IsBoard};
+ghost use Rattle.fib_core_lawful.specs.State.{left_of};
+ghost use Rattle.fib_core_board.specs.Boards.{board_begun, board_scanned, board_settled, board_stored, word_in};
+ghost use Rattle.fib_core_board.specs.Crews.{IsOut, MaySend, board_joined, board_sent, new_seat};
+ghost use Rattle.fib_core_board.specs.May.{MayBegin, MaySettle, MayStore};
+ghost use Rattle.fib_core_board.specs.Told.{IsBoard};
 
-use fib_board::{Board, Crew};
 use fib_core::{Version, Word};
+use fib_core_board::{Board, Crew};
 use fib_resolve::Tables;
 use std::marker::Model;
 
@@ -21,7 +21,7 @@ pub(crate) struct Counted<B: Board> {
 
 impl<B: Board> Model for Counted<B> {
     ghost use Rattle.std.specs.Prelude.{◌%◌, ◌^◌, ◌≡◌};
-    ghost use Rattle.fib_board.specs.Boards.{Board as Seen};
+    ghost use Rattle.fib_core_board.specs.Boards.{Board as Seen};
 
     ghost Value = { Seen };
 

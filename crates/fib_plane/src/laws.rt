@@ -2,13 +2,16 @@
 ghost use Rattle.std.specs.Prelude.{List, Option, ℕ, [], ◌*◌, ◌+◌, ◌<◌, ◌≡◌, ◌≢◌};
 ghost use Rattle.fib_union.specs.Unions.{owner};
 ghost use Rattle.fib_core.specs.declared.word.Word.TheVariants as words;
-ghost use Rattle.fib_lawful.specs.State.{first_control};
+ghost use Rattle.fib_core_lawful.specs.State.{first_control};
 ghost use Rattle.fib_pool.specs.declared.object.Object.{Object};
-ghost use Rattle.fib_board.specs.Boards.{Board, Pass, board_of, word_in};
-ghost use Rattle.fib_board.specs.May.{Allows};
+ghost use Rattle.fib_pool.specs.Objects.{IsLive};
+ghost use Rattle.fib_core_board.specs.Boards.{Board, Pass, board_of, word_in};
+ghost use Rattle.fib_core_board.specs.May.{Allows};
 ghost use Rattle.fib_plane.specs.Planes.{IsHeld, IsSwept, Plane};
 ghost use Rattle.fib_plane.specs.Puts.{MayPut};
 ghost use Rattle.fib_plane.specs.Sound.{IsPlane};
+ghost use Rattle.fib_plane.specs.Views.{view_of};
+ghost use Rattle.fib_plane_view.specs.View.{IsLive as IsUsed};
 
 /// What a put asks can be met: on a fresh board an edge from object 0 to a balance in object 1 may be put.
 pub fn the_first_put_may_be_made()
@@ -32,4 +35,9 @@ pub fn what_is_held_stays()
         → IsSwept b c xs ys → IsHeld b xs o → IsHeld c ys o }
     ensures cells { (b c : Board) (xs ys : List (Option Object)) (k : ℕ)
         → IsSwept b c xs ys → IsHeld b xs (owner k) → word_in c k ≡ word_in b k }
+{}
+
+/// An object in use is counted.
+pub fn what_is_in_use_is_counted()
+    ensures { (p : Plane) (x : ℕ) → IsPlane p → IsUsed (view_of p) x → IsLive p.objects x }
 {}

@@ -2,12 +2,14 @@
 //!
 //! `Plane` puts words into cells so that the union of current and retired edges never has a cycle, and counts the edges into each object: one
 //! that is counted no more is cleared and given back in the same call. What contracts see stands in `specs/Planes.antt`, what a put asks and
-//! does in `specs/Puts.antt`, and what holds of every plane in `specs/Sound.antt`; `specs/inner` only carries proofs.
+//! does in `specs/Puts.antt`, and what holds of every plane in `specs/Sound.antt`. The prefix table and the stack of buckets stand on a plane by
+//! what they may know of it, `fib_plane_view`'s `Objects`: `specs/Views.antt` says which view of a plane that is. `specs/inner` only carries proofs.
 #![tactic(auto)]
 
 mod counted;
 mod crew;
 pub mod laws;
+mod objects;
 mod passes;
 mod plane;
 mod records;
@@ -15,5 +17,5 @@ mod replace;
 mod scan;
 mod sweep;
 
-pub use fib_joined::Put;
+pub use fib_plane_view::Put;
 pub use plane::Plane;

@@ -6,14 +6,15 @@ ghost use Rattle.fib_core.specs.declared.word.Word.TheVariants as words;
 ghost use Rattle.fib_core.specs.StandsFor.{mac_word};
 ghost use Rattle.fib_core.specs.Words.{IsRoomy};
 ghost use Rattle.fib_pool.specs.Objects.{IsLive};
-ghost use Rattle.fib_board.specs.Boards.{board_stored, union_of, word_in};
-ghost use Rattle.fib_board.specs.May.{Allows, Serves};
+ghost use Rattle.fib_core_board.specs.Boards.{board_stored, union_of, word_in};
+ghost use Rattle.fib_core_board.specs.May.{Allows, Serves};
+ghost use Rattle.fib_core_board.specs.Told.{IsBoard};
 ghost use Rattle.fib_plane.specs.Records.{board_filled};
 ghost use Rattle.fib_plane.specs.inner.Joined.{HoldsBut, IsIdle, IsJoined};
 
 use crate::counted::{Cell, Counted};
-use fib_board::Board;
 use fib_core::Word;
+use fib_core_board::Board;
 use fib_pool::{AdjacencyRecord, Pool};
 use fib_union::Union;
 
@@ -71,6 +72,7 @@ pub(crate) fn fill<B: Board>(
     ensures words { IsRoomy (mac_word kept.now.mac) }
     ensures mac { IfSome kept.now.mac (λ m. m < 2 ^ 48) }
     ensures spare { union.old.spare ≤ union.new.spare }
+    ensures told { IsBoard board.new }
 {
     let interface = kept.interface as u64;
     store_number(board, union, pool, Cell { object, slot: 0 }, interface);
@@ -78,4 +80,5 @@ pub(crate) fn fill<B: Board>(
     store_number(board, union, pool, Cell { object, slot: 1 }, next_hop);
     let mac = mac_number(kept.mac);
     store_number(board, union, pool, Cell { object, slot: 2 }, mac);
+    board.tells();
 }

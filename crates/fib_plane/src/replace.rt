@@ -1,18 +1,22 @@
 // A store of the plane.
-ghost use Rattle.std.specs.Prelude.{false, IsTrue, None, Some, length, vec_capacity, ℕ, [], ◌*◌, ◌+◌, ◌-◌, ◌<◌, ◌^◌, ◌↔◌, ◌≡◌, ◌≤◌};
+ghost use Rattle.std.specs.Prelude.{false, IsTrue, None, Some, length, vec_capacity, ℕ, [], ◌*◌, ◌+◌, ◌-◌, ◌<◌, ◌^◌, ◌↔◌, ◌≡◌, ◌≢◌, ◌≤◌};
 ghost use Rattle.fib_reach.specs.Walks.{IsAcyclic, Leads};
 ghost use Rattle.fib_union.specs.Unions.{Edge, left_at_once, must_retire};
 ghost use Rattle.fib_core.specs.Words.{IsRoomy};
 ghost use Rattle.fib_pool.specs.Objects.{IsLive, count_of};
-ghost use Rattle.fib_board.specs.Boards.{board_stored, edge_of, union_of};
-ghost use Rattle.fib_board.specs.May.{MayStore, Serves};
+ghost use Rattle.fib_core_board.specs.Boards.{board_stored, edge_of, union_of, word_in};
+ghost use Rattle.fib_core_board.specs.May.{MayStore, Serves};
+ghost use Rattle.fib_core_board.specs.Told.{IsBoard};
 ghost use Rattle.fib_plane.specs.Planes.{IsHeld, IsSwept, counted_more, leads_from, uncounted};
+ghost use Rattle.fib_plane.specs.Puts.{IsPut, MayPut};
+ghost use Rattle.fib_plane.specs.Views.{plane_of};
 ghost use Rattle.fib_plane.specs.inner.Joined.{AreDying, IsJoined};
 
 use crate::counted::{Cell, Counted};
 use crate::sweep;
-use fib_board::Board;
 use fib_core::Word;
+use fib_core_board::Board;
+use fib_plane_view::Put;
 use fib_pool::Pool;
 use fib_union::Union;
 
@@ -56,10 +60,12 @@ pub(crate) fn replace<B: Board>(
     ensures joined { IsJoined board.new union.new pool.new }
     ensures none { AreDying pool.new [] }
     ensures empty { dying.new.items ≡ [] }
+    ensures told { IsBoard board.new }
     ensures roomy { board.new.objects ≤ vec_capacity dying.new }
     ensures acyclic { IsAcyclic (Edge (union_of board.new)) }
     ensures serves { Serves board.new (IsHeld board.new pool.new) }
-    ensures swept { IsSwept (board_stored board.old (16 * cell.object + cell.slot) word) board.new (uncounted (left_at_once (union_of board.old) (16 * cell.object + cell.slot)) (counted_more (edge_of word) pool.old)) pool.new }
+    ensures swept { IsSwept (board_stored board.old (16 * cell.object + cell.slot) word) board.new
+        (uncounted (left_at_once (union_of board.old) (16 * cell.object + cell.slot)) (counted_more (edge_of word) pool.old)) pool.new }
     ensures spare { union.old.spare ≤ union.new.spare + 1 }
     ensures spared { must_retire (union_of board.old) (16 * cell.object + cell.slot) ≡ false → union.old.spare ≤ union.new.spare }
 {
@@ -69,6 +75,47 @@ pub(crate) fn replace<B: Board>(
     let left = union.set(cell.object, cell.slot, to);
     sweep::drop_edge(pool, dying, left);
     sweep::sweep(board, union, pool, dying);
+}
+
+/// Stores a word that is not there yet, or Drop where it is an edge that would close a cycle.
+pub(crate) fn change<B: Board>(
+    board: &mut Counted<B>,
+    union: &mut Union,
+    pool: &mut Pool,
+    dying: &mut Vec<u32>,
+    cell: Cell,
+    word: Word,
+) -> Put
+    requires slot { cell.slot < 16 }
+    requires joined { IsJoined board.old union.old pool.old }
+    requires none { AreDying pool.old [] }
+    requires empty { dying.old.items ≡ [] }
+    requires roomy { board.old.objects ≤ vec_capacity dying.old }
+    requires acyclic { IsAcyclic (Edge (union_of board.old)) }
+    requires other { word_in board.old (16 * cell.object + cell.slot) ≢ word }
+    requires may { MayPut (plane_of board.old union.old pool.old []) (16 * cell.object + cell.slot) word }
+    requires source { IsLive pool.old cell.object }
+    requires target { (y : ℕ) → edge_of word ≡ Some y → IsLive pool.old y }
+    requires spare { (y : ℕ) → leads_from board.old (16 * cell.object + cell.slot) ≡ Some y → 0 < union.old.spare }
+    ensures joined { IsJoined board.new union.new pool.new }
+    ensures none { AreDying pool.new [] }
+    ensures empty { dying.new.items ≡ [] }
+    ensures told { IsBoard board.new }
+    ensures roomy { board.new.objects ≤ vec_capacity dying.new }
+    ensures acyclic { IsAcyclic (Edge (union_of board.new)) }
+    ensures put { IsPut (plane_of board.old union.old pool.old []) (plane_of board.new union.new pool.new [])
+        (16 * cell.object + cell.slot) word result }
+{
+    board.tells();
+    if closes(union, cell.object, word) {
+        if sweep::is_drop(board.load(cell)) {
+            return Put::Dropped;
+        }
+        replace(board, union, pool, dying, cell, Word::Drop);
+        return Put::Dropped;
+    }
+    replace(board, union, pool, dying, cell, word);
+    Put::Stored
 }
 
 /// An edge came: its target is counted once more.
@@ -89,8 +136,10 @@ pub(crate) fn same(one: Word, other: Word) -> bool
     one == other
 }
 
-/// Whether the word is an edge that would close a cycle.
+/// Whether the word is an edge that would close a cycle. One beside a current edge to the same object closes none: so of sixteen buckets that
+/// come to lead to one object at most the first is searched for.
 pub(crate) fn closes(union: &mut Union, object: u32, word: Word) -> bool
+    requires acyclic { IsAcyclic (Edge union.old.union) }
     requires word { IsRoomy word }
     requires source { 16 * object < length union.old.union.edges }
     requires target { (y : ℕ) → edge_of word ≡ Some y → 16 * y < length union.old.union.edges }
@@ -100,5 +149,8 @@ pub(crate) fn closes(union: &mut Union, object: u32, word: Word) -> bool
     let Some(to) = target(word) else {
         return false;
     };
+    if union.has_edge(object, to) {
+        return false;
+    }
     union.would_cycle(object, to)
 }

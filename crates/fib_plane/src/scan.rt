@@ -1,13 +1,13 @@
 // Looks at the workers' pass words.
 ghost use Rattle.std.specs.Prelude.{List, length, vec_capacity, ℕ, [], ◌+◌, ◌<◌, ◌≡◌, ◌≤◌};
 ghost use Rattle.fib_union.specs.Unions.{into, times};
-ghost use Rattle.fib_board.specs.Boards.{board_scans, union_of};
+ghost use Rattle.fib_core_board.specs.Boards.{board_scans, union_of};
 ghost use Rattle.fib_plane.specs.Planes.{AreAtRest};
 ghost use Rattle.fib_plane.specs.inner.Joined.{AreDying, IsDropped, IsLoose};
 
 use crate::counted::Counted;
 use crate::sweep;
-use fib_board::Board;
+use fib_core_board::Board;
 use fib_pool::Pool;
 use fib_union::Union;
 
@@ -15,7 +15,8 @@ use fib_union::Union;
 pub(crate) fn look_all<B: Board>(board: &mut Counted<B>, union: &mut Union, pool: &Pool)
     requires { IsLoose board.old union.old pool.now }
     ensures loose { IsLoose board.new union.new pool.now }
-    ensures scanned { (words : List ℕ) × (length words ≡ board.old.workers) × (board.new ≡ board_scans 0 words board.old) × AreAtRest board.old words }
+    ensures scanned { (words : List ℕ) × (length words ≡ board.old.workers) × (board.new ≡ board_scans 0 words board.old)
+        × AreAtRest board.old words }
     ensures counts { (o : ℕ) → into (union_of board.new) o + times o union.new.left ≡ into (union_of board.old) o + times o union.old.left }
     ensures spare { union.old.spare ≤ union.new.spare }
 {

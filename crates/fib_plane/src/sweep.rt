@@ -2,14 +2,15 @@
 ghost use Rattle.std.specs.Prelude.{IsTrue, List, Some, length, vec_capacity, ℕ, [], ◌*◌, ◌++◌, ◌+◌, ◌<◌, ◌↔◌, ◌∷◌, ◌≡◌, ◌≢◌, ◌≤◌};
 ghost use Rattle.fib_core.specs.declared.word.Word.TheVariants as words;
 ghost use Rattle.fib_pool.specs.Objects.{IsDying, IsLive, free_in};
-ghost use Rattle.fib_board.specs.Boards.{word_in};
-ghost use Rattle.fib_board.specs.May.{Allows, Serves};
+ghost use Rattle.fib_core_board.specs.Boards.{word_in};
+ghost use Rattle.fib_core_board.specs.May.{Allows, Serves};
+ghost use Rattle.fib_core_board.specs.Told.{IsBoard};
 ghost use Rattle.fib_plane.specs.Planes.{IsHeld, IsSwept, uncounted};
 ghost use Rattle.fib_plane.specs.inner.Joined.{AreDying, IsJoined};
 
 use crate::counted::{Cell, Counted};
-use fib_board::Board;
 use fib_core::Word;
+use fib_core_board::Board;
 use fib_pool::Pool;
 use fib_union::Union;
 
@@ -116,6 +117,7 @@ pub(crate) fn sweep<B: Board>(
     ensures joined { IsJoined board.new union.new pool.new }
     ensures dying { AreDying pool.new dying.new.items }
     ensures empty { dying.new.items ≡ [] }
+    ensures told { IsBoard board.new }
     ensures serves { Serves board.new (IsHeld board.new pool.new) }
     ensures swept { IsSwept board.old board.new pool.old pool.new }
     ensures spare { union.old.spare ≤ union.new.spare }
@@ -124,4 +126,5 @@ pub(crate) fn sweep<B: Board>(
     while let Some(object) = dying.pop() {
         clear(board, union, pool, dying, object);
     }
+    board.tells();
 }

@@ -4,12 +4,13 @@ use Rattle.std.proofs.lemmas.Nat.{shr-shr, shl-shr, shl_whole, mul-le, pow-add}
 use Rattle.std.proofs.Math.Nat.{mod-eq_of_lt}
 use native.Mathlib.Decide.{ℕ_discrete}
 use mathlib.Core.Logic.{dite}
-use Rattle.fib_joined.specs.Promise.{Promise}
-use Rattle.fib_joined.specs.View.{View, IsBalance}
+use Rattle.fib_plane_view.specs.Promise.{Promise}
+use Rattle.fib_plane_view.specs.View.{View, IsBalance}
 use Rattle.fib_ply.specs.Prefixes.{Look, Needs}
-use Rattle.fib_ply.specs.inner.Change.{IsMine, IsPaid, IsSpent, IsStoredFew, ahead, links, is_to_ply, end_of, IsAt, IsGrown, Grows, Agree, IsSound, added, IsPromised, IsTable}
-use Rattle.fib_ply.specs.inner.Served.{Watch, Paths}
-use Rattle.fib_steady.specs.Names.{IsBelow}
+use Rattle.fib_ply.specs.Plies.{IsMine, IsAt, IsSound, IsTable}
+use Rattle.fib_ply.specs.inner.Change.{IsPaid, IsSpent, IsStoredFew, ahead, links, is_to_ply, end_of, IsGrown, Grows, Agree, added, IsPromised}
+use Rattle.fib_ply.specs.Served.{Watch, Paths}
+use Rattle.fib_core_steady.specs.Names.{IsBelow}
 use Rattle.fib_core.specs.declared.word.Word.TheVariants.{Drop}
 use Rattle.std.specs.Prelude.{nat_lt, length}
 use Rattle.fib_ply.proofs.Counts.{cells_two}

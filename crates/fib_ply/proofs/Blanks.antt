@@ -2,11 +2,11 @@
 use Rattle.std.proofs.Common.{arith, ◌≡◌, ℕ, zero, suc, ◌+◌, ◌<◌, ◌≤◌, inl, inr, ⊎_elim, true≢false, None, refl, sym, ap, ◌∙◌, subst}
 use Rattle.fib_core.specs.declared.word.Word.{Word}
 use Rattle.fib_core.specs.declared.word.Word.TheVariants.{ToPly, ToBalance}
-use Rattle.fib_joined.specs.Frames.{Beside}
-use Rattle.fib_joined.specs.Promise.{Promise, Serves, MayPut, IsStill}
-use Rattle.fib_joined.specs.View.{View, Goes, Kinds, leads}
-use Rattle.fib_joined.proofs.Frames.{beside_put}
-use Rattle.fib_ply.specs.inner.Blank.{IsBlank}
+use Rattle.fib_plane_view.specs.Frames.{Beside}
+use Rattle.fib_plane_view.specs.Promise.{Promise, Serves, MayPut, IsStill}
+use Rattle.fib_plane_view.specs.View.{View, Goes, Kinds, leads}
+use Rattle.fib_plane_view.proofs.Frames.{beside_put}
+use Rattle.fib_ply.specs.Blank.{IsBlank}
 use Rattle.fib_ply.specs.inner.Change.{IsCalm}
 use Rattle.fib_ply.specs.inner.View.{IsSent}
 use Rattle.fib_ply.proofs.Promises.{sent}

@@ -3,8 +3,8 @@ use Rattle.std.proofs.Common.{◌≡◌, ℕ, zero, suc, ◌+◌, ◌*◌, ◌-�
 use Rattle.std.proofs.lemmas.Nat.{shr-shr}
 use Rattle.std.proofs.Math.Nat.{div-one}
 use Rattle.fib_ply.specs.Prefixes.{Look, Needs}
-use Rattle.fib_serving.specs.Matches.{or_else, best_block}
-use Rattle.fib_steady.specs.Names.{IsBelow}
+use Rattle.fib_core_promise.specs.Matches.{or_else, best_block}
+use Rattle.fib_core_steady.specs.Names.{IsBelow}
 
 none_of : (o : Option ℕ) (d : Option ℕ) → ((p : ℕ) → o ≡ Some p → ⊥) → or_else o d ≡ d
 none_of None d h = refl

@@ -5,7 +5,8 @@ use Rattle.std.specs.List.{AllByRecursion}
 use native.Mathlib.Decide.{ℕ_discrete}
 use mathlib.Core.Logic.{dite}
 use Rattle.fib_reach.specs.Walks.{AllDiffer}
-use Rattle.fib_ply.specs.inner.Change.{slots, count_cells, IsOne}
+use Rattle.fib_ply.specs.inner.Change.{slots, count_cells}
+use Rattle.fib_ply.specs.Plies.{IsOne}
 
 unit : Bool → ℕ
 unit b = cond b 1 0

@@ -1,8 +1,8 @@
 -- An edge to a ply one nibble deeper, or to a balance, closes no cycle.
 use Rattle.std.proofs.Common.{◌≡◌, ℕ, zero, suc, ◌+◌, true, false, true≢false, sym, ap, ◌∙◌, subst, arith}
 use Rattle.fib_core.specs.declared.word.Word.TheVariants.{Drop, ToPly, ToBalance, Plain, Receive, Glean, ToAdjacency}
-use Rattle.fib_joined.specs.View.{View, Goes, Edge, Kinds, leads}
-use Rattle.fib_ply.specs.inner.Served.{Paths, IsChild, IsServed}
+use Rattle.fib_plane_view.specs.View.{View, Goes, Edge, Kinds, leads}
+use Rattle.fib_ply.specs.Served.{Paths, IsChild, IsServed}
 use Rattle.fib_reach.specs.Walks.{Walk, Leads}
 use Rattle.fib_core.specs.declared.word.Word.{Word}
 

@@ -6,11 +6,12 @@ use native.Mathlib.Decide.{ℕ_discrete}
 use mathlib.Core.Logic.{dite}
 use Rattle.fib_core.specs.declared.word.Word.{Word}
 use Rattle.fib_core.specs.declared.word.Word.TheVariants.{Drop, ToPly, ToBalance, Plain, Receive, Glean, ToAdjacency}
-use Rattle.fib_joined.specs.View.{View}
-use Rattle.fib_ply.specs.inner.Served.{Paths, IsChild, IsIn, IsRight, IsServed}
-use Rattle.fib_ply.specs.inner.Trie.{IsFilled, Fits, listed}
+use Rattle.fib_plane_view.specs.View.{View}
+use Rattle.fib_ply.specs.Served.{Paths, IsChild, IsIn, IsRight, IsServed}
+use Rattle.fib_ply.specs.Fitting.{IsFilled, Fits}
+use Rattle.fib_ply.specs.inner.Trie.{listed}
 use Rattle.fib_ply.specs.inner.View.{IsSent}
-use Rattle.fib_steady.specs.Names.{IsBelow}
+use Rattle.fib_core_steady.specs.Names.{IsBelow}
 use Rattle.fib_ply.proofs.Blocks.{below_up}
 use Rattle.fib_ply.proofs.Stores.{served_put, stands_on}
 

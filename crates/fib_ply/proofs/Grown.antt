@@ -2,14 +2,16 @@
 use Rattle.std.proofs.Common.{◌≡◌, ℕ, ◌+◌, ◌*◌, ◌-◌, ◌/◌, ◌^◌, ◌<◌, ◌≤◌, inl, inr, ⊎_elim, Bool, true, sym, ap, ◌∙◌, subst, arith}
 use native.Mathlib.Decide.{ℕ_discrete}
 use mathlib.Core.Logic.{dite}
-use Rattle.fib_joined.specs.Promise.{Promise}
-use Rattle.fib_joined.specs.View.{View}
+use Rattle.fib_plane_view.specs.Promise.{Promise}
+use Rattle.fib_plane_view.specs.View.{View}
 use Rattle.fib_ply.specs.Prefixes.{Look}
-use Rattle.fib_ply.specs.inner.Change.{IsPaid, Mixed, Has, plus, IsAt, IsCellOf, IsGrown, GrowsTo, Grows, IsUnderWay, IsUnderWayAt, WereBare}
-use Rattle.fib_ply.specs.inner.Served.{Watch, Paths}
+use Rattle.fib_ply.specs.inner.Change.{IsPaid, plus, IsCellOf, IsGrown, GrowsTo, Grows, IsUnderWay, IsUnderWayAt, WereBare}
+use Rattle.fib_ply.specs.Plies.{Mixed, Has, IsAt}
+use Rattle.fib_ply.specs.Served.{Watch, Paths}
 use Rattle.fib_core.specs.declared.word.Word.{Word}
-use Rattle.fib_ply.specs.inner.Trie.{IsFilled, IsTrie}
-use Rattle.fib_steady.specs.Names.{IsBelow}
+use Rattle.fib_ply.specs.Fitting.{IsFilled}
+use Rattle.fib_ply.specs.inner.Trie.{IsTrie}
+use Rattle.fib_core_steady.specs.Names.{IsBelow}
 use Rattle.fib_ply.proofs.Fitting.{place_above}
 use Rattle.fib_ply.proofs.Paths.{fits_trie}
 use Rattle.fib_ply.proofs.Sprouts.{plus_more, plus_new, plus_only}

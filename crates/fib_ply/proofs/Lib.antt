@@ -1,8 +1,8 @@
 pub mod Blocks
-pub mod Walks
 pub mod Stores
 pub mod Cycles
 pub mod Promises
+pub mod Undropped
 pub mod Counts
 pub mod Fitting
 pub mod Paths
@@ -18,6 +18,7 @@ pub mod Longest
 pub mod Needing
 pub mod Rewatching
 pub mod Tables
+pub mod Hops
 pub mod Laws
 pub mod Quiet
 pub mod Blanks

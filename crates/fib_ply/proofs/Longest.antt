@@ -5,7 +5,7 @@ use Rattle.std.proofs.Math.Nat.{div-one}
 use native.Mathlib.Decide.{ℕ_discrete}
 use mathlib.Core.Logic.{dite}
 use Rattle.fib_ply.specs.Prefixes.{Look}
-use Rattle.fib_serving.specs.Matches.{or_else, best_block, IsLongestBlock}
+use Rattle.fib_core_promise.specs.Matches.{or_else, best_block, IsLongestBlock}
 
 whole : (b n m : ℕ) → m ≡ n → b / 2 ^ (n - m) ≡ b
 whole b n m e = let f : n - m ≡ 0 = omega arith in rw (f, div-one) refl

@@ -9,8 +9,8 @@ use Rattle.std.proofs.Math.Nat.{div-mul-le_self, div-eq_of_lt-le, div-add-mod, m
 use native.Mathlib.Decide.{ℕ_discrete}
 use mathlib.Core.Logic.{dite}
 use Rattle.fib_addr.specs.Prefixes.{Prefix, IsPrefix}
-use Rattle.fib_ordered.specs.Sets.{IsAscending, found, from, first_of}
-use Rattle.fib_serving.specs.Matches.{look_of, best_block, or_else}
+use Rattle.fib_base_ordered.specs.Sets.{IsAscending, found, from, first_of}
+use Rattle.fib_core_promise.specs.Matches.{look_of, best_block, or_else}
 use Rattle.fib_ply.specs.Prefixes.{Needs}
 use Rattle.fib_ply.specs.Rows.{held, ArePrefixes, rank}
 use Rattle.fib_ply.specs.declared.rows.Row.{Row}

@@ -4,11 +4,12 @@ use Rattle.std.proofs.lemmas.Nat.{mod_below}
 use Rattle.std.proofs.Math.Nat.{div-eq_of_lt}
 use Rattle.fib_core.specs.declared.word.Word.{Word}
 use Rattle.fib_core.specs.declared.word.Word.TheVariants.{Drop, ToPly, ToBalance, Plain, Receive, Glean, ToAdjacency}
-use Rattle.fib_joined.specs.View.{View, IsLive}
+use Rattle.fib_plane_view.specs.View.{View, IsLive}
 use Rattle.fib_ply.specs.inner.Change.{IsOnPath, IsCellOf, IsLed}
-use Rattle.fib_ply.specs.inner.Served.{Paths}
-use Rattle.fib_ply.specs.inner.Trie.{IsFilled, IsLinked, Fits, IsTrie}
-use Rattle.fib_steady.specs.Names.{IsBelow}
+use Rattle.fib_ply.specs.Served.{Paths}
+use Rattle.fib_ply.specs.Fitting.{IsFilled, Fits}
+use Rattle.fib_ply.specs.inner.Trie.{IsLinked, IsTrie}
+use Rattle.fib_core_steady.specs.Names.{IsBelow}
 use Rattle.fib_ply.proofs.Blocks.{below_next}
 
 filled_linked : (K N : ℕ → ℕ → Type 0) (n : Paths) (x s : ℕ) (w : Word) → IsFilled K N n x s w → IsLinked n x s w

@@ -7,22 +7,23 @@ use Rattle.fib_resolve.specs.declared.types.Tables.{Tables}
 use Rattle.fib_core.specs.declared.word.Word.{Word}
 use Rattle.fib_core.specs.declared.word.Word.TheVariants.{Drop, ToPly, ToBalance, Plain, Receive, Glean, ToAdjacency}
 use Rattle.fib_pool.specs.declared.object.Kind.TheVariants as kinds
-use Rattle.fib_steady.specs.Aims.{BestAlike}
-use Rattle.fib_steady.specs.Promise as steady
-use Rattle.fib_serving.specs.Matches.{promised_by}
-use Rattle.fib_serving.proofs.Matches.{best_lasts}
-use Rattle.fib_serving.proofs.Answers.{promised_to}
-use Rattle.fib_joined.specs.declared.put.Put.{Put}
-use Rattle.fib_joined.specs.declared.put.Put.TheVariants as puts
-use Rattle.fib_joined.specs.Frames.{Beside}
-use Rattle.fib_joined.specs.Promise.{IsBegun, IsStill, Serves, MayPut, MayLetGo, KeepsRooted, EndsIn}
-use Rattle.fib_joined.specs.View.{View, Retired, Goes, Edge, Kinds, IsPut, IsTaken, IsLetGo, Closes, Answered, leads}
-use Rattle.fib_joined.proofs.Frames.{beside_put, buckets_beside}
+use Rattle.fib_core_steady.specs.Aims.{BestAlike}
+use Rattle.fib_core_steady.specs.Promise as steady
+use Rattle.fib_core_promise.specs.Matches.{promised_by}
+use Rattle.fib_core_promise.proofs.Matches.{best_lasts}
+use Rattle.fib_core_promise.proofs.Answers.{promised_to}
+use Rattle.fib_plane_view.specs.declared.put.Put.{Put}
+use Rattle.fib_plane_view.specs.declared.put.Put.TheVariants as puts
+use Rattle.fib_plane_view.specs.Frames.{Beside}
+use Rattle.fib_plane_view.specs.Promise.{IsBegun, IsStill, Serves, MayPut, MayLetGo, KeepsRooted, EndsIn}
+use Rattle.fib_plane_view.specs.View.{View, Retired, Goes, Edge, Kinds, IsPut, IsTaken, IsLetGo, Closes, Answered, leads}
+use Rattle.fib_plane_view.proofs.Frames.{beside_put, buckets_beside}
 use Rattle.fib_reach.specs.Walks.{Leads}
 use Rattle.fib_ply.specs.Prefixes.{Look}
-use Rattle.fib_ply.specs.inner.Served.{Paths, IsRight, IsServed, Watch, Wanted, IsKept, names_of}
+use Rattle.fib_ply.specs.Served.{Paths, IsRight, IsServed, Watch, Wanted, IsKept, names_of}
 use Rattle.fib_ply.specs.inner.View.{IsSent}
-use Rattle.fib_ply.specs.inner.Change.{IsCalm, IsSound}
+use Rattle.fib_ply.specs.inner.Change.{IsCalm}
+use Rattle.fib_ply.specs.Plies.{IsSound}
 
 pub calm_none : (u : View) (x : ℕ) (w : Word) → IsCalm u x w → Closes u x w → ⊥
 calm_none u x (ToPly c) calm q = calm (subst (λ (i : ℕ). Leads (Edge u) i x) (sym q.1) q.2)

@@ -1,14 +1,16 @@
 -- A ply that no prefix needs is unlinked and let go.
-use Rattle.fib_joined.specs.Frames.{Beside}
-use Rattle.fib_joined.specs.Promise.{MayLetGo, MayPut, Promise}
-use Rattle.fib_joined.specs.View.{View, IsLive, IsStanding, Kinds, IsLetGo, HasKind}
+use Rattle.fib_plane_view.specs.Frames.{Beside}
+use Rattle.fib_plane_view.specs.Promise.{MayLetGo, MayPut, Promise}
+use Rattle.fib_plane_view.specs.View.{View, IsLive, IsStanding, Kinds, IsLetGo, HasKind}
 use Rattle.fib_ply.specs.Prefixes.{Look, IsAnswer, Needs}
-use Rattle.fib_ply.specs.inner.Change.{IsOne, IsListed, IsFreed, Prunes, PrunesTo, UnlinksTo, count_cells, is_to_ply, links, Mixed, Has, minus, IsCalm, IsAt, IsOnPath, IsCellOf, IsPruned, IsLastOf, IsEnd, CanPrune, CanPruneAt, IsTable}
-use Rattle.fib_ply.specs.inner.Served.{Watch, Paths, IsChild, IsIn, IsRight, IsWalked, IsServed, Wanted}
-use Rattle.fib_ply.specs.inner.Trie.{IsFilled, listed, IsTrie}
+use Rattle.fib_ply.specs.Plies.{IsOne, IsListed, Mixed, Has, IsAt, IsTable}
+use Rattle.fib_ply.specs.inner.Change.{IsFreed, Prunes, PrunesTo, UnlinksTo, count_cells, is_to_ply, links, minus, IsCalm, IsOnPath, IsCellOf, IsPruned, IsLastOf, IsEnd, CanPrune, CanPruneAt}
+use Rattle.fib_ply.specs.Served.{Watch, Paths, IsChild, IsIn, IsRight, IsWalked, IsServed, Wanted}
+use Rattle.fib_ply.specs.Fitting.{IsFilled}
+use Rattle.fib_ply.specs.inner.Trie.{listed, IsTrie}
 use Rattle.fib_ply.specs.inner.View.{IsSent}
-use Rattle.fib_serving.specs.Matches.{best_block}
-use Rattle.fib_steady.specs.Names.{IsBelow}
+use Rattle.fib_core_promise.specs.Matches.{best_block}
+use Rattle.fib_core_steady.specs.Names.{IsBelow}
 use Rattle.fib_ply.proofs.Counts.{cells_le, cells_lt, cells_filter, one_filter, filter_one, apart_filter, one_less}
 use Rattle.fib_ply.proofs.Promises.{may_let_go, IsNew, sound_beside, kept_sent, kept_let_go, may_put}
 use Rattle.std.proofs.Common.{ap₂, ◌≡◌, ℕ, suc, ◌+◌, ◌*◌, ◌-◌, ◌/◌, ◌%◌, ◌^◌, ◌<◌, ◌≤◌, ◌⊎◌, inl, inr, ⊎_elim, Bool, true, false, true≢false, not, eqb, eq-eqb, ne_eqb, ◌&&◌, Option, Some, refl, sym, ap, ◌∙◌, subst, arith}

@@ -3,17 +3,19 @@ use Rattle.std.specs.Prelude.{nat_lt}
 use Rattle.std.proofs.lemmas.Bool.Decides.{nat_tests}
 use native.Mathlib.Decide.{ℕ_discrete}
 use mathlib.Core.Logic.{dite}
-use Rattle.fib_list.proofs.Booleans.{and_both}
-use Rattle.fib_joined.specs.Frames.{Beside}
-use Rattle.fib_joined.specs.Promise.{MayPut}
-use Rattle.fib_joined.specs.View.{View, Kinds, HasKind}
+use Rattle.fib_base_list.proofs.Booleans.{and_both}
+use Rattle.fib_plane_view.specs.Frames.{Beside}
+use Rattle.fib_plane_view.specs.Promise.{MayPut}
+use Rattle.fib_plane_view.specs.View.{View, Kinds, HasKind}
 use Rattle.fib_ply.specs.Prefixes.{Look, IsAnswer, Needs}
-use Rattle.fib_ply.specs.inner.Change.{IsOne, is_to_ply, end_of, ahead, IsSpent, Mixed, Has, IsCalm, IsAt, IsCellOf}
-use Rattle.fib_ply.specs.inner.Served.{Watch, Paths, IsIn, IsServed, Wanted}
-use Rattle.fib_ply.specs.inner.Trie.{IsFilled, IsTrie}
+use Rattle.fib_ply.specs.Plies.{IsOne, Mixed, Has, IsAt}
+use Rattle.fib_ply.specs.inner.Change.{is_to_ply, end_of, ahead, IsSpent, IsCalm, IsCellOf}
+use Rattle.fib_ply.specs.Served.{Watch, Paths, IsIn, IsServed, Wanted}
+use Rattle.fib_ply.specs.Fitting.{IsFilled}
+use Rattle.fib_ply.specs.inner.Trie.{IsTrie}
 use Rattle.fib_ply.specs.inner.View.{IsSent}
-use Rattle.fib_serving.specs.Matches.{best_block, or_else}
-use Rattle.fib_steady.specs.Names.{IsBelow}
+use Rattle.fib_core_promise.specs.Matches.{best_block, or_else}
+use Rattle.fib_core_steady.specs.Names.{IsBelow}
 use Rattle.fib_ply.proofs.Counts.{cells_le, cells_lt}
 use Rattle.fib_ply.proofs.Promises.{IsNew, sound_beside, kept_sent, may_put}
 use Rattle.fib_ply.proofs.Stores.{stands_on}

@@ -2,14 +2,14 @@
 use Rattle.std.proofs.Common.{◌≡◌, ℕ, ◌-◌, ◌*◌, ◌<◌, ◌^◌, ◌⊎◌, inl, inr, ⊎_elim, Bool, true, Option, Some, sym, ◌∙◌, subst}
 use Rattle.fib_addr.specs.Prefixes.{Prefix}
 use Rattle.fib_core.specs.declared.word.Word.TheVariants.{Drop}
-use Rattle.fib_serving.specs.Matches.{look_of}
-use Rattle.fib_joined.specs.Frames.{IsQuiet}
-use Rattle.fib_joined.specs.Promise.{Promise}
-use Rattle.fib_joined.specs.View.{View, IsLive, Kinds}
+use Rattle.fib_core_promise.specs.Matches.{look_of}
+use Rattle.fib_plane_view.specs.Frames.{IsQuiet}
+use Rattle.fib_plane_view.specs.Promise.{Promise}
+use Rattle.fib_plane_view.specs.View.{View, IsLive, Kinds}
 use Rattle.fib_ply.specs.Rows.{held}
 use Rattle.fib_ply.specs.Tables.{Table, Stands, watch_of}
-use Rattle.fib_ply.specs.inner.Change.{IsMine, IsSound, IsTable}
-use Rattle.fib_ply.specs.inner.Served.{Paths, Watch, IsKept, IsWalked, Wanted}
+use Rattle.fib_ply.specs.Plies.{IsMine, IsSound, IsTable}
+use Rattle.fib_ply.specs.Served.{Paths, Watch, IsKept, IsWalked, Wanted}
 use Rattle.fib_ply.proofs.Rewatching.{right_fewer}
 use Rattle.fib_ply.proofs.Stores.{walked_live}
 

@@ -9,19 +9,19 @@ use Rattle.fib_addr.specs.Prefixes.{Prefix, same_prefix}
 use Rattle.fib_addr.specs.Longest.{everything}
 use Rattle.fib_addr.proofs.PrefixLaws.{same_prefix-Decides}
 use Rattle.fib_core.specs.declared.word.Word.{Word}
-use Rattle.fib_ordered.specs.Sets.{Order}
-use Rattle.fib_serving.specs.Matches.{look_of, added, promised_by}
-use Rattle.fib_serving.proofs.Answers.{match_answers}
-use Rattle.fib_joined.specs.Promise.{Promise}
-use Rattle.fib_joined.specs.View.{View, Kinds}
+use Rattle.fib_base_ordered.specs.Sets.{Order}
+use Rattle.fib_core_promise.specs.Matches.{look_of, added, promised_by}
+use Rattle.fib_core_promise.proofs.Answers.{match_answers}
+use Rattle.fib_plane_view.specs.Promise.{Promise}
+use Rattle.fib_plane_view.specs.View.{View, Kinds}
 use Rattle.fib_ply.specs.Prefixes.{IsAnswer, Needs}
 use Rattle.fib_ply.specs.Rows.{held}
 use Rattle.fib_ply.specs.Tables.{Stands}
 use Rattle.fib_ply.specs.declared.rows.Row.{Row}
-use Rattle.fib_ply.specs.inner.Blank.{IsBlank}
-use Rattle.fib_ply.specs.inner.Change.{Mixed, Has, IsListed, IsSound, IsTable}
-use Rattle.fib_ply.specs.inner.Served.{Paths, IsRight, IsServed, IsWalked, IsKept, Watch, Wanted}
-use Rattle.fib_ply.specs.inner.Trie.{Fits, IsFilled}
+use Rattle.fib_ply.specs.Blank.{IsBlank}
+use Rattle.fib_ply.specs.Plies.{Mixed, Has, IsListed, IsSound, IsTable}
+use Rattle.fib_ply.specs.Served.{Paths, IsRight, IsServed, IsWalked, IsKept, Watch, Wanted}
+use Rattle.fib_ply.specs.Fitting.{Fits, IsFilled}
 use Rattle.fib_ply.proofs.Blanks.{no_ply, blank_still}
 
 abbrev pub root_alone : Paths

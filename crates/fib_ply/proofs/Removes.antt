@@ -2,12 +2,13 @@
 use Rattle.std.proofs.Common.{◌≡◌, ℕ, ◌+◌, ◌*◌, ◌-◌, ◌/◌, ◌%◌, ◌^◌, ◌<◌, ◌≤◌, ◌⊎◌, inl, inr, ⊎_elim, Bool, eq-eqb, ne_eqb, Some, None, refl, sym, ap, ◌∙◌, subst, arith}
 use native.Mathlib.Decide.{ℕ_discrete}
 use mathlib.Core.Logic.{dite}
-use Rattle.fib_joined.specs.Promise.{Promise}
-use Rattle.fib_joined.specs.View.{View}
+use Rattle.fib_plane_view.specs.Promise.{Promise}
+use Rattle.fib_plane_view.specs.View.{View}
 use Rattle.fib_ply.specs.Prefixes.{Look, Needs}
-use Rattle.fib_ply.specs.inner.Change.{IsMine, IsSpent, IsStoredFew, ahead, Prunes, IsAt, Agree, removed, IsPromised, IsTable, IsPruned, CanPrune}
-use Rattle.fib_ply.specs.inner.Served.{Watch, Paths}
-use Rattle.fib_steady.specs.Names.{IsBelow}
+use Rattle.fib_ply.specs.Plies.{IsMine, IsAt, IsTable}
+use Rattle.fib_ply.specs.inner.Change.{IsSpent, IsStoredFew, ahead, Prunes, Agree, removed, IsPromised, IsPruned, CanPrune}
+use Rattle.fib_ply.specs.Served.{Watch, Paths}
+use Rattle.fib_core_steady.specs.Names.{IsBelow}
 use Rattle.std.specs.Prelude.{length}
 use Rattle.fib_ply.proofs.Sets.{begins, ends}
 use Rattle.fib_ply.proofs.Adds.{block_of, at_same, first_fits, ahead_few}

@@ -10,17 +10,18 @@ use Rattle.fib_core.specs.declared.word.Word.TheVariants.{Drop, ToPly, ToBalance
 use Rattle.fib_resolve.specs.declared.aims.Aim.{Aim}
 use Rattle.fib_resolve.specs.declared.aims.Aim.TheVariants as aims
 use Rattle.fib_resolve.specs.declared.types.Tables.{Tables}
-use Rattle.fib_steady.specs.Aims.{IsLasting, WantsAlike}
-use Rattle.fib_serving.specs.Matches.{IsSometime}
-use Rattle.fib_serving.specs.Matches.{FitsVersions, look_of, promised_by}
-use Rattle.fib_serving.specs.Matches as tables
-use Rattle.fib_serving.proofs.Answers.{promised_from, promised_same, promised_answer, promised_answer_added, promised_answer_removed}
-use Rattle.fib_serving.proofs.Turns.{bucket_on}
-use Rattle.fib_joined.specs.Promise.{Promise, IsBegun, KeepsBuckets, IsAimed}
-use Rattle.fib_joined.specs.View.{View}
+use Rattle.fib_core_steady.specs.Aims.{IsLasting, WantsAlike}
+use Rattle.fib_core_promise.specs.Matches.{IsSometime}
+use Rattle.fib_core_promise.specs.Matches.{FitsVersions, look_of, promised_by}
+use Rattle.fib_core_promise.specs.Matches as tables
+use Rattle.fib_core_promise.proofs.Answers.{promised_from, promised_same, promised_answer, promised_answer_added, promised_answer_removed}
+use Rattle.fib_core_promise.proofs.Turns.{bucket_on}
+use Rattle.fib_plane_view.specs.Promise.{Promise, IsBegun, KeepsBuckets, IsAimed}
+use Rattle.fib_plane_view.specs.View.{View}
 use Rattle.fib_ply.specs.Prefixes.{Look}
-use Rattle.fib_ply.specs.inner.Change.{IsSound, IsTable, IsPromised}
-use Rattle.fib_ply.specs.inner.Served.{Paths, IsRight, IsServed, IsKept, Watch, Wanted}
+use Rattle.fib_ply.specs.Plies.{IsSound, IsTable}
+use Rattle.fib_ply.specs.inner.Change.{IsPromised}
+use Rattle.fib_ply.specs.Served.{Paths, IsRight, IsServed, IsKept, Watch, Wanted}
 use Rattle.fib_ply.proofs.Rowing.{not_true}
 
 -- less is promised

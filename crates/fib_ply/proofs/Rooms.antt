@@ -1,9 +1,12 @@
--- Room for edges changes nothing for the table.
-use Rattle.std.proofs.Common.{ℕ, refl, sym, subst}
-use Rattle.fib_joined.proofs.Frames.{buckets_beside}
-use Rattle.fib_joined.specs.Frames.{Beside, IsQuiet}
-use Rattle.fib_joined.specs.Promise.{Promise}
-use Rattle.fib_joined.specs.View.{View, HasRoom, Kinds}
+-- Room for edges changes nothing for the table, and a plane has few plies.
+use Rattle.std.proofs.Common.{◌≡◌, ◌<◌, ◌≤◌, ℕ, List, [], ◌∷◌, ⊎_elim, inl, inr, true, refl, sym, subst, arith}
+use Rattle.std.specs.List.{AllByRecursion}
+use Rattle.fib_core.proofs.Endings.{at_most}
+use Rattle.fib_plane_view.proofs.Frames.{buckets_beside}
+use Rattle.fib_plane_view.specs.Frames.{Beside, IsQuiet}
+use Rattle.fib_plane_view.specs.Promise.{Promise}
+use Rattle.fib_plane_view.specs.View.{View, HasRoom, IsPlane, Kinds}
+use Rattle.fib_ply.specs.Plies.{IsOne}
 use Rattle.fib_ply.specs.Rows.{held}
 use Rattle.fib_ply.specs.Tables.{Table, Stands}
 use Rattle.fib_ply.proofs.Quiet.{quiet_stands}
@@ -22,3 +25,14 @@ module _ (p : Promise) (t : Table) (u : View) (k : ℕ) (kinds : Kinds (record u
 
 pub room_stands : (p : Promise) (t : Table) (u v : View) → HasRoom u v → Kinds v → Stands p t u → Stands p t v
 room_stands p t u v room kinds s = subst (Stands p t) (sym room.same) (room_table p t u v.spare (subst Kinds room.same kinds) s)
+
+all_of : (P : ℕ → Type 0) (xs : List ℕ) → ((x : ℕ) → IsOne xs x → P x) → AllByRecursion P xs
+all_of P [] h = tt
+all_of P (y ∷ ys) h = (h y (inl refl), all_of P ys (λ x one. h x (inr one)))
+
+-- the plies are different objects
+pub few_plies : (p : Promise) (t : Table) (u : View) → IsPlane u → Stands p t u → t.plies ≤ 131072
+few_plies p t u plane s = subst (λ (k : ℕ). k ≤ 131072) s.3 (at_most 131072 s.1.all s.2.at.list.apart (all_of (λ x. x < 131072) s.1.all below))
+  where
+    below : (x : ℕ) → IsOne s.1.all x → x < 131072
+    below x one = ⊎_elim (λ (z : x ≡ 0). omega (arith, z)) (λ (k : u.is_held x ≡ true). plane.numbers x k) (s.2.at.fits.held x (s.2.at.list.only x one)).1

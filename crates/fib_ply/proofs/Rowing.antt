@@ -8,9 +8,9 @@ use mathlib.Core.Logic.{dite}
 use mathlib.Core.Path.{fun_ext}
 use Rattle.fib_addr.specs.Prefixes.{Prefix, same_prefix}
 use Rattle.fib_addr.proofs.PrefixLaws.{same_prefix-Decides}
-use Rattle.fib_ordered.specs.Sets.{found}
-use Rattle.fib_serving.specs.Matches.{look_of}
-use Rattle.fib_serving.specs.Matches as tables
+use Rattle.fib_base_ordered.specs.Sets.{found}
+use Rattle.fib_core_promise.specs.Matches.{look_of}
+use Rattle.fib_core_promise.specs.Matches as tables
 use Rattle.fib_ply.specs.Rows.{held, ArePrefixes, rank}
 use Rattle.fib_ply.specs.declared.rows.Row.{Row}
 use Rattle.fib_ply.specs.inner.Change as blocks

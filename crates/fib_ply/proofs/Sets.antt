@@ -6,12 +6,13 @@ use Rattle.std.proofs.Math.Nat.{div-one, div-mul-le_self}
 use Rattle.fib_ply.proofs.Pushes.{block_end}
 use Rattle.fib_core.specs.declared.word.Word.{Word}
 use Rattle.fib_core.specs.declared.word.Word.TheVariants.{Drop, ToPly, ToBalance, Plain, Receive, Glean, ToAdjacency}
-use Rattle.fib_joined.specs.View.{View}
+use Rattle.fib_plane_view.specs.View.{View}
 use Rattle.fib_ply.specs.Prefixes.{Look, IsAnswer, Needs}
-use Rattle.fib_ply.specs.inner.Change.{Mixed, Has, IsAt, Agree, IsSound}
-use Rattle.fib_ply.specs.inner.Served.{Watch, Wanted, Paths}
-use Rattle.fib_ply.specs.inner.Trie.{IsFilled, Fits}
-use Rattle.fib_serving.specs.Matches.{best_block, or_else}
+use Rattle.fib_ply.specs.Plies.{Mixed, Has, IsAt, IsSound}
+use Rattle.fib_ply.specs.inner.Change.{Agree}
+use Rattle.fib_ply.specs.Served.{Watch, Wanted, Paths}
+use Rattle.fib_ply.specs.Fitting.{IsFilled, Fits}
+use Rattle.fib_core_promise.specs.Matches.{best_block, or_else}
 
 -- what holds of answers may be weakened
 module _ (K L N : ℕ → ℕ → Type 0) (weaker : (a p : ℕ) → a < 2 ^ 32 → K a p → L a p) (n : Paths) where

@@ -2,15 +2,17 @@ use Rattle.fib_pool.specs.declared.object.Kind.TheVariants as kinds
 -- A new ply: taken, filled beside the table, and linked.
 use Rattle.std.proofs.lemmas.Bool.{cases_lt}
 use Rattle.fib_core.specs.Union.{IsPlyWord}
-use Rattle.fib_joined.specs.Frames.{Beside}
-use Rattle.fib_joined.specs.Promise.{MayPut, Promise}
-use Rattle.fib_joined.specs.View.{View, IsBalance, Stores, leads, Retired, Goes, IsStanding, Kinds, IsTaken, HasKind}
+use Rattle.fib_plane_view.specs.Frames.{Beside}
+use Rattle.fib_plane_view.specs.Promise.{MayPut, Promise}
+use Rattle.fib_plane_view.specs.View.{View, IsBalance, Stores, leads, Retired, Goes, IsStanding, Kinds, IsTaken, HasKind}
 use Rattle.fib_ply.specs.Prefixes.{Look}
-use Rattle.fib_ply.specs.inner.Change.{IsOne, IsListed, IsPaid, count_cells, is_to_ply, Mixed, Has, plus, IsCalm, IsAt, IsFresh, SameIn, CanFill, Aside, IsCellOf}
-use Rattle.fib_ply.specs.inner.Served.{Watch, Paths, IsChild, IsIn, IsRight, IsWalked, IsServed, Wanted}
-use Rattle.fib_ply.specs.inner.Trie.{IsFilled, placed, listed}
+use Rattle.fib_ply.specs.Plies.{IsOne, IsListed, Mixed, Has, IsAt}
+use Rattle.fib_ply.specs.inner.Change.{IsPaid, count_cells, is_to_ply, plus, IsCalm, IsFresh, SameIn, CanFill, Aside, IsCellOf}
+use Rattle.fib_ply.specs.Served.{Watch, Paths, IsChild, IsIn, IsRight, IsWalked, IsServed, Wanted}
+use Rattle.fib_ply.specs.Fitting.{IsFilled}
+use Rattle.fib_ply.specs.inner.Trie.{placed, listed}
 use Rattle.fib_ply.specs.inner.View.{IsSent, Frame, HoldsNoMore}
-use Rattle.fib_steady.specs.Names.{IsBelow}
+use Rattle.fib_core_steady.specs.Names.{IsBelow}
 use Rattle.fib_ply.proofs.Counts.{cells_lt, apart_cons}
 use Rattle.fib_ply.proofs.Promises.{IsNew, sound_beside, kept_sent, kept_taken, may_put}
 use Rattle.std.proofs.Common.{ap₂, ◌≡◌, ℕ, suc, ◌+◌, ◌*◌, ◌-◌, ◌/◌, ◌%◌, ◌^◌, ◌<◌, ◌≤◌, ◌⊎◌, inl, inr, ⊎_elim, Bool, true, false, true≢false, eqb, eq-eqb, ne_eqb, ◌||◌, ◌&&◌, List, Contains, refl, sym, ap, ◌∙◌, subst, arith}

@@ -4,8 +4,8 @@ use native.Mathlib.Decide.{ℕ_discrete}
 use mathlib.Core.Logic.{dite}
 use Rattle.fib_core.specs.declared.word.Word.{Word}
 use Rattle.fib_core.specs.declared.word.Word.TheVariants.{ToPly}
-use Rattle.fib_joined.specs.View.{View, Goes, IsLive}
-use Rattle.fib_ply.specs.inner.Served.{Paths, IsChild, IsRight, IsWalked, IsServed}
+use Rattle.fib_plane_view.specs.View.{View, Goes, IsLive}
+use Rattle.fib_ply.specs.Served.{Paths, IsChild, IsRight, IsWalked, IsServed}
 use Rattle.fib_ply.specs.inner.View.{IsSent}
 
 -- a ply on which a worker may stand is live

@@ -9,19 +9,20 @@ use mathlib.Core.Logic.{dite}
 use mathlib.Core.Path.{fun_ext}
 use Rattle.fib_addr.specs.Prefixes.{Prefix, IsPrefix, same_prefix, size_of}
 use Rattle.fib_addr.proofs.PrefixLaws.{same_prefix-Decides}
-use Rattle.fib_steady.specs.Aims.{IsLasting}
-use Rattle.fib_serving.specs.Matches.{FitsVersions, IsSometime, look_of}
-use Rattle.fib_serving.specs.Matches as tables
-use Rattle.fib_serving.proofs.Matches.{fits_added, fits_removed}
-use Rattle.fib_ordered.specs.Sets.{Order}
-use Rattle.fib_joined.specs.Promise.{Promise, IsBegun}
-use Rattle.fib_joined.specs.View.{View}
+use Rattle.fib_core_steady.specs.Aims.{IsLasting}
+use Rattle.fib_core_promise.specs.Matches.{FitsVersions, IsSometime, look_of}
+use Rattle.fib_core_promise.specs.Matches as tables
+use Rattle.fib_core_promise.proofs.Matches.{fits_added, fits_removed}
+use Rattle.fib_base_ordered.specs.Sets.{Order}
+use Rattle.fib_plane_view.specs.Promise.{Promise, IsBegun}
+use Rattle.fib_plane_view.specs.View.{View}
 use Rattle.fib_ply.specs.Prefixes.{Look, Needs}
 use Rattle.fib_ply.specs.Rows.{held, ArePrefixes}
 use Rattle.fib_ply.specs.Tables.{Came, Stands}
 use Rattle.fib_ply.specs.declared.rows.Row.{Row}
-use Rattle.fib_ply.specs.inner.Served.{Paths}
-use Rattle.fib_ply.specs.inner.Change.{IsMine, IsTable, IsPromised, CanAdd, CanRemove, IsAdded, IsRemoved, IsStoredFew}
+use Rattle.fib_ply.specs.Served.{Paths}
+use Rattle.fib_ply.specs.Plies.{IsMine, IsTable}
+use Rattle.fib_ply.specs.inner.Change.{IsPromised, CanAdd, CanRemove, IsAdded, IsRemoved, IsStoredFew}
 use Rattle.fib_ply.specs.inner.Change as blocks
 use Rattle.fib_ply.proofs.Needing.{whole_is}
 use Rattle.fib_ply.proofs.Rewatching.{renamed, promised_added, promised_removed}

@@ -1,6 +1,6 @@
 -- Sets of prefixes as a look-up by length and first bits, and which plies a set needs.
 use Rattle.std.specs.Prelude.{◌≡◌, ℕ, ◌+◌, ◌*◌, ◌/◌, ◌^◌, ◌≤◌, Option, Some}
-use Rattle.fib_serving.specs.Matches.{best_block}
+use Rattle.fib_core_promise.specs.Matches.{best_block}
 
 -- the object of the prefix of this length with these first bits
 abbrev pub Look : Type 0

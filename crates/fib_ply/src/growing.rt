@@ -1,17 +1,19 @@
 // New plies.
 ghost use Rattle.std.specs.Prelude.{◌≡◌, ℕ, Bool, ◌+◌, ◌-◌, ◌*◌, ◌/◌, ◌^◌, ◌<◌, ◌≤◌};
 ghost use Rattle.fib_core.specs.declared.word.Word.TheVariants.{Drop, ToBalance};
-ghost use Rattle.fib_joined.specs.Frames.{Beside};
-ghost use Rattle.fib_joined.specs.View.{IsBalance, Stores};
+ghost use Rattle.fib_plane_view.specs.Frames.{Beside};
+ghost use Rattle.fib_ply.specs.Calls.{DropsNone};
+ghost use Rattle.fib_plane_view.specs.View.{IsBalance, Stores};
 ghost use Rattle.fib_ply.specs.Prefixes.{Look};
 ghost use Rattle.fib_ply.specs.inner.View.{Frame, HoldsNoMore};
-ghost use Rattle.fib_ply.specs.inner.Served.{Paths, Watch};
-ghost use Rattle.fib_ply.specs.inner.Change.{Aside, CanFill, Grows, IsAt, IsCellOf, IsPaid, IsUnderWay, IsUnderWayAt, WereBare, plus};
+ghost use Rattle.fib_ply.specs.Served.{Paths, Watch};
+ghost use Rattle.fib_ply.specs.inner.Change.{Aside, CanFill, Grows, IsCellOf, IsPaid, IsUnderWay, IsUnderWayAt, WereBare, plus};
+ghost use Rattle.fib_ply.specs.Plies.{IsAt};
 
 use crate::calls::{put, take};
 use crate::places::{Place, find};
 use fib_core::Word;
-use fib_joined::Objects;
+use fib_plane_view::Objects;
 
 /// Points every cell of a new ply at one balance.
 pub fn fill<P: Objects>(on: &mut P, ply: u32, object: u32)
@@ -27,6 +29,7 @@ pub fn fill<P: Objects>(on: &mut P, ply: u32, object: u32)
     ensures plies { HoldsNoMore (P.view on.old) (P.view on.new) }
     ensures promise { P.promise on.new ≡ P.promise on.old }
     ensures beside { Beside (P.view on.old) (P.view on.new) }
+    ensures none_dropped { DropsNone (P.view on.old) (P.view on.new) }
 {
     for slot in 0..16 {
         put(on, ply, slot, Word::ToBalance(object));
@@ -37,7 +40,8 @@ pub fn fill<P: Objects>(on: &mut P, ply: u32, object: u32)
 pub fn sprout<P: Objects>(on: &mut P, at: Place, addr: u32) -> Place
     requires ready { IsUnderWayAt (P.promise on.old) (P.view on.old) addr at.ply at.depth at.slot }
     requires room { (at.depth < 7) × (0 < (P.view on.old).free) × (0 < (P.view on.old).spare) }
-    ensures sprouted { (wants : Watch) (there : ℕ → ℕ → Bool) (old new : Look) (pos : ℕ) (n : Paths) → IsAt wants there old new pos n (P.view on.old)
+    ensures sprouted { (wants : Watch) (there : ℕ → ℕ → Bool) (old new : Look) (pos : ℕ) (n : Paths)
+        → IsAt wants there old new pos n (P.view on.old)
         → IsCellOf n (P.view on.old) addr at.ply at.depth at.slot
         → (m : Paths) × IsAt wants (plus there (at.depth + 1) (addr / 2 ^ (28 - 4 * at.depth))) old new pos m (P.view on.new)
         × IsCellOf m (P.view on.new) addr result.ply result.depth result.slot × IsPaid n m (P.view on.old) (P.view on.new) 1 }
@@ -47,6 +51,7 @@ pub fn sprout<P: Objects>(on: &mut P, at: Place, addr: u32) -> Place
     ensures frame { Frame (P.view on.old) (P.view on.new) }
     ensures promise { P.promise on.new ≡ P.promise on.old }
     ensures beside { Beside (P.view on.old) (P.view on.new) }
+    ensures none_dropped { DropsNone (P.view on.old) (P.view on.new) }
 {
     let Word::ToBalance(object) = on.word(at.ply, at.slot) else {
         unreachable!()
@@ -69,6 +74,7 @@ pub fn grow<P: Objects>(on: &mut P, addr: u32, depth: u32) -> u32
     ensures frame { Frame (P.view on.old) (P.view on.new) }
     ensures promise { P.promise on.new ≡ P.promise on.old }
     ensures beside { Beside (P.view on.old) (P.view on.new) }
+    ensures none_dropped { DropsNone (P.view on.old) (P.view on.new) }
     ensures grows { Grows (P.view on.old) (P.view on.new) addr depth result }
 {
     let mut at = find(on, addr);

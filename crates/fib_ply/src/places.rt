@@ -1,11 +1,11 @@
 //! The cell of an address.
 ghost use Rattle.std.specs.Prelude.{◌≡◌, ℕ, ◌+◌, ◌*◌, ◌/◌, ◌^◌, ◌<◌, ◌≤◌};
-ghost use Rattle.fib_ply.specs.inner.Served.{Paths};
+ghost use Rattle.fib_ply.specs.Served.{Paths};
 ghost use Rattle.fib_ply.specs.inner.Trie.{IsTrie};
 ghost use Rattle.fib_ply.specs.inner.Change.{IsCellOf, IsEnd};
 
 use fib_core::Word;
-use fib_joined::Objects;
+use fib_plane_view::Objects;
 
 /// A cell of a ply, and how deep the ply is.
 #[derive(Clone, Copy)]

@@ -1,21 +1,26 @@
 // A prefix table with its own set of prefixes.
 ghost use Rattle.std.specs.Prelude.{◌≡◌, ℕ, ◌+◌, ◌-◌, ◌*◌, ◌^◌, ◌%◌, ◌<◌, ◌≤◌, None, [], OnOk};
+ghost use Rattle.fib_core.specs.Walk.{balance, root};
 ghost use Rattle.fib_core.specs.declared.word.Word.TheVariants.{Drop};
-ghost use Rattle.fib_joined.specs.Frames.{Beside};
-ghost use Rattle.fib_joined.specs.Promise.{IsBegun};
-ghost use Rattle.fib_joined.specs.View.{HasRoom, IsBalance};
-ghost use Rattle.fib_serving.specs.Matches.{FitsVersions, IsSometime, added, removed};
-ghost use Rattle.fib_steady.specs.Aims.{IsLasting};
+ghost use Rattle.fib_plane_view.specs.Frames.{Beside};
+ghost use Rattle.fib_plane_view.specs.Promise.{IsBegun, Promise};
+ghost use Rattle.fib_plane_view.specs.View.{HasRoom, IsBalance};
+ghost use Rattle.fib_core_promise.specs.Matches.{FitsVersions, IsLongestBlock, IsSometime, added, look_of, removed};
+ghost use Rattle.fib_core_steady.specs.Aims.{IsLasting};
 ghost use Rattle.fib_addr.specs.Longest.{everything};
-ghost use Rattle.fib_ply.specs.inner.Blank.{IsBlank};
+ghost use Rattle.fib_ply.specs.Blank.{IsBlank};
 ghost use Rattle.fib_ply.specs.Rows.{ArePrefixes};
-ghost use Rattle.fib_ply.specs.Tables.{Came, LeadsAll, Stands, object_in};
+ghost use Rattle.fib_ply.specs.Tables.{Came, HasItsPlies, LeadsAll, Stands, object_in};
+ghost use Rattle.fib_ply.specs.Calls.{DropsNone};
+ghost use Rattle.fib_ply.specs.Hops.{hops};
 
 use crate::beginning::begin;
+use crate::places::find;
 use crate::rows::Rows;
 use crate::table::{add, remove};
 use fib_addr::{Addr, Prefix};
-use fib_joined::Objects;
+use fib_core::Word;
+use fib_plane_view::Objects;
 use std::alloc::{AllocError, Global};
 use std::marker::Model;
 
@@ -28,13 +33,18 @@ pub struct PrefixTable {
 
 impl Model for PrefixTable {
     ghost use Rattle.fib_addr.specs.Longest.{everything};
-    ghost use Rattle.fib_ply.specs.inner.Blank.{IsBlank};
+    ghost use Rattle.fib_ply.specs.Blank.{IsBlank};
     ghost use Rattle.fib_ply.specs.Tables.{Table};
 
     ghost Value = { Table };
 
     ghost view = { λ s. record { rows = s.rows; plies = s.plies } };
 }
+
+/// A number has 32 bits. Does nothing.
+fn has_bits(number: u32)
+    ensures { number < 2 ^ 32 }
+{}
 
 impl PrefixTable {
     /// No prefix yet, and the root alone.
@@ -65,16 +75,15 @@ impl PrefixTable {
         self.rows.reserve(alloc, more)
     }
 
-    /// Room in the plane for the edges that one more call replaces.
+    /// Room in the plane for the edges that one more call replaces, and for those of a balance's buckets.
     pub fn room<P: Objects>(&self, on: &mut P) -> Result<(), AllocError>
-        requires stands { Stands (P.promise on.old) self.now (P.view on.old) }
-        requires few { self.now.plies ≤ 131072 }
-        ensures stands { Stands (P.promise on.new) self.now (P.view on.new) }
-        ensures room { OnOk result (16 * (self.now.plies + 7) ≤ (P.view on.new).spare) }
+        requires stands { (p : Promise) × Stands p self.now (P.view on.old) }
+        ensures stands { (p : Promise) → Stands p self.now (P.view on.old) → Stands p self.now (P.view on.new) }
+        ensures room { OnOk result (16 * (self.now.plies + 7) + 16 ≤ (P.view on.new).spare) }
         ensures same { HasRoom (P.view on.old) (P.view on.new) }
         ensures promise { P.promise on.new ≡ P.promise on.old }
     {
-        on.room(16 * (self.plies + 7))
+        on.room(16 * (self.plies + 8))
     }
 
     /// Begins with 0.0.0.0/0, which leads to that balance, before the first change. Every bucket of the balance drops.
@@ -88,11 +97,14 @@ impl PrefixTable {
         ensures room { self.old.rows.spare ≤ self.new.rows.spare + 1 }
         ensures stands { Stands (P.promise on.new) self.new (P.view on.new) }
         ensures leads { LeadsAll self.new (P.view on.new) }
+        ensures exact { HasItsPlies self.new (P.view on.new) }
         ensures promise { P.promise on.new ≡ P.promise on.old }
         ensures beside { Beside (P.view on.old) (P.view on.new) }
+        ensures none_dropped { DropsNone (P.view on.old) (P.view on.new) }
     {
         begin(on, object);
         self.rows.take_in(Prefix::masked(Addr(0), 0), object);
+        self.rows.are_prefixes();
         self.plies = 1;
     }
 
@@ -110,14 +122,31 @@ impl PrefixTable {
         self.rows.find(prefix)
     }
 
-    /// Puts a prefix into the table, which leads to that balance. Answers how many stores there were. No object is taken but for plies that come.
+    /// The balance to which the plies lead the address: that of the longest of the prefixes that contain it.
+    pub fn answer<P: Objects>(&self, on: &P, addr: Addr) -> u32
+        requires stands { (p : Promise) × Stands p self.now (P.view on.now) }
+        ensures walked { (h : ℕ) → (n : ℕ) × (n ≤ 8) × (hops (P.view on.now).cell addr h n root ≡ balance result 0) }
+        ensures longest { IsLongestBlock (look_of (object_in self.now)) 32 addr result }
+    {
+        self.rows.are_prefixes();
+        has_bits(addr.0);
+        let at = find(on, addr.0);
+        let Word::ToBalance(object) = on.word(at.ply, at.slot) else {
+            unreachable!()
+        };
+        object
+    }
+
+    /// Puts a prefix into the table, which leads to that balance. Answers how many stores there were. No store is dropped, and no object is taken
+    /// but for plies that come.
     pub fn add<P: Objects>(&mut self, on: &mut P, prefix: Prefix, object: u32) -> u64
         requires stands { Stands (P.promise on.old) self.old (P.view on.old) }
         requires fits { IsBegun (P.promise on.old) → FitsVersions (P.promise on.old).versions (object_in self.old) }
         requires prefix { 1 ≤ prefix.len }
         requires absent { object_in self.old prefix ≡ None }
         requires sometime { IsBegun (P.promise on.old) → IsSometime (P.promise on.old).versions prefix }
-        requires balance { IsBalance (P.view on.old) object × ((P.promise on.old).applied ≡ 0 → (t : ℕ) → t < 16 → (P.view on.old).cell object t ≡ Drop) }
+        requires balance { IsBalance (P.view on.old) object
+            × ((P.promise on.old).applied ≡ 0 → (t : ℕ) → t < 16 → (P.view on.old).cell object t ≡ Drop) }
         requires free { 7 ≤ (P.view on.old).free }
         requires spare { 16 * (self.old.plies + 7) ≤ (P.view on.old).spare }
         requires room { 0 < self.old.rows.spare }
@@ -128,13 +157,17 @@ impl PrefixTable {
         ensures room { self.old.rows.spare ≤ self.new.rows.spare + 1 }
         ensures stands { Stands (P.promise on.new) self.new (P.view on.new) }
         ensures leads { LeadsAll self.new (P.view on.new) }
+        ensures exact { HasItsPlies self.new (P.view on.new) }
         ensures fits { IsBegun (P.promise on.new) → FitsVersions (P.promise on.new).versions (object_in self.new) }
-        ensures stores { ((P.view on.old).stored ≤ (P.view on.new).stored) × (result ≡ ((P.view on.new).stored - (P.view on.old).stored) % 2 ^ 64) }
+        ensures stores { ((P.view on.old).stored ≤ (P.view on.new).stored)
+            × (result ≡ ((P.view on.new).stored - (P.view on.old).stored) % 2 ^ 64) }
         ensures promise { P.promise on.new ≡ P.promise on.old }
         ensures beside { Beside (P.view on.old) (P.view on.new) }
+        ensures none_dropped { DropsNone (P.view on.old) (P.view on.new) }
     {
         self.rows.are_prefixes();
         let before = on.stored();
+        // The spare is a u32, so 16 times the plies is one.
         let _spare = on.spare();
         let len = u32::from(prefix.len());
         let top = prefix.bits().0 >> (32 - len);
@@ -144,7 +177,7 @@ impl PrefixTable {
         on.stored().wrapping_sub(before)
     }
 
-    /// Takes a prefix out of the table. Answers how many stores there were.
+    /// Takes a prefix out of the table. Answers how many stores there were, of which none is dropped.
     pub fn remove<P: Objects>(&mut self, on: &mut P, prefix: Prefix) -> u64
         requires stands { Stands (P.promise on.old) self.old (P.view on.old) }
         requires fits { IsBegun (P.promise on.old) → FitsVersions (P.promise on.old).versions (object_in self.old) }
@@ -157,10 +190,13 @@ impl PrefixTable {
         ensures room { self.old.rows.spare ≤ self.new.rows.spare }
         ensures stands { Stands (P.promise on.new) self.new (P.view on.new) }
         ensures leads { LeadsAll self.new (P.view on.new) }
+        ensures exact { HasItsPlies self.new (P.view on.new) }
         ensures fits { IsBegun (P.promise on.new) → FitsVersions (P.promise on.new).versions (object_in self.new) }
-        ensures stores { ((P.view on.old).stored ≤ (P.view on.new).stored) × (result ≡ ((P.view on.new).stored - (P.view on.old).stored) % 2 ^ 64) }
+        ensures stores { ((P.view on.old).stored ≤ (P.view on.new).stored)
+            × (result ≡ ((P.view on.new).stored - (P.view on.old).stored) % 2 ^ 64) }
         ensures promise { P.promise on.new ≡ P.promise on.old }
         ensures beside { Beside (P.view on.old) (P.view on.new) }
+        ensures none_dropped { DropsNone (P.view on.old) (P.view on.new) }
     {
         self.rows.are_prefixes();
         let before = on.stored();

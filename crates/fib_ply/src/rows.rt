@@ -1,12 +1,12 @@
 // The prefixes of a table with their objects.
 ghost use Rattle.std.specs.Prelude.{◌≡◌, ◌≢◌, ◌<◌, ◌-◌, ◌^◌, ◌≤◌, ◌+◌, ◌*◌, ℕ, None, Some, [], IfSome, OnOk};
 ghost use Rattle.fib_addr.specs.Prefixes.{Prefix as PrefixValue, IsPrefix};
-ghost use Rattle.fib_serving.specs.Matches.{added, look_of, removed};
+ghost use Rattle.fib_core_promise.specs.Matches.{added, look_of, removed};
 ghost use Rattle.fib_ply.specs.Rows.{ArePrefixes, held};
 
 use crate::set::Prefixes;
 use fib_addr::{Addr, Prefix};
-use fib_ordered::{Keyed, Ordered};
+use fib_base_ordered::{Keyed, Ordered};
 use std::alloc::{AllocError, Global};
 use std::marker::Model;
 
@@ -42,7 +42,7 @@ pub struct Rows {
 }
 
 impl Model for Rows {
-    ghost use Rattle.fib_ordered.specs.Sets.{Order};
+    ghost use Rattle.fib_base_ordered.specs.Sets.{Order};
     ghost use Rattle.fib_ply.specs.Rows.{ArePrefixes};
     ghost use Rattle.fib_ply.specs.declared.rows.Row.{Row as RowValue};
 
@@ -86,6 +86,7 @@ impl Rows {
     pub fn are_prefixes(&self)
         ensures { ArePrefixes self.now.members }
     {
+        // Reading the rows tells what holds of each.
         let _ = &self.rows;
     }
 
@@ -96,6 +97,7 @@ impl Rows {
         ensures held { held self.new.members ≡ added (held self.old.members) prefix object }
         ensures spare { self.old.spare ≤ self.new.spare + 1 }
     {
+        // A length tells that it is a prefix: the bits past it are cleared.
         let _length = prefix.len();
         self.rows.insert(Row { prefix, object });
     }
@@ -120,7 +122,7 @@ fn prefix_of(len: u32, top: u32) -> Prefix
 }
 
 impl Prefixes for Rows {
-    ghost use Rattle.fib_serving.specs.Matches.{look_of};
+    ghost use Rattle.fib_core_promise.specs.Matches.{look_of};
     ghost use Rattle.fib_ply.specs.Rows.{held};
 
     ghost look = { λ s. look_of (held s.members) };

@@ -1,6 +1,6 @@
 // What the prefix table asks of its set of prefixes.
 ghost use Rattle.std.specs.Prelude.{◌≡◌, ℕ, ◌+◌, ◌*◌, ◌^◌, ◌<◌, ◌≤◌, ◌↔◌, None, IsTrue};
-ghost use Rattle.fib_serving.specs.Matches.{best_block};
+ghost use Rattle.fib_core_promise.specs.Matches.{best_block};
 ghost use Rattle.fib_ply.specs.inner.Change.{added, removed};
 ghost use Rattle.fib_ply.specs.Prefixes.{Look, Needs};
 

@@ -3,9 +3,9 @@ use Rattle.std.proofs.Common.{rules, ◌≡◌, ℕ, zero, suc, ◌<◌, true, L
 use Rattle.std.specs.Prelude.{Contains, Result, Ok, Err, IfOk, IfNone, OnErr, is_err}
 use Rattle.std.specs.declared.alloc.AllocError.{AllocError}
 use Rattle.std.proofs.lemmas.Bool.{cases_eq, false≢true}
-use Rattle.fib_list.proofs.Lists.{either}
-use Rattle.fib_interned.specs.Interned.{Kept, kept_of, users_in, users_of, IsFound, IsAbsent, Gives, lowered}
-use Rattle.fib_interned.proofs.Finding.{find_place, contains_at, none_some}
+use Rattle.fib_base_list.proofs.Lists.{either}
+use Rattle.fib_base_interned.specs.Interned.{Kept, kept_of, users_in, users_of, IsFound, IsAbsent, Gives, lowered}
+use Rattle.fib_base_interned.proofs.Finding.{find_place, contains_at, none_some}
 use Rattle.fib_pool.specs.declared.object.Kind.TheVariants as kinds
 use Rattle.fib_pool.specs.declared.object.Object.{Object}
 use Rattle.fib_pool.specs.declared.object.AdjacencyRecord.{AdjacencyRecord}

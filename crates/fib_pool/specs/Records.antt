@@ -1,6 +1,6 @@
 -- Interned adjacency records: each record that is kept has an object of its own, whose number is the record's.
 use Rattle.std.specs.Prelude.{◌≡◌, ◌<◌, ℕ, Bool, true, false, List, Option, Some, Contains}
-use Rattle.fib_interned.specs.Interned.{Kept, kept_of, Takes}
+use Rattle.fib_base_interned.specs.Interned.{Kept, kept_of, Takes}
 use Rattle.fib_pool.specs.declared.object.Kind.TheVariants as kinds
 use Rattle.fib_pool.specs.declared.object.Object.{Object}
 use Rattle.fib_pool.specs.declared.object.AdjacencyRecord.{AdjacencyRecord}

@@ -1,7 +1,7 @@
 // Interned adjacency records.
 ghost use Rattle.std.specs.Prelude.{◌≡◌, ◌<◌, ◌-◌, ◌^◌, ◌↔◌, ℕ, [], length, Some, None, IsSome, IsTrue, IfOk, IfSome, IfNone, OnErr, option_map};
 ghost use Rattle.std.specs.Option.{OnSome};
-ghost use Rattle.fib_interned.specs.Interned.{Kept, kept_of, users_of, AreInterned, Gives};
+ghost use Rattle.fib_base_interned.specs.Interned.{Kept, kept_of, users_of, AreInterned, Gives};
 ghost use Rattle.fib_pool.specs.Objects.{free_in};
 ghost use Rattle.fib_pool.specs.declared.object.AdjacencyRecord.{AdjacencyRecord as TheRecord};
 ghost use Rattle.fib_pool.specs.Records.{adjacency, AreAdjacencies, IsNew, IsUsedLess, TakesRecord};
@@ -9,7 +9,7 @@ ghost use Rattle.fib_pool.specs.Records.{adjacency, AreAdjacencies, IsNew, IsUse
 use crate::object::{AdjacencyRecord, Kind, Taken};
 use crate::pool::Pool;
 use fib_addr::{Addr, Mac};
-use fib_interned::Interned;
+use fib_base_interned::Interned;
 use std::alloc::{AllocError, Global};
 use std::marker::Model;
 
@@ -22,7 +22,7 @@ pub struct AdjTable {
 
 impl Model for AdjTable {
     ghost use Rattle.std.specs.Prelude.{List};
-    ghost use Rattle.fib_interned.specs.Interned.{Kept};
+    ghost use Rattle.fib_base_interned.specs.Interned.{Kept};
     ghost use Rattle.fib_pool.specs.declared.object.AdjacencyRecord.{AdjacencyRecord as TheRecord};
 
     ghost Value = { List (Kept TheRecord) };
@@ -92,7 +92,8 @@ impl AdjTable {
     ) -> Result<Option<Taken>, AllocError>
         requires few { IsUsedLess self.old (adjacency interface next_hop mac) (2 ^ 32 - 1) }
         requires live { AreAdjacencies self.old pool.old }
-        ensures taken { IfOk result (λ o. IfSome o (λ t. TakesRecord self.old self.new pool.old pool.new (adjacency interface next_hop mac) t)) }
+        ensures taken { IfOk result (λ o. IfSome o
+            (λ t. TakesRecord self.old self.new pool.old pool.new (adjacency interface next_hop mac) t)) }
         ensures interned { IfOk result (λ o. OnSome o (AreInterned self.new)) }
         ensures none { IfOk result (λ o. IfNone o (IsNew self.old (adjacency interface next_hop mac) × (free_in pool.old ≡ 0))) }
         ensures same { IfOk result (λ o. IfNone o ((self.new ≡ self.old) × (pool.new ≡ pool.old))) }
@@ -124,7 +125,8 @@ impl AdjTable {
         requires kept { IsSome (kept_of self.old object) }
         requires few { users_of self.old object < 2 ^ 32 - 1 }
         requires live { AreAdjacencies self.old pool.now }
-        ensures taken { (k : Kept TheRecord) → kept_of self.old object ≡ Some k → TakesRecord self.old self.new pool.now pool.now k.content result }
+        ensures taken { (k : Kept TheRecord) → kept_of self.old object ≡ Some k
+            → TakesRecord self.old self.new pool.now pool.now k.content result }
         ensures interned { AreInterned self.new }
         ensures live { AreAdjacencies self.new pool.now }
     {

@@ -2,8 +2,8 @@
 use Rattle.std.specs.Prelude.{ℕ, ◌++◌, List, codes, decimal}
 use Rattle.fib_addr.specs.Texts.{address_text}
 use Rattle.fib_resolve.specs.declared.types.Tables.{Tables}
-use Rattle.fib_results.specs.declared.record.Record.{Record}
-use Rattle.fib_results.specs.declared.record.Version.{Version}
+use Rattle.fib_core_results.specs.declared.record.Record.{Record}
+use Rattle.fib_core_results.specs.declared.record.Version.{Version}
 use Rattle.fib_print.specs.Ends.{end_text}
 
 -- settled and applied

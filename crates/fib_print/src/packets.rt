@@ -5,8 +5,8 @@ ghost use Rattle.fib_print.specs.inner.Growing.{HasKept};
 
 use crate::ends::put_end;
 use crate::text::{or_undone, put_number, put_text, write_addr};
+use fib_core_results::{Record, Version};
 use fib_resolve::Tables;
-use fib_results::{Record, Version};
 use std::alloc::{AllocError, Global};
 
 #[tactic(auto, unfolding(crate::specs::Packets::version_text), using(crate::proofs::Growing::kept_on, crate::proofs::Growing::kept_one, crate::proofs::Growing::kept_all))]

@@ -3,7 +3,7 @@ use Rattle.std.proofs.Common.{◌≡◌, ℕ, zero, suc, ◌<◌, ◌≤◌, Boo
 use Rattle.std.specs.List.{AllByRecursion, count_by}
 use Rattle.std.proofs.lemmas.Bool.{false≢true}
 use Rattle.std.proofs.lemmas.List.Sums.{sum_by-cons, count_by-le-length}
-use Rattle.fib_list.proofs.Booleans.{unit_of}
+use Rattle.fib_base_list.proofs.Booleans.{unit_of}
 
 -- tests p and q agree at each element
 abbrev pub Agree : {A : Type 0} → (A → Bool) → (A → Bool) → List A → Type 0

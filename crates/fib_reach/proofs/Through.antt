@@ -8,7 +8,7 @@ use Rattle.std.proofs.lemmas.Map.Views.{list_any-from_Contains, Contains-from_an
 use Rattle.fib_reach.specs.Walks.{Walk, Reaches, Leads, Next}
 use Rattle.fib_reach.specs.Search.{leads, leads_through}
 use Rattle.fib_reach.proofs.Walking.{reaches_then, reaches_leads}
-use Rattle.fib_list.proofs.Booleans.{or_cases, and_both, or_left, or_right}
+use Rattle.fib_base_list.proofs.Booleans.{or_cases, and_both, or_left, or_right}
 
 and_true : (x y : Bool) → x ≡ true → y ≡ true → (x && y) ≡ true
 and_true true y h k = k

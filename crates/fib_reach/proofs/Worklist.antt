@@ -8,8 +8,8 @@ use Rattle.fib_reach.specs.Walks.{Walk, Reaches, Next}
 use Rattle.fib_reach.specs.Search.{added, add_one}
 use Rattle.fib_reach.proofs.Places.{any_default}
 use Rattle.fib_reach.proofs.Through.{decides_equiv}
-use Rattle.fib_list.proofs.Lists.{either}
-use Rattle.fib_list.proofs.Booleans.{or_cases, or_left, or_right, unit_of, count_by-cons}
+use Rattle.fib_base_list.proofs.Lists.{either}
+use Rattle.fib_base_list.proofs.Booleans.{or_cases, or_left, or_right, unit_of, count_by-cons}
 use Rattle.fib_reach.proofs.Walking.{then_edge}
 
 -- how many nodes are not seen

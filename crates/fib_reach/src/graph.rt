@@ -6,7 +6,7 @@ ghost use Rattle.fib_reach.specs.inner.Visits.{IsGraph};
 
 use crate::reach;
 use crate::visit::Search;
-use fib_list::List;
+use fib_base_list::List;
 use std::alloc::{AllocError, Global};
 use std::marker::Model;
 

@@ -61,22 +61,29 @@ pub fn walk_visits_once<N: Linked>()
 
 /// In an acyclic graph a walk has fewer edges than there are nodes.
 pub fn walk_is_short<N: Linked>()
-    ensures { (nodes : List N) (n : ℕ) (x y : N) → ((a b : N) → N.edge a b → Contains nodes b) → Contains nodes x → IsAcyclic N.edge → Walk N.edge n x y → n < length nodes }
+    ensures { (nodes : List N) (n : ℕ) (x y : N) → ((a b : N) → N.edge a b → Contains nodes b) → Contains nodes x → IsAcyclic N.edge
+        → Walk N.edge n x y → n < length nodes }
 {}
 
 /// In an acyclic graph a walk has no more edges than there are nodes that edges leave.
 pub fn walk_is_no_longer<N: Linked>()
-    ensures { (sources : List N) (n : ℕ) (x y : N) → ((a b : N) → N.edge a b → Contains sources a) → IsAcyclic N.edge → Walk N.edge n x y → n ≤ length sources }
+    ensures { (sources : List N) (n : ℕ) (x y : N) → ((a b : N) → N.edge a b → Contains sources a) → IsAcyclic N.edge
+        → Walk N.edge n x y → n ≤ length sources }
 {}
 
 /// The test by middle nodes tells whether a walk of one or more edges leads there, where each node with an edge is a middle node.
 pub fn test_finds_walks<N: Listed>()
-    ensures { (mids : List N) → ((x y : N) → Decides (N.same x y) (x ≡ y)) → ((x y : N) → Contains (N.next x) y → is_member N.same mids x ≡ true) → (a b : N) → IsTrue (leads_through N.same N.next mids a b) ↔ Reaches (Next N.next) a b }
+    ensures { (mids : List N) → ((x y : N) → Decides (N.same x y) (x ≡ y))
+        → ((x y : N) → Contains (N.next x) y → is_member N.same mids x ≡ true) → (a b : N)
+        → IsTrue (leads_through N.same N.next mids a b) ↔ Reaches (Next N.next) a b }
 {}
 
 /// Rounds that only add, each made from the one before, change nothing after as many rounds as there are nodes.
 pub fn rounds_come_to_rest<N>()
-    ensures { (passes : ℕ → N → Bool) (nodes : List N) → ((k : ℕ) (x : N) → passes k x ≡ true → passes (suc k) x ≡ true) → ((k : ℕ) → AllByRecursion (λ x. passes k x ≡ passes (suc k) x) nodes → AllByRecursion (λ x. passes (suc k) x ≡ passes (suc (suc k)) x) nodes) → (n : ℕ) → length nodes ≤ n → AllByRecursion (λ x. passes n x ≡ passes (suc n) x) nodes }
+    ensures { (passes : ℕ → N → Bool) (nodes : List N) → ((k : ℕ) (x : N) → passes k x ≡ true → passes (suc k) x ≡ true)
+        → ((k : ℕ) → AllByRecursion (λ x. passes k x ≡ passes (suc k) x) nodes
+        → AllByRecursion (λ x. passes (suc k) x ≡ passes (suc (suc k)) x) nodes) → (n : ℕ) → length nodes ≤ n
+        → AllByRecursion (λ x. passes n x ≡ passes (suc n) x) nodes }
 {}
 
 /// A graph with one edge more has the edges of before and that one.

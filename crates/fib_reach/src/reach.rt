@@ -6,7 +6,7 @@ ghost use Rattle.fib_reach.specs.Graphs.{Edge, IsClosed};
 ghost use Rattle.fib_reach.specs.inner.Visits.{GrowsFrom};
 
 use crate::visit::Search;
-use fib_list::List;
+use fib_base_list::List;
 
 /// Notes each of the targets, up to the one that is looked for. Tells whether that is among them.
 fn note_all(targets: &[u32], search: &mut Search, to: u32) -> bool

@@ -6,8 +6,8 @@ use Rattle.std.specs.Set.{is_member}
 use Rattle.std.proofs.lemmas.Bool.{false≢true}
 use Rattle.std.proofs.lemmas.List.Elements.{All-contains, All-from_recursion}
 use Rattle.std.proofs.lemmas.Map.Views.{Contains-from_any}
-use Rattle.fib_list.proofs.Lists.{either, each-at, Contains-flat_map, Contains-nil}
-use Rattle.fib_list.proofs.Booleans.{and_both}
+use Rattle.fib_base_list.proofs.Lists.{either, each-at, Contains-flat_map, Contains-nil}
+use Rattle.fib_base_list.proofs.Booleans.{and_both}
 use Rattle.fib_addr.specs.Prefixes.{Prefix, host, same_prefix}
 use Rattle.fib_addr.proofs.PrefixLaws.{same_prefix-Decides}
 use Rattle.fib_buckets.specs.Shares.{buckets}

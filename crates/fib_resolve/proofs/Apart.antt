@@ -4,7 +4,7 @@ use Rattle.std.specs.Prelude.{filter, position, is_none, length, ◌≤◌}
 use Rattle.std.specs.List.{AllByRecursion, IsDistinct, list_any, position_or_len}
 use Rattle.std.specs.Cmp.{IsEquivalence}
 use Rattle.std.proofs.lemmas.Bool.{false≢true, ltb-false}
-use Rattle.fib_list.proofs.Lists.{either, each-weaker, each-filter, each-append}
+use Rattle.fib_base_list.proofs.Lists.{either, each-weaker, each-filter, each-append}
 
 -- no element passes
 pub each-fails : {X : Type 0} (test : X → Bool) (xs : List X) → list_any test xs ≡ false → AllByRecursion (λ x. test x ≡ false) xs

@@ -7,7 +7,7 @@ use Rattle.std.specs.Cmp.{IsEquivalence}
 use Rattle.std.proofs.lemmas.Bool.{ltb-true}
 use Rattle.std.proofs.lemmas.List.Elements.{All-contains, All-from_recursion, Contains-append_cases, Contains-append_left}
 use Rattle.std.proofs.lemmas.Map.Views.{Contains-from_any, list_any-from_Contains}
-use Rattle.fib_list.proofs.Lists.{either, is_member-unique_keys, each-append, each-map, each-flat_map, Contains-nil}
+use Rattle.fib_base_list.proofs.Lists.{either, is_member-unique_keys, each-append, each-map, each-flat_map, Contains-nil}
 use Rattle.fib_addr.specs.Prefixes.{Prefix, IsPrefix, same_prefix}
 use Rattle.fib_addr.specs.Longest.{everything, IsLongest}
 use Rattle.fib_addr.proofs.PrefixLaws.{same_prefix-Decides, same_prefix_equiv}

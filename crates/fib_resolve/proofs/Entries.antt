@@ -4,7 +4,7 @@ use Rattle.std.specs.Prelude.{Contains}
 use Rattle.std.specs.List.{list_any}
 use Rattle.std.specs.Set.{is_member}
 use Rattle.std.proofs.lemmas.Bool.{false≢true}
-use Rattle.fib_list.proofs.Lists.{either, is_member-unique_keys, list_any-map, Contains-nil}
+use Rattle.fib_base_list.proofs.Lists.{either, is_member-unique_keys, list_any-map, Contains-nil}
 use Rattle.fib_addr.specs.Prefixes.{Prefix, same_prefix}
 use Rattle.fib_addr.proofs.PrefixLaws.{same_prefix_equiv}
 use Rattle.fib_resolve.specs.Pairs.{pairs, entries, best_pair, paths_of, prefix_of, chosen}

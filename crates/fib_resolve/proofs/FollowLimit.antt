@@ -1,9 +1,9 @@
 -- The answer never needs more steps than there are entries.
 use Rattle.std.proofs.Common.{arith, add-zero, add-suc, ◌≡◌, ℕ, zero, suc, ◌+◌, ◌-◌, ◌/◌, ◌%◌, ◌≤◌, true, Option, Some, None, ◌⊎◌, inl, inr, refl, sym, ◌∙◌, ap}
 use Rattle.std.specs.Prelude.{Contains, slice_get, IfSome}
-use Rattle.fib_list.proofs.Lists.{each-at, each-weaker}
+use Rattle.fib_base_list.proofs.Lists.{each-at, each-weaker}
 use Rattle.fib_reach.specs.Walks.{Walk}
-use Rattle.fib_list.proofs.Booleans.{and_both}
+use Rattle.fib_base_list.proofs.Booleans.{and_both}
 use Rattle.fib_addr.specs.Prefixes.{Prefix, host}
 use Rattle.fib_resolve.specs.Pairs.{cover, chosen}
 use Rattle.fib_resolve.specs.Loops.{Kept}

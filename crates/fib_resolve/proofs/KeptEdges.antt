@@ -3,7 +3,7 @@ use Rattle.std.proofs.Common.{arith, ◌≡◌, ℕ, zero, suc, ◌<◌, ◌≤�
 use Rattle.std.specs.Prelude.{Contains}
 use Rattle.std.proofs.lemmas.Bool.{false≢true}
 use Rattle.std.proofs.lemmas.Map.Views.{Contains-from_any}
-use Rattle.fib_list.proofs.Lists.{Contains-flat_map, Contains-nil}
+use Rattle.fib_base_list.proofs.Lists.{Contains-flat_map, Contains-nil}
 use Rattle.fib_reach.specs.Walks.{Walk, Leads, IsAcyclic, Next}
 use Rattle.fib_reach.proofs.Walking.{leads_cases, leads-map, then_edge, reaches_leads, walk_no_longer}
 use Rattle.fib_addr.specs.Prefixes.{Prefix, host}

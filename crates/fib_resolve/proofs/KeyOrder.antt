@@ -9,7 +9,7 @@ use Rattle.std.specs.Ordering.{is_lt, is_eq, nat_cmp, ordering_reverse}
 use Rattle.std.proofs.lemmas.Bool.{false≢true}
 use Rattle.std.proofs.lemmas.Bool.Decides.{nat_tests}
 use Rattle.std.proofs.lemmas.Cmp.{nat_cmp_total, on_total, then_total}
-use Rattle.fib_list.proofs.Lists.{either, each-weaker, each-filter}
+use Rattle.fib_base_list.proofs.Lists.{either, each-weaker, each-filter}
 use Rattle.fib_resolve.specs.Keys.{key_of, same_key, key_cmp, key_lt}
 use Rattle.fib_resolve.specs.Tables.{IsSortedByKeys}
 use Rattle.fib_resolve.specs.Edits.{set_path, set_paths}

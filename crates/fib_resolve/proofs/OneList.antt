@@ -5,7 +5,7 @@ use Rattle.std.specs.List.{AllByRecursion, IsDistinct}
 use Rattle.std.proofs.lemmas.Bool.{false≢true}
 use Rattle.std.proofs.lemmas.Bool.Decides.{nat_tests}
 use Rattle.std.proofs.lemmas.List.Elements.{recursion_from_All, All-contains, All-from_recursion, All-contains_itself}
-use Rattle.fib_list.proofs.Lists.{either, each-append, each-weaker, each-map, each-flat_map}
+use Rattle.fib_base_list.proofs.Lists.{either, each-append, each-weaker, each-map, each-flat_map}
 use Rattle.fib_addr.specs.Prefixes.{Prefix, same_prefix, host, masked}
 use Rattle.fib_addr.proofs.PrefixLaws.{same_prefix-Decides}
 use Rattle.fib_resolve.specs.Keys.{source_rank}
@@ -23,7 +23,7 @@ use Rattle.fib_resolve.specs.declared.types.FibSource.{FibSource}
 use Rattle.fib_resolve.specs.declared.types.FibSource.TheVariants as sources
 use Rattle.fib_resolve.specs.declared.types.Tables.{Tables}
 use Rattle.fib_resolve.proofs.PairLaws.{each-all, each-unique}
-use Rattle.fib_list.proofs.Booleans.{or_right}
+use Rattle.fib_base_list.proofs.Booleans.{or_right}
 
 pub each-itself : {X : Type 0} (xs : List X) → AllByRecursion (Contains xs) xs
 each-itself xs = recursion_from_All (Contains xs) xs (All-contains_itself xs)

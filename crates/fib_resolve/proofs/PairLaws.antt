@@ -5,7 +5,7 @@ use Rattle.std.specs.List.{AllByRecursion}
 use Rattle.std.specs.Set.{unique_keys, is_member}
 use Rattle.std.proofs.lemmas.List.Elements.{All-contains, All-from_recursion}
 use Rattle.std.proofs.lemmas.Bool.{ltb-true}
-use Rattle.fib_list.proofs.Lists.{either, each-append, each-filter, each-weaker, each-map, each-flat_map}
+use Rattle.fib_base_list.proofs.Lists.{either, each-append, each-filter, each-weaker, each-map, each-flat_map}
 use Rattle.fib_addr.specs.Prefixes.{Prefix, same_prefix, host, masked}
 use Rattle.fib_addr.specs.Longest.{everything, longest, longer}
 use Rattle.fib_addr.proofs.PrefixLaws.{same_prefix-Decides}

@@ -10,7 +10,7 @@ use Rattle.std.proofs.lemmas.List.{length-map}
 use Rattle.std.proofs.lemmas.List.Elements.{Contains-append_cases, All-contains, All-from_recursion, recursion_from_All, All-contains_itself}
 use Rattle.std.proofs.lemmas.List.Quantifiers.{position-Some}
 use Rattle.std.proofs.lemmas.List.Sums.{length-filter, count_by-le-length}
-use Rattle.fib_list.proofs.Lists.{either, each-weaker, each-filter, each-append}
+use Rattle.fib_base_list.proofs.Lists.{either, each-weaker, each-filter, each-append}
 use Rattle.fib_addr.specs.Prefixes.{Prefix}
 use Rattle.fib_addr.proofs.PrefixLaws.{same_prefix_equiv}
 use Rattle.fib_resolve.specs.Keys.{is_drop_or_local, source_rank}
@@ -35,7 +35,7 @@ use Rattle.fib_resolve.specs.declared.types.Refusal.TheVariants as refusals
 use Rattle.fib_resolve.specs.declared.types.Tables.{Tables}
 use Rattle.fib_resolve.specs.declared.types.Edit.{Edit}
 use Rattle.fib_resolve.specs.declared.types.Edit.TheVariants as edits
-use Rattle.fib_list.proofs.Booleans.{or_cases, and_both, or_right}
+use Rattle.fib_base_list.proofs.Booleans.{or_cases, and_both, or_right}
 use Rattle.fib_resolve.proofs.Apart.{put, each-fails, apart-push, apart-filter, apart-map, each-put, apart-put, each-without_place, some_place}
 use Rattle.fib_resolve.proofs.KeyOrder.{each-set_paths, sorted-set_paths, sorted-filter, length-set_paths}
 use Rattle.fib_resolve.proofs.Refused.{none_own, first_none}

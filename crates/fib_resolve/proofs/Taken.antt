@@ -3,7 +3,7 @@ use Rattle.std.proofs.Common.{◌≡◌, ℕ, true, List, [], ◌∷◌, map, Op
 use Rattle.std.specs.Prelude.{Contains, filter, flat_map, slice_get, option_to_list, IfSome}
 use Rattle.std.specs.List.{AllByRecursion}
 use Rattle.std.proofs.lemmas.List.Elements.{recursion_from_All, All-contains_itself}
-use Rattle.fib_list.proofs.Lists.{each-filter, each-weaker, each-append, each-at}
+use Rattle.fib_base_list.proofs.Lists.{each-filter, each-weaker, each-append, each-at}
 use Rattle.fib_addr.specs.Prefixes.{Prefix}
 use Rattle.fib_buckets.specs.Shares.{buckets}
 use Rattle.fib_resolve.specs.Pairs.{chosen}

@@ -8,8 +8,8 @@ use Rattle.std.specs.Cmp.Lexicographic.{pointwise}
 use Rattle.std.proofs.lemmas.Bool.{false≢true, cases_lt, lt-ltb, le-ltb}
 use Rattle.std.proofs.lemmas.Bool.Decides.{Decides-eqb}
 use Rattle.std.proofs.lemmas.Map.Views.{Contains-from_any}
-use Rattle.fib_list.proofs.Lists.{either}
-use Rattle.fib_list.proofs.Booleans.{and_both}
+use Rattle.fib_base_list.proofs.Lists.{either}
+use Rattle.fib_base_list.proofs.Booleans.{and_both}
 use Rattle.fib_addr.specs.Prefixes.{Prefix, host, same_prefix}
 use Rattle.fib_addr.proofs.PrefixLaws.{same_prefix-Decides}
 use Rattle.fib_resolve.specs.Keys.{source_rank, kind_rank, next_hop_of, interface_of, need_rank, same_path}

@@ -3,7 +3,7 @@ ghost use Rattle.std.specs.Prelude.{◌≡◌, IfOk};
 
 use crate::pairs::Pair;
 use crate::types::{Address, Interface, Neighbor, Path, Route, Tables};
-use fib_list::Duplicate;
+use fib_base_list::Duplicate;
 use std::alloc::{AllocError, Global};
 
 impl Duplicate for Path {

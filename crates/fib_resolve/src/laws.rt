@@ -40,7 +40,8 @@ pub fn reachable_is_sound()
 
 /// A prefix has one list from a source.
 pub fn one_list_a_source()
-    ensures { (S : Tables) → IsSound S → (x y : Pair) → Contains (pairs S) x → Contains (pairs S) y → x.prefix ≡ y.prefix → x.source ≡ y.source → x.paths ≡ y.paths }
+    ensures { (S : Tables) → IsSound S → (x y : Pair) → Contains (pairs S) x → Contains (pairs S) y → x.prefix ≡ y.prefix
+        → x.source ≡ y.source → x.paths ≡ y.paths }
 {}
 
 /// Sixteen buckets can be shared among every chosen list: it has at most 16 paths, each of a weight of at least 1.
@@ -60,7 +61,8 @@ pub fn cover_is_longest()
 
 /// Best entries and covers depend on the prefixes alone: tables with the same entries have the same.
 pub fn prefixes_decide()
-    ensures { (S T : Tables) (a : ℕ) → a < 2 ^ 32 → ((q : Prefix) → Contains (entries S) q → IsPrefix q) → ((q : Prefix) → Contains (entries S) q ↔ Contains (entries T) q) → (best S a ≡ best T a) × (cover S a ≡ cover T a) }
+    ensures { (S T : Tables) (a : ℕ) → a < 2 ^ 32 → ((q : Prefix) → Contains (entries S) q → IsPrefix q)
+        → ((q : Prefix) → Contains (entries S) q ↔ Contains (entries T) q) → (best S a ≡ best T a) × (cover S a ≡ cover T a) }
 {}
 
 /// An address is attached to an interface where its cover's chosen list is one Attached path over it.
@@ -130,10 +132,13 @@ pub fn touched_is_listed()
 
 /// A prefix that isn't touched has the same pairs before and after.
 pub fn untouched_keeps_pairs()
-    ensures { (S T : Tables) (e : Prefix) (x : Pair) → is_touched S T e ≡ false → e ≡ x.prefix → Contains (pairs S) x ↔ Contains (pairs T) x }
+    ensures { (S T : Tables) (e : Prefix) (x : Pair) → is_touched S T e ≡ false → e ≡ x.prefix → Contains (pairs S) x
+        ↔ Contains (pairs T) x }
 {}
 
 /// If moreover each entry to which a path of its chosen list leads forwards in both or in neither, the same paths are wanted.
 pub fn untouched_keeps_wanted()
-    ensures { (S T : Tables) (e : Prefix) → IsSound T → is_touched S T e ≡ false → ((p : Path) (to : Prefix) → Contains (chosen S e) p → Contains (kind_targets S e p.kind) to → forwards S to ≡ forwards T to) → wanted S e ≡ wanted T e }
+    ensures { (S T : Tables) (e : Prefix) → IsSound T → is_touched S T e ≡ false
+        → ((p : Path) (to : Prefix) → Contains (chosen S e) p → Contains (kind_targets S e p.kind) to
+        → forwards S to ≡ forwards T to) → wanted S e ≡ wanted T e }
 {}

@@ -3,7 +3,7 @@ ghost use Rattle.std.specs.Prelude.{◌≡◌, true, IfOk, IsTrue, bytes_eq, sli
 ghost use Rattle.std.specs.List.{list_all};
 ghost use Rattle.fib_resolve.specs.Names.{is_letter, is_name_byte, is_reserved, is_name};
 
-use fib_list::{Duplicate, List};
+use fib_base_list::{Duplicate, List};
 use std::alloc::{AllocError, Global};
 use std::marker::Model;
 

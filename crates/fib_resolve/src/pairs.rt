@@ -2,7 +2,7 @@
 
 use crate::types::{FibSource, Path};
 use fib_addr::{Addr, Prefix};
-use fib_list::List;
+use fib_base_list::List;
 
 /// An effective pair: a prefix, a source of it, and that source's path-list.
 #[derive(Drop)]

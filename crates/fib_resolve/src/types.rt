@@ -4,7 +4,7 @@ ghost use Rattle.fib_resolve.specs.Tables.{fresh, IsSound};
 
 use crate::names::Name;
 use fib_addr::{Addr, Mac, Prefix};
-use fib_list::List;
+use fib_base_list::List;
 use std::alloc::Global;
 
 /// Where an effective pair comes from. Of two sources of a prefix the earlier in this order is the better.

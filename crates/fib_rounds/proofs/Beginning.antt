@@ -3,17 +3,17 @@ use Rattle.std.proofs.Common.{◌≡◌, ◌/◌, ℕ, List, Option, Result, Ok,
 use Rattle.std.specs.Prelude.{◌⊎◌, replicate, slice_index, slice_index_or}
 use Rattle.fib_outside.specs.Outside.{HasRisen}
 use Rattle.fib_resolve.specs.Tables.{fresh}
-use Rattle.fib_lawful.specs.State.{left_of}
-use Rattle.fib_board.specs.Boards.{Board}
-use Rattle.fib_board.specs.Told.{IsWithinLimits}
+use Rattle.fib_core_lawful.specs.State.{left_of}
+use Rattle.fib_core_board.specs.Boards.{Board}
+use Rattle.fib_core_board.specs.Told.{IsWithinLimits}
 use Rattle.fib_cells.specs.Seats.{fresh_live}
-use Rattle.fib_joined.specs.Promise.{Promise}
-use Rattle.fib_shared.specs.Shares.{promise_of}
+use Rattle.fib_plane_view.specs.Promise.{Promise}
+use Rattle.fib_plane.specs.Views.{promise_of}
 use Rattle.fib_control.specs.Controls.{Control, promise_in}
 use Rattle.fib_capture.specs.Captures.{Capture}
-use Rattle.fib_settings.specs.Ranges.{InRange}
-use Rattle.fib_taps.specs.Taps.{Pairs}
-use Rattle.fib_settings.specs.declared.sizes.Settings.{Settings}
+use Rattle.fib_core.specs.Ranges.{InRange}
+use Rattle.fib_rounds_taps.specs.Taps.{Pairs}
+use Rattle.fib_core.specs.declared.settings.Settings.{Settings}
 use Rattle.fib_rounds.specs.Output.{FirstOutput, Output, OutputWith}
 use Rattle.fib_rounds.specs.Runs.{GainsPart, GainsRun, GainsTaken, IsNew}
 use Rattle.fib_rounds.specs.Writes.{Gains}

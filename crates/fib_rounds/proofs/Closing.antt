@@ -4,16 +4,16 @@ use Rattle.std.specs.Prelude.{IfSome, min, if◌then◌else◌, ◌==◌}
 use Rattle.std.proofs.lemmas.Bool.Decides.{nat_tests}
 use Rattle.std.proofs.lemmas.List.{append-nil, drop-drop, length-drop}
 use Rattle.fib_resolve.specs.declared.types.Tables.{Tables}
-use Rattle.fib_results.specs.declared.record.Record.{Record}
+use Rattle.fib_core_results.specs.declared.record.Record.{Record}
 use Rattle.fib_capture.specs.Captures.{Capture}
 use Rattle.fib_capture.specs.declared.packet.Packet.{Packet}
-use Rattle.fib_turns.specs.Routers.{Router}
-use Rattle.fib_turns.specs.Turns.{asks, end_turn, turn_of}
+use Rattle.fib_rounds_turns.specs.Routers.{Router}
+use Rattle.fib_rounds_turns.specs.Turns.{asks, end_turn, turn_of}
 use Rattle.fib_rounds.specs.Counts.{IsSmall}
 use Rattle.fib_rounds.specs.declared.opening.Opening.{Opening}
 use Rattle.fib_rounds.specs.declared.summary.Summary.{Summary}
 use Rattle.fib_rounds.specs.Stages.{Stage, Round, opened_by, after_line, grown}
-use Rattle.fib_crew.specs.Packets.{Matched, span}
+use Rattle.fib_worker_crew.specs.Packets.{Matched, span}
 use Rattle.fib_rounds.specs.Packets.{packets_text, IsAnswer}
 use Rattle.fib_rounds.specs.Frozen.{by_asked}
 use Rattle.fib_rounds.specs.Output.{Prints, ByAsked, Closes}
@@ -21,7 +21,7 @@ use Rattle.fib_rounds.specs.Summaries.{counted, with_round}
 use Rattle.fib_rounds.specs.Runs.{stage_after, rounds_from}
 use Rattle.fib_rounds.specs.Rounds.{StopsAt, is_still_quiet, round_at, PrintsFrom, rounds_at, history_at, counts_from, closed_router, closed_text, MayOpen, next_opening}
 use Rattle.fib_rounds.proofs.Turning.{end_keeps, asked_stays}
-use Rattle.fib_crew.proofs.Spans.{length_span}
+use Rattle.fib_worker_crew.proofs.Spans.{length_span}
 use Rattle.fib_rounds.proofs.Spans.{span_taken}
 
 pub closed_keeps : (r : Router) (asked : Option ℕ) → (closed_router r asked).config.tables ≡ r.config.tables

@@ -4,8 +4,8 @@ use Rattle.std.specs.Prelude.{slice_index_or}
 use Rattle.std.proofs.lemmas.List.{drop_more, drop_all}
 use Rattle.fib_resolve.specs.declared.types.End.{End}
 use Rattle.fib_resolve.specs.declared.types.End.TheVariants as ends
-use Rattle.fib_results.specs.declared.record.Record.{Record}
-use Rattle.fib_crew.specs.Results.{results_of}
+use Rattle.fib_core_results.specs.declared.record.Record.{Record}
+use Rattle.fib_worker_crew.specs.Results.{results_of}
 use Rattle.fib_rounds.specs.declared.summary.Summary.{Summary}
 use Rattle.fib_rounds.specs.Summaries.{with_end, with_ends}
 use Rattle.fib_rounds.specs.Counts.{IsSmall}

@@ -2,22 +2,22 @@
 use Rattle.std.proofs.Common.{◌≡◌, ◌<◌, ◌≤◌, ◌+◌, ◌-◌, ◌*◌, ◌/◌, ◌^◌, ◌++◌, ◌∷◌, [], ℕ, suc, List, Bool, true, false, not, length, take, drop, arith, refl, ap, ap₂, ◌∙◌, sym, subst, Option}
 use Rattle.std.specs.Prelude.{slice_index, slice_index_or}
 use Rattle.std.specs.List.{list_any}
-use Rattle.fib_shared.specs.Shares.{is_alone}
+use Rattle.fib_plane.specs.Views.{is_alone}
 use Rattle.std.proofs.lemmas.List.{append-nil, drop_all}
 use Rattle.std.proofs.Math.Seq.{take-append_seam}
 use Rattle.fib_config.specs.Config.{Setup}
-use Rattle.fib_results.specs.Trails.{AtLeast, version_at}
+use Rattle.fib_core_results.specs.Trails.{AtLeast, version_at}
 use Rattle.fib_capture.specs.declared.packet.Packet.{Packet}
-use Rattle.fib_lawful.specs.State.{Log, left_of}
-use Rattle.fib_board.specs.Boards.{Board}
+use Rattle.fib_core_lawful.specs.State.{Log, left_of}
+use Rattle.fib_core_board.specs.Boards.{Board}
 use Rattle.fib_control.specs.Controls.{Control, with_board}
-use Rattle.fib_crew.specs.Frames.{frames, frame}
-use Rattle.fib_crew.specs.Results.{Kept}
-use Rattle.fib_crew.specs.Packets.{IsOf, Matched, span}
-use Rattle.fib_crew.proofs.Spans.{length_span, span_none}
-use Rattle.fib_homing.specs.Homes.{HasGathered, IsHome, NoneOut, but_crew, but_out}
-use Rattle.fib_homing.specs.Places.{AreFilled, IsRightOf, joined, parts_of}
-use Rattle.fib_turns.specs.Routers.{KeepsCrew, Progress, applied_in, router_of}
+use Rattle.fib_worker_crew.specs.Frames.{frames, frame}
+use Rattle.fib_worker_crew.specs.Results.{Kept}
+use Rattle.fib_worker_crew.specs.Packets.{IsOf, Matched, span}
+use Rattle.fib_worker_crew.proofs.Spans.{length_span, span_none}
+use Rattle.fib_rounds_homing.specs.Homes.{HasGathered, IsHome, NoneOut, but_crew, but_out}
+use Rattle.fib_rounds_homing.specs.Places.{AreFilled, IsRightOf, joined, parts_of}
+use Rattle.fib_rounds_turns.specs.Routers.{KeepsCrew, Progress, applied_in, router_of}
 use Rattle.fib_rounds.specs.declared.lines.Stop.{Stop}
 use Rattle.fib_rounds.specs.declared.opening.Opening.{Opening}
 use Rattle.fib_rounds.specs.Stages.{IsHistory, Stage}

@@ -3,13 +3,13 @@ use Rattle.std.proofs.Common.{◌≡◌, ◌<◌, ◌≤◌, ◌+◌, ◌-◌, �
 use Rattle.std.specs.Prelude.{slice_index_or, min}
 use Rattle.std.proofs.lemmas.List.{drop_all, append_assoc, append-nil}
 use Rattle.fib_capture.specs.declared.packet.Packet.{Packet}
-use Rattle.fib_crew.specs.Packets.{IsOf, span}
-use Rattle.fib_crew.specs.Results.{Kept, numbered, results_of}
-use Rattle.fib_crew.proofs.Spans.{length_span, span_join, span_none}
-use Rattle.fib_crew.proofs.Matching.{numbered_append}
-use Rattle.fib_homing.specs.Places.{joined, parts_of}
-use Rattle.fib_taps.specs.Taps.{Pairs, Takes, TakesSome}
-use Rattle.fib_taps.proofs.Moves.{Takes-more, Takes-cut}
+use Rattle.fib_worker_crew.specs.Packets.{IsOf, span}
+use Rattle.fib_worker_crew.specs.Results.{Kept, numbered, results_of}
+use Rattle.fib_worker_crew.proofs.Spans.{length_span, span_join, span_none}
+use Rattle.fib_worker_crew.proofs.Matching.{numbered_append}
+use Rattle.fib_rounds_homing.specs.Places.{joined, parts_of}
+use Rattle.fib_rounds_taps.specs.Taps.{Pairs, Takes, TakesSome}
+use Rattle.fib_rounds_taps.proofs.Moves.{Takes-more, Takes-cut}
 use Rattle.fib_rounds.specs.Writes.{AreLaid}
 use Rattle.fib_rounds.proofs.Laid.{drop_head}
 

@@ -6,7 +6,7 @@ use Rattle.std.proofs.Math.Seq.{get_or-append_seam}
 use Rattle.std.proofs.lemmas.Option.{slice_get_within, slice_get-get_or, get_or_from_slice_get}
 use Rattle.std.proofs.lemmas.Bool.Decides.{nat_tests}
 use Rattle.fib_resolve.specs.declared.types.Tables.{Tables}
-use Rattle.fib_turns.specs.Routers.{Router}
+use Rattle.fib_rounds_turns.specs.Routers.{Router}
 use Rattle.fib_rounds.specs.Stages.{IsHistory, Stage, start, grown}
 use Rattle.fib_rounds.proofs.Turning.{Steps}
 

@@ -5,9 +5,9 @@ use Rattle.std.proofs.lemmas.List.{drop_more, drop_all, append_assoc, append-nil
 use Rattle.fib_outside.specs.Outside.{Appends}
 use Rattle.fib_resolve.specs.declared.types.Tables.{Tables}
 use Rattle.fib_capture.specs.declared.packet.Packet.{Packet}
-use Rattle.fib_crew.specs.Results.{Kept, results_of}
-use Rattle.fib_homing.specs.Places.{joined, parts_of, results_at}
-use Rattle.fib_crew.specs.Packets.{span}
+use Rattle.fib_worker_crew.specs.Results.{Kept, results_of}
+use Rattle.fib_rounds_homing.specs.Places.{joined, parts_of, results_at}
+use Rattle.fib_worker_crew.specs.Packets.{span}
 use Rattle.fib_rounds.specs.Packets.{packets_text}
 use Rattle.fib_rounds.specs.Writes.{AreLaid, AppendsSome}
 use Rattle.fib_rounds.proofs.Moves.{Appends-more}

@@ -4,11 +4,11 @@ use Rattle.std.specs.Prelude.{is_some, slice_get, ◌==◌, if◌then◌else◌}
 use Rattle.std.proofs.lemmas.List.{append_assoc, append-nil, drop_all}
 use Rattle.std.proofs.lemmas.Bool.Decides.{nat_tests}
 use Rattle.fib_resolve.specs.declared.types.Tables.{Tables}
-use Rattle.fib_results.specs.declared.record.Record.{Record}
+use Rattle.fib_core_results.specs.declared.record.Record.{Record}
 use Rattle.fib_capture.specs.Captures.{Capture}
 use Rattle.fib_control.specs.Controls.{Control, tables_in}
-use Rattle.fib_turns.specs.Routers.{HasGrown, Progress, Router, applied_in, history_in, router_of}
-use Rattle.fib_turns.specs.Turns.{turn_of, asks}
+use Rattle.fib_rounds_turns.specs.Routers.{HasGrown, Progress, Router, applied_in, history_in, router_of}
+use Rattle.fib_rounds_turns.specs.Turns.{turn_of, asks}
 use Rattle.fib_rounds.specs.declared.summary.Summary.{Summary}
 use Rattle.fib_rounds.specs.Stages.{IsHistory, Stage, Round, opened_by, after_line, grown}
 use Rattle.fib_rounds.specs.Frozen.{by_asked}
@@ -18,7 +18,7 @@ use Rattle.fib_rounds.specs.Runs.{stage_after, rounds_from}
 use Rattle.fib_rounds.specs.Rounds.{StopsAt, GoesOn, is_still_quiet, lines_run, stage_of}
 use Rattle.fib_rounds.proofs.Turning.{Steps, asked_stays, turn_steps}
 use Rattle.fib_rounds.proofs.Histories.{grown_is}
-use Rattle.fib_crew.proofs.Spans.{drop_at}
+use Rattle.fib_worker_crew.proofs.Spans.{drop_at}
 
 -- ---- the stage after a line
 

@@ -5,15 +5,15 @@ use Rattle.fib_resolve.specs.Resolution.{resolve}
 use Rattle.fib_resolve.specs.Tables.{fresh}
 use Rattle.fib_resolve.specs.declared.types.End.{End}
 use Rattle.fib_resolve.specs.declared.types.Tables.{Tables}
-use Rattle.fib_results.specs.declared.record.Record.{Record}
-use Rattle.fib_results.specs.declared.record.Version.{Version}
-use Rattle.fib_results.specs.Trails.{IsAt, version_at, settled_answer}
+use Rattle.fib_core_results.specs.declared.record.Record.{Record}
+use Rattle.fib_core_results.specs.declared.record.Version.{Version}
+use Rattle.fib_core_results.specs.Trails.{IsAt, version_at, settled_answer}
 use Rattle.fib_capture.specs.Captures.{Capture}
 use Rattle.fib_capture.specs.declared.packet.Packet.{Packet}
 use Rattle.fib_capture.specs.declared.packet.Packet.TheVariants.{Flow, NotIpv4, BadHeader}
-use Rattle.fib_turns.specs.Turns.{turn_of, asks, end_turn}
+use Rattle.fib_rounds_turns.specs.Turns.{turn_of, asks, end_turn}
 use Rattle.fib_rounds.specs.Stages.{Stage, Round, start, first_round, after_line, opened_by}
-use Rattle.fib_crew.specs.Packets.{Matched}
+use Rattle.fib_worker_crew.specs.Packets.{Matched}
 use Rattle.fib_rounds.specs.Packets.{IsAnswer, packets_text, last_text, answers}
 use Rattle.fib_rounds.specs.Output.{Closes, Prints, ByAsked, Output}
 use Rattle.fib_rounds.specs.Frozen.{frozen, by_asked, round_text, frozen_output}

@@ -6,22 +6,22 @@ use Rattle.std.proofs.lemmas.Bool.Decides.{nat_tests}
 use Rattle.std.specs.Prelude.{IfSome, min, ◌==◌, slice_get, slice_index, slice_index_or}
 use Rattle.std.proofs.lemmas.List.{append_assoc, drop_all, length-append}
 use Rattle.fib_config.specs.Config.{Setup}
-use Rattle.fib_lawful.specs.State.{left_of}
-use Rattle.fib_board.specs.Boards.{Board}
+use Rattle.fib_core_lawful.specs.State.{left_of}
+use Rattle.fib_core_board.specs.Boards.{Board}
 use Rattle.fib_control.specs.Controls.{Control}
 use Rattle.fib_resolve.specs.declared.types.Tables.{Tables}
-use Rattle.fib_results.specs.declared.record.Record.{Record}
+use Rattle.fib_core_results.specs.declared.record.Record.{Record}
 use Rattle.fib_capture.specs.Captures.{Capture}
 use Rattle.fib_capture.specs.declared.packet.Packet.{Packet}
-use Rattle.fib_turns.specs.Routers.{KeepsCrew, Progress, applied_in, history_in}
-use Rattle.fib_turns.specs.Changes.{Stays}
-use Rattle.fib_crew.specs.Frames.{frames, frame}
-use Rattle.fib_crew.specs.Results.{Kept, numbered, results_of}
-use Rattle.fib_crew.specs.Packets.{IsOf, Matched, span}
-use Rattle.fib_crew.proofs.Spans.{frame_is, length_span, span_none}
-use Rattle.fib_crew.proofs.Matching.{matched_weaker}
-use Rattle.fib_homing.specs.Homes.{claims_of}
-use Rattle.fib_homing.specs.Places.{AreFilled, IsFilled, IsRightOf, joined, parts_of}
+use Rattle.fib_rounds_turns.specs.Routers.{KeepsCrew, Progress, applied_in, history_in}
+use Rattle.fib_rounds_turns.specs.Changes.{Stays}
+use Rattle.fib_worker_crew.specs.Frames.{frames, frame}
+use Rattle.fib_worker_crew.specs.Results.{Kept, numbered, results_of}
+use Rattle.fib_worker_crew.specs.Packets.{IsOf, Matched, span}
+use Rattle.fib_worker_crew.proofs.Spans.{frame_is, length_span, span_none}
+use Rattle.fib_worker_crew.proofs.Matching.{matched_weaker}
+use Rattle.fib_rounds_homing.specs.Homes.{claims_of}
+use Rattle.fib_rounds_homing.specs.Places.{AreFilled, IsFilled, IsRightOf, joined, parts_of}
 use Rattle.fib_rounds.specs.declared.lines.Stop.{Stop}
 use Rattle.fib_rounds.specs.declared.opening.Opening.{Opening}
 use Rattle.fib_rounds.specs.declared.summary.Summary.{Summary}
@@ -34,7 +34,7 @@ use Rattle.fib_rounds.specs.inner.Forwarded.{HasForwardedRound, IsAtRest}
 use Rattle.fib_rounds.proofs.Closing.{closed_stage, closes_prints, closes_rounds, closes_history, counts_close, still_is}
 use Rattle.fib_rounds.proofs.Quiet.{all_settled}
 use Rattle.fib_rounds.proofs.Turning.{end_counts, end_keeps}
-use Rattle.fib_turns.specs.Turns.{end_turn}
+use Rattle.fib_rounds_turns.specs.Turns.{end_turn}
 
 -- a right result is an answer
 pub answer_of : (k : ℕ) (H : List Tables) (a h : ℕ) (r : Record) → IsRightOf k H a h r → IsAnswer k H a h r

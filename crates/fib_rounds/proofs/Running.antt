@@ -3,29 +3,29 @@ use Rattle.std.proofs.Common.{◌≡◌, ◌+◌, ◌++◌, ◌∷◌, [], ℕ, 
 use Rattle.std.specs.Prelude.{IfSome}
 use Rattle.std.proofs.lemmas.List.{append_assoc, append-nil, length-append}
 use Rattle.std.proofs.Math.Seq.{take-length}
-use Rattle.fib_results.specs.declared.record.Record.{Record}
+use Rattle.fib_core_results.specs.declared.record.Record.{Record}
 use Rattle.fib_capture.specs.Captures.{Capture}
 use Rattle.fib_outside.specs.Outside.{Appends}
 use Rattle.fib_core.specs.Trails.{Trail}
 use Rattle.fib_resolve.specs.Tables.{fresh}
 use Rattle.fib_resolve.specs.declared.types.Tables.{Tables}
 use Rattle.fib_config.specs.Config.{Setup}
-use Rattle.fib_results.specs.Trails.{version_at}
-use Rattle.fib_results.specs.declared.record.Version.{Version}
-use Rattle.fib_board.specs.Boards.{Board}
+use Rattle.fib_core_results.specs.Trails.{version_at}
+use Rattle.fib_core_results.specs.declared.record.Version.{Version}
+use Rattle.fib_core_board.specs.Boards.{Board}
 use Rattle.fib_control.specs.Controls.{Control}
-use Rattle.fib_turns.specs.Routers.{Progress, applied_in, history_in, new_progress}
+use Rattle.fib_rounds_turns.specs.Routers.{Progress, applied_in, history_in, new_progress}
 use Rattle.fib_rounds.specs.declared.summary.Summary.{Summary}
 use Rattle.fib_rounds.specs.Summaries.{zero_counts, summary_of}
-use Rattle.fib_crew.specs.Packets.{span}
-use Rattle.fib_homing.specs.Homes.{IsHome}
-use Rattle.fib_homing.specs.Places.{IsRightOf, joined, parts_of}
-use Rattle.fib_crew.specs.Results.{Kept, numbered}
+use Rattle.fib_worker_crew.specs.Packets.{span}
+use Rattle.fib_rounds_homing.specs.Homes.{IsHome}
+use Rattle.fib_rounds_homing.specs.Places.{IsRightOf, joined, parts_of}
+use Rattle.fib_worker_crew.specs.Results.{Kept, numbered}
 use Rattle.fib_rounds.specs.declared.opening.Opening.{Opening}
 use Rattle.fib_rounds.specs.Stages.{IsHistory, Stage, start}
 use Rattle.fib_rounds.specs.Packets.{last_text}
-use Rattle.fib_taps.specs.Taps.{Pairs, Takes, TakesSome}
-use Rattle.fib_taps.proofs.Moves.{Takes-none}
+use Rattle.fib_rounds_taps.specs.Taps.{Pairs, Takes, TakesSome}
+use Rattle.fib_rounds_taps.proofs.Moves.{Takes-none}
 use Rattle.fib_rounds.specs.Output.{OutputWith}
 use Rattle.fib_rounds.specs.Writes.{AppendsSome}
 use Rattle.fib_rounds.specs.Runs.{Brought, GainsPart, GainsRun, IsNew, rounds_of, stage_after}

@@ -3,13 +3,13 @@ use Rattle.std.proofs.Common.{◌≡◌, ◌<◌, ◌≤◌, ◌+◌, ◌-◌, �
 use Rattle.std.specs.Prelude.{slice_index_or, slice_get, min, Some}
 use Rattle.std.proofs.lemmas.List.{length-drop, append_assoc}
 use Rattle.fib_resolve.specs.declared.types.Tables.{Tables}
-use Rattle.fib_results.specs.declared.record.Record.{Record}
-use Rattle.fib_crew.specs.Packets.{Matched, IsOf, span}
-use Rattle.fib_crew.specs.Results.{results_of}
+use Rattle.fib_core_results.specs.declared.record.Record.{Record}
+use Rattle.fib_worker_crew.specs.Packets.{Matched, IsOf, span}
+use Rattle.fib_worker_crew.specs.Results.{results_of}
 use Rattle.fib_print.specs.Packets.{packet_text, not_ipv4_text, bad_header_text}
 use Rattle.fib_capture.specs.declared.packet.Packet.{Packet}
 use Rattle.fib_capture.specs.declared.packet.Packet.TheVariants.{Flow, NotIpv4, BadHeader}
-use Rattle.fib_crew.proofs.Spans.{length_span, span_head, span_join, span_none}
+use Rattle.fib_worker_crew.proofs.Spans.{length_span, span_head, span_join, span_none}
 use Rattle.fib_rounds.specs.Packets.{packets_text}
 
 -- the packets that are left, or fewer

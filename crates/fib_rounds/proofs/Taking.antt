@@ -1,14 +1,14 @@
 -- What a tap has taken of a run so far, and what is left to it.
 use Rattle.std.proofs.Common.{◌≡◌, ◌≤◌, ◌++◌, ◌∷◌, [], ℕ, ◌+◌, ◌-◌, List, Option, Some, None, length, drop, sym, ap, ◌∙◌, subst, refl, arith}
 use Rattle.std.proofs.lemmas.List.{append_assoc, append-nil, take-append-drop, drop-drop, length-take, length-drop}
-use Rattle.fib_results.specs.declared.record.Record.{Record}
+use Rattle.fib_core_results.specs.declared.record.Record.{Record}
 use Rattle.fib_capture.specs.declared.packet.Packet.{Packet}
 use Rattle.fib_capture.specs.declared.packet.Packet.TheVariants.{Flow, NotIpv4, BadHeader}
-use Rattle.fib_crew.specs.Packets.{Matched, span}
-use Rattle.fib_crew.specs.Results.{numbered}
-use Rattle.fib_crew.proofs.Matching.{numbered_append}
-use Rattle.fib_taps.specs.Taps.{Pairs, Takes, TakesSome}
-use Rattle.fib_taps.proofs.Moves.{Takes-none, Takes-more, Takes-cut}
+use Rattle.fib_worker_crew.specs.Packets.{Matched, span}
+use Rattle.fib_worker_crew.specs.Results.{numbered}
+use Rattle.fib_worker_crew.proofs.Matching.{numbered_append}
+use Rattle.fib_rounds_taps.specs.Taps.{Pairs, Takes, TakesSome}
+use Rattle.fib_rounds_taps.proofs.Moves.{Takes-none, Takes-more, Takes-cut}
 
 -- a round takes the packets from one place up to another; the others are later ones
 pub numbered_round : (P : ℕ → ℕ → Record → Type 0) (ps : List Packet) (first to : ℕ) (mine later : List Record) → first ≤ to → to ≤ length ps → Matched P (span ps first to) mine

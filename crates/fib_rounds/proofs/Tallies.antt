@@ -4,17 +4,17 @@ use Rattle.std.specs.Prelude.{take, drop}
 use Rattle.std.specs.List.{count_by, AllByRecursion}
 use Rattle.std.proofs.lemmas.List.Sums.{sum_by-append}
 use Rattle.std.proofs.lemmas.List.{append-nil}
-use Rattle.fib_list.proofs.Lists.{either}
+use Rattle.fib_base_list.proofs.Lists.{either}
 use Rattle.fib_resolve.specs.Resolution.{resolve}
 use Rattle.fib_resolve.specs.declared.types.Tables.{Tables}
 use Rattle.fib_resolve.specs.declared.types.End.{End}
 use Rattle.fib_resolve.specs.declared.types.End.TheVariants as ends
-use Rattle.fib_results.specs.declared.record.Record.{Record}
+use Rattle.fib_core_results.specs.declared.record.Record.{Record}
 use Rattle.fib_capture.specs.Captures.{Capture}
 use Rattle.fib_capture.specs.declared.packet.Packet.{Packet}
 use Rattle.fib_capture.specs.declared.packet.Packet.TheVariants.{Flow, NotIpv4, BadHeader}
-use Rattle.fib_turns.specs.Routers.{Router, new_router}
-use Rattle.fib_turns.specs.Turns.{turn_of, asks, end_turn}
+use Rattle.fib_rounds_turns.specs.Routers.{Router, new_router}
+use Rattle.fib_rounds_turns.specs.Turns.{turn_of, asks, end_turn}
 use Rattle.fib_resolve.specs.Tables.{fresh}
 use Rattle.fib_rounds.specs.declared.summary.Summary.{Summary}
 use Rattle.fib_rounds.specs.Stages.{Round, first_round, next_packet, opened_by}

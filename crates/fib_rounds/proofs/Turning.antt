@@ -8,9 +8,9 @@ use Rattle.fib_resolve.specs.declared.types.Tables.{Tables}
 use Rattle.fib_commands.specs.Lines.{line_of}
 use Rattle.fib_commands.specs.declared.types.Line.{Line}
 use Rattle.fib_commands.specs.declared.types.Line.TheVariants as lines
-use Rattle.fib_turns.specs.declared.progress.Batch.{Batch}
-use Rattle.fib_turns.specs.Routers.{Router, with_batch}
-use Rattle.fib_turns.specs.Turns.{Turn, by_refusal, change_turn, alone, by_first_refused, commit_turn, within, turn_in, turn_of, asks_in, asks, left_turn, end_turn, refusal_turn, change_line, change_turn_of}
+use Rattle.fib_rounds_turns.specs.declared.progress.Batch.{Batch}
+use Rattle.fib_rounds_turns.specs.Routers.{Router, with_batch}
+use Rattle.fib_rounds_turns.specs.Turns.{Turn, by_refusal, change_turn, alone, by_first_refused, commit_turn, within, turn_in, turn_of, asks_in, asks, left_turn, end_turn, refusal_turn, change_line, change_turn_of}
 use Rattle.fib_print.specs.Lines.{batch_text}
 use Rattle.fib_print.specs.declared.lines.BatchFault.TheVariants as faults
 

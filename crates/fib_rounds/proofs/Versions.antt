@@ -12,9 +12,9 @@ use Rattle.fib_resolve.specs.declared.types.Tables.{Tables}
 use Rattle.fib_commands.specs.Lines.{line_of}
 use Rattle.fib_commands.specs.declared.types.Line.{Line}
 use Rattle.fib_commands.specs.declared.types.Line.TheVariants as lines
-use Rattle.fib_turns.specs.declared.progress.Batch.{Batch}
-use Rattle.fib_turns.specs.Routers.{Router, with_batch}
-use Rattle.fib_turns.specs.Turns.{Turn, by_refusal, change_turn, alone, by_first_refused, commit_turn, within, turn_in, turn_of}
+use Rattle.fib_rounds_turns.specs.declared.progress.Batch.{Batch}
+use Rattle.fib_rounds_turns.specs.Routers.{Router, with_batch}
+use Rattle.fib_rounds_turns.specs.Turns.{Turn, by_refusal, change_turn, alone, by_first_refused, commit_turn, within, turn_in, turn_of}
 use Rattle.fib_rounds.specs.Stages.{Stage, after_line, grown, start}
 use Rattle.fib_rounds.specs.Runs.{stage_after}
 use Rattle.fib_rounds.specs.History.{Begun, HistoryIsOfChanges, RunHasHistory, Tried, by_made, changes_in, tried_alone, tried_in, tried_within, versions}

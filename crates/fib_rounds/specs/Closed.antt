@@ -9,8 +9,8 @@ use Rattle.fib_resolve.specs.declared.types.End.TheVariants as ends
 use Rattle.fib_capture.specs.Captures.{Capture}
 use Rattle.fib_capture.specs.declared.packet.Packet.{Packet}
 use Rattle.fib_capture.specs.declared.packet.Packet.TheVariants.{Flow, NotIpv4, BadHeader}
-use Rattle.fib_turns.specs.Routers.{Router, new_router}
-use Rattle.fib_turns.specs.Turns.{turn_of, asks}
+use Rattle.fib_rounds_turns.specs.Routers.{Router, new_router}
+use Rattle.fib_rounds_turns.specs.Turns.{turn_of, asks}
 use Rattle.fib_rounds.specs.declared.summary.Summary.{Summary}
 use Rattle.fib_rounds.specs.Stages.{Round, first_round, opened_by}
 use Rattle.fib_rounds.specs.Frozen.{by_asked}

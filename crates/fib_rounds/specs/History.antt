@@ -4,13 +4,13 @@ use Rattle.fib_resolve.specs.Tables.{fresh}
 use Rattle.fib_resolve.specs.Refusals.{FirstRefused, edited_in_turn}
 use Rattle.fib_resolve.specs.declared.types.Edit.{Edit}
 use Rattle.fib_resolve.specs.declared.types.Tables.{Tables}
-use Rattle.fib_results.specs.declared.record.Record.{Record}
+use Rattle.fib_core_results.specs.declared.record.Record.{Record}
 use Rattle.fib_capture.specs.Captures.{Capture}
 use Rattle.fib_commands.specs.Lines.{line_of}
 use Rattle.fib_commands.specs.declared.types.Line.{Line}
 use Rattle.fib_commands.specs.declared.types.Line.TheVariants as lines
 use Rattle.fib_control.specs.Controls.{Control}
-use Rattle.fib_turns.specs.Routers.{history_in}
+use Rattle.fib_rounds_turns.specs.Routers.{history_in}
 use Rattle.fib_rounds.specs.Stages.{start}
 use Rattle.fib_rounds.specs.Runs.{HasRunOn, stage_after}
 

@@ -1,9 +1,9 @@
 -- The packets of a round, and what their lines print.
 use Rattle.std.specs.Prelude.{ℕ, ◌≡◌, ◌+◌, ◌++◌, ◌∷◌, [], List, Option, Some, None}
 use Rattle.fib_resolve.specs.declared.types.Tables.{Tables}
-use Rattle.fib_results.specs.declared.record.Record.{Record}
-use Rattle.fib_results.specs.Trails.{AtLeast, version_at, IsRecordOk, settled_answer}
-use Rattle.fib_results.specs.Steady.{IsSteady}
+use Rattle.fib_core_results.specs.declared.record.Record.{Record}
+use Rattle.fib_core_results.specs.Trails.{AtLeast, version_at, IsRecordOk, settled_answer}
+use Rattle.fib_core_results.specs.Steady.{IsSteady}
 use Rattle.fib_print.specs.Packets.{packet_text, not_ipv4_text, bad_header_text, cut_text}
 use Rattle.fib_capture.specs.declared.packet.Packet.{Packet}
 use Rattle.fib_capture.specs.declared.packet.Packet.TheVariants.{Flow, NotIpv4, BadHeader}

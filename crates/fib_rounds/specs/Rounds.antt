@@ -1,16 +1,16 @@
 -- What a part of a run leaves to be printed and counted.
 use Rattle.std.specs.Prelude.{ℕ, ◌≡◌, ◌≤◌, ◌==◌, ◌+◌, ◌-◌, ◌++◌, length, min, ◌∷◌, [], List, Bool, true, false, Option, Some, None, if◌then◌else◌, drop}
 use Rattle.fib_resolve.specs.declared.types.Tables.{Tables}
-use Rattle.fib_results.specs.declared.record.Record.{Record}
+use Rattle.fib_core_results.specs.declared.record.Record.{Record}
 use Rattle.fib_capture.specs.Captures.{Capture}
 use Rattle.fib_capture.specs.declared.packet.Packet.{Packet}
 use Rattle.fib_control.specs.Controls.{Control}
-use Rattle.fib_turns.specs.Routers.{Progress, Router, history_in, router_of}
-use Rattle.fib_turns.specs.Turns.{asks, end_turn}
+use Rattle.fib_rounds_turns.specs.Routers.{Progress, Router, history_in, router_of}
+use Rattle.fib_rounds_turns.specs.Turns.{asks, end_turn}
 use Rattle.fib_rounds.specs.declared.opening.Opening.{Opening}
 use Rattle.fib_rounds.specs.declared.summary.Summary.{Summary}
 use Rattle.fib_rounds.specs.Stages.{Stage, Round}
-use Rattle.fib_crew.specs.Packets.{span}
+use Rattle.fib_worker_crew.specs.Packets.{span}
 use Rattle.fib_rounds.specs.Packets.{last_text}
 use Rattle.fib_rounds.specs.Output.{Prints}
 use Rattle.fib_rounds.specs.Summaries.{counted, with_router}

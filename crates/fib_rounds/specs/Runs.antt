@@ -2,19 +2,19 @@
 use Rattle.std.specs.Prelude.{◌≡◌, ℕ, ◌+◌, ◌-◌, ◌^◌, ◌<◌, ◌++◌, ◌∷◌, [], List, Option, length, slice_index}
 use Rattle.fib_outside.specs.Outside.{Appends}
 use Rattle.fib_resolve.specs.Tables.{fresh}
-use Rattle.fib_results.specs.Trails.{version_at}
-use Rattle.fib_results.specs.declared.record.Record.{Record}
+use Rattle.fib_core_results.specs.Trails.{version_at}
+use Rattle.fib_core_results.specs.declared.record.Record.{Record}
 use Rattle.fib_core.specs.Trails.{Trail}
-use Rattle.fib_lawful.specs.State.{left_of}
+use Rattle.fib_core_lawful.specs.State.{left_of}
 use Rattle.fib_control.specs.Controls.{Control}
-use Rattle.fib_crew.specs.Results.{numbered}
-use Rattle.fib_homing.specs.Homes.{HasGathered, NoneOut}
-use Rattle.fib_taps.specs.Taps.{Pairs, Takes, TakesSome}
-use Rattle.fib_turns.specs.Routers.{applied_in, history_in}
+use Rattle.fib_worker_crew.specs.Results.{numbered}
+use Rattle.fib_rounds_homing.specs.Homes.{HasGathered, NoneOut}
+use Rattle.fib_rounds_taps.specs.Taps.{Pairs, Takes, TakesSome}
+use Rattle.fib_rounds_turns.specs.Routers.{applied_in, history_in}
 use Rattle.fib_rounds.specs.Output.{OutputWith}
 use Rattle.fib_rounds.specs.Writes.{AppendsSome}
 use Rattle.fib_capture.specs.Captures.{Capture}
-use Rattle.fib_turns.specs.Turns.{asks}
+use Rattle.fib_rounds_turns.specs.Turns.{asks}
 use Rattle.fib_rounds.specs.Stages.{Stage, start, after_line, Round, first_round, opened_by}
 use Rattle.fib_rounds.specs.Frozen.{by_asked}
 

@@ -4,10 +4,10 @@ use Rattle.fib_resolve.specs.Tables.{fresh}
 use Rattle.fib_resolve.specs.declared.types.Tables.{Tables}
 use Rattle.fib_resolve.specs.declared.types.End.{End}
 use Rattle.fib_resolve.specs.declared.types.End.TheVariants as ends
-use Rattle.fib_results.specs.declared.record.Record.{Record}
+use Rattle.fib_core_results.specs.declared.record.Record.{Record}
 use Rattle.fib_capture.specs.Captures.{Capture}
-use Rattle.fib_turns.specs.Routers.{Router, new_router}
-use Rattle.fib_turns.specs.Turns.{turn_of, asks, end_turn}
+use Rattle.fib_rounds_turns.specs.Routers.{Router, new_router}
+use Rattle.fib_rounds_turns.specs.Turns.{turn_of, asks, end_turn}
 use Rattle.fib_rounds.specs.declared.summary.Summary.{Summary}
 use Rattle.fib_rounds.specs.Stages.{Round, first_round, opened_by}
 use Rattle.fib_rounds.specs.Packets.{answers}

@@ -1,11 +1,11 @@
 -- What was written.
 use Rattle.std.specs.Prelude.{ℕ, ◌≡◌, ◌+◌, ◌-◌, ◌∷◌, [], List, Option, Some, None, take, min}
 use Rattle.fib_capture.specs.declared.packet.Packet.{Packet}
-use Rattle.fib_crew.specs.Packets.{IsOf, Matched, span}
-use Rattle.fib_crew.specs.Results.{Kept, numbered, results_of}
+use Rattle.fib_worker_crew.specs.Packets.{IsOf, Matched, span}
+use Rattle.fib_worker_crew.specs.Results.{Kept, numbered, results_of}
 use Rattle.fib_outside.specs.Outside.{Appends}
-use Rattle.fib_taps.specs.declared.tap.TapFault.{TapFault}
-use Rattle.fib_taps.specs.declared.tap.TapFault.TheVariants as taps
+use Rattle.fib_rounds_taps.specs.declared.tap.TapFault.{TapFault}
+use Rattle.fib_rounds_taps.specs.declared.tap.TapFault.TheVariants as taps
 use Rattle.fib_rounds.specs.declared.fault.RunFault.{RunFault}
 use Rattle.fib_rounds.specs.declared.fault.RunFault.TheVariants as runs
 

@@ -1,12 +1,12 @@
 // The counts of a round that closes.
 ghost use Rattle.std.specs.Prelude.{◌≡◌, ◌+◌, ◌-◌, ◌<◌, ◌≤◌, ◌^◌, ℕ, length};
-ghost use Rattle.fib_crew.specs.Results.{results_of};
+ghost use Rattle.fib_worker_crew.specs.Results.{results_of};
 ghost use Rattle.fib_rounds.specs.Summaries.{with_end, with_ends};
 ghost use Rattle.fib_rounds.specs.Counts.{IsSmall};
 
 use crate::summary::Summary;
+use fib_core_results::Record;
 use fib_resolve::End;
-use fib_results::Record;
 
 // One more packet of that end.
 fn count_end(counts: &mut Summary, end: &End)

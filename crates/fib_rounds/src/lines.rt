@@ -1,14 +1,14 @@
 // The lines of a round.
 ghost use Rattle.std.specs.Prelude.{◌≡◌, ◌≤◌, length, drop, IfOk};
-ghost use Rattle.fib_turns.specs.Routers.{KeepsCrew, applied_in, router_of};
+ghost use Rattle.fib_rounds_turns.specs.Routers.{KeepsCrew, applied_in, router_of};
 ghost use Rattle.fib_rounds.specs.Stages.{IsHistory};
 ghost use Rattle.fib_rounds.specs.Rounds.{GoesOn, StopsAt, lines_run, stage_of};
 
-use fib_board::Board;
 use fib_commands::Script;
 use fib_control::Control;
+use fib_core_board::Board;
 use fib_outside::Gate;
-use fib_turns::{Means, Progress, run_line};
+use fib_rounds_turns::{Means, Progress, run_line};
 use std::alloc::AllocError;
 use std::sync::Wait;
 
@@ -21,7 +21,7 @@ pub struct Stop {
 }
 
 /// Runs the lines from a place up to the next one that asks for packets. So many lines were run before.
-#[tactic(auto, using(fib_turns::proofs::Keeping::keeps_then))]
+#[tactic(auto, using(fib_rounds_turns::proofs::Keeping::keeps_then))]
 pub fn run_lines<R: Wait, G: Gate, B: Board>(
     means: &Means<'_, R, G>,
     control: &mut Control<B>,

@@ -1,22 +1,22 @@
 // What a run writes.
 ghost use Rattle.std.specs.Prelude.{◌≡◌, ◌<◌, ◌≤◌, ◌+◌, ◌++◌, ◌⊎◌, ℕ, length, OnOk, OnErr, IsErrOf};
 ghost use Rattle.fib_outside.specs.Outside.{HasRisen, Appends};
-ghost use Rattle.fib_crew.specs.Packets.{span};
-ghost use Rattle.fib_crew.specs.Results.{numbered, results_of};
-ghost use Rattle.fib_homing.specs.Places.{joined, parts_of};
-ghost use Rattle.fib_taps.specs.Taps.{Takes, TakesSome};
+ghost use Rattle.fib_worker_crew.specs.Packets.{span};
+ghost use Rattle.fib_worker_crew.specs.Results.{numbered, results_of};
+ghost use Rattle.fib_rounds_homing.specs.Places.{joined, parts_of};
+ghost use Rattle.fib_rounds_taps.specs.Taps.{Takes, TakesSome};
 ghost use Rattle.fib_rounds.specs.Packets.{packets_text, last_text};
 ghost use Rattle.fib_rounds.specs.Writes.{AppendsSome, AreLaid};
 
 use crate::fault::RunFault;
 use crate::opening::Opening;
 use fib_capture::{Capture, Packet};
-use fib_crew::Results;
+use fib_core_results::Record;
 use fib_outside::{Failed, Sink};
 use fib_print::{put_bad_header, put_cut, put_not_ipv4, put_packet};
 use fib_resolve::Tables;
-use fib_results::Record;
-use fib_taps::{Tap, take_all};
+use fib_rounds_taps::{Tap, take_all};
+use fib_worker_crew::Results;
 use std::alloc::AllocError;
 
 /// What the lines of packets are printed from: the tables at the close of their round, and the capture.
@@ -100,10 +100,12 @@ fn write_frame<K: Sink, T: Tap>(
     requires order { frame.from ≤ frame.to }
     requires inside { frame.to ≤ length page.now.packets.now.packets }
     ensures ok { OnOk result (Appends (K.written out.old) (K.written out.new)
-        (packets_text page.now.tables.now frame.from (span page.now.packets.now.packets frame.from frame.to) (results_of results.now.list))) }
+        (packets_text page.now.tables.now frame.from (span page.now.packets.now.packets frame.from frame.to)
+        (results_of results.now.list))) }
     ensures took { OnOk result (Takes (T.taken tap.old) (T.taken tap.new) results.now.list) }
     ensures err { OnErr result (AppendsSome (K.written out.old) (K.written out.new)
-        (packets_text page.now.tables.now frame.from (span page.now.packets.now.packets frame.from frame.to) (results_of results.now.list))) }
+        (packets_text page.now.tables.now frame.from (span page.now.packets.now.packets frame.from frame.to)
+        (results_of results.now.list))) }
     ensures took_some { OnErr result (TakesSome (T.taken tap.old) (T.taken tap.new) results.now.list) }
     ensures write { IsErrOf result RunFault.Write → HasRisen (K.faults out.old) (K.faults out.new)
         ⊎ HasRisen (T.faults tap.old) (T.faults tap.new) }
@@ -138,11 +140,13 @@ pub fn write_frames<K: Sink, T: Tap>(
     requires inside { round.to ≤ length page.now.packets.now.packets }
     requires laid { AreLaid page.now.packets.now.packets round.first round.to places.now }
     ensures ok { OnOk result (Appends (K.written out.old) (K.written out.new)
-        (packets_text page.now.tables.now round.first (span page.now.packets.now.packets round.first round.to) (joined (parts_of places.now)))) }
+        (packets_text page.now.tables.now round.first (span page.now.packets.now.packets round.first round.to)
+        (joined (parts_of places.now)))) }
     ensures took { OnOk result (Takes (T.taken tap.old) (T.taken tap.new)
         (numbered round.first (span page.now.packets.now.packets round.first round.to) (joined (parts_of places.now)))) }
     ensures err { OnErr result (AppendsSome (K.written out.old) (K.written out.new)
-        (packets_text page.now.tables.now round.first (span page.now.packets.now.packets round.first round.to) (joined (parts_of places.now)))) }
+        (packets_text page.now.tables.now round.first (span page.now.packets.now.packets round.first round.to)
+        (joined (parts_of places.now)))) }
     ensures took_some { OnErr result (TakesSome (T.taken tap.old) (T.taken tap.new)
         (numbered round.first (span page.now.packets.now.packets round.first round.to) (joined (parts_of places.now)))) }
     ensures write { IsErrOf result RunFault.Write → HasRisen (K.faults out.old) (K.faults out.new)

@@ -1,14 +1,13 @@
 // One round.
 ghost use Rattle.std.specs.Prelude.{◌≡◌, ◌<◌, ◌≤◌, ◌+◌, ◌-◌, ◌^◌, ◌++◌, [], ℕ, All, length, drop, IfOk, IfSome, OnOk, Some};
-ghost use Rattle.fib_board.specs.Boards.{Board};
+ghost use Rattle.fib_core_board.specs.Boards.{Board};
 ghost use Rattle.fib_control.specs.Controls.{Control as ControlValue, tables_in};
-ghost use Rattle.fib_crew.specs.Frames.{frames};
-ghost use Rattle.fib_crew.specs.Packets.{span};
-ghost use Rattle.fib_homing.specs.Homes.{IsHome, NoneOut};
-ghost use Rattle.fib_homing.specs.Places.{AreFilled, joined, parts_of, results_at};
-ghost use Rattle.fib_homing.specs.Stations.{AreBack, IsCrew, IsReady};
-ghost use Rattle.fib_turns.specs.Routers.{KeepsCrew, applied_in, history_in, router_of};
-ghost use Rattle.fib_turns.specs.Changes.{Stays};
+ghost use Rattle.fib_worker_crew.specs.Packets.{span};
+ghost use Rattle.fib_rounds_homing.specs.Homes.{IsHome, NoneOut};
+ghost use Rattle.fib_rounds_homing.specs.Places.{AreFilled, joined, parts_of, results_at};
+ghost use Rattle.fib_rounds_homing.specs.Stations.{AreBackFrom, IsCrew, IsReadyFor};
+ghost use Rattle.fib_rounds_turns.specs.Routers.{KeepsCrew, applied_in, history_in, router_of};
+ghost use Rattle.fib_rounds_turns.specs.Changes.{Stays};
 ghost use Rattle.fib_rounds.specs.Counts.{IsSmall};
 ghost use Rattle.fib_rounds.specs.Packets.{packets_text};
 ghost use Rattle.fib_rounds.specs.Stages.{IsHistory};
@@ -23,10 +22,10 @@ use crate::summary::Summary;
 use crate::task::{Reading, Task};
 use fib_cells::LiveBoard;
 use fib_control::Control;
-use fib_crew::{Results, Taken};
-use fib_homing::{Station, bring_home, forward_all, send_out};
 use fib_outside::Gate;
-use fib_turns::{Progress, finish};
+use fib_rounds_homing::{Station, bring_home, forward_all, send_out};
+use fib_rounds_turns::{Progress, finish};
+use fib_worker_crew::{Results, Taken};
 use std::alloc::{AllocError, Global};
 use std::sync::Wait;
 use std::thread::{Threads, join_mut};
@@ -57,13 +56,12 @@ fn beside<'a, 'b, R: Threads + Wait + Sync, G: Gate>(
 ) -> Result<Stop, AllocError>
     requires order { taken.first ≤ taken.to }
     requires packets { taken.to ≤ length task.now.packets.now.packets }
-    requires ready { All (IsReady taken.opened (frames (span task.now.packets.now.packets taken.first taken.to))) crew.old.items }
+    requires ready { All (IsReadyFor task.now.packets.now taken) crew.old.items }
     requires inside { from ≤ length task.now.script.now }
     requires lines { reading.old.progress.lines ≡ from }
     requires few { applied_in control.old ≤ from }
     ensures long { length crew.new.items ≡ length crew.old.items }
-    ensures back { (b : Board) → IsCrew b 0 crew.old.items → AreBack b.id b.rests taken.opened taken.first taken.base 0
-        (span task.now.packets.now.packets taken.first taken.to) crew.new.items }
+    ensures back { (b : Board) → IsCrew b 0 crew.old.items → AreBackFrom task.now.packets.now taken b crew.new.items }
     ensures on { IfOk result (λ stop. GoesOn task.now.script.now from
         (stage_of control.old reading.old.progress) reading.old.text.items stop.place
         (stage_of control.new reading.new.progress) reading.new.text.items) }
@@ -82,11 +80,10 @@ fn beside<'a, 'b, R: Threads + Wait + Sync, G: Gate>(
         task.rt,
         &mut || -> ()
             requires { (taken.first ≤ taken.to) × (taken.to ≤ length task.now.packets.now.packets)
-                × All (IsReady taken.opened (frames (span task.now.packets.now.packets taken.first taken.to))) crew.now.items }
+                × All (IsReadyFor task.now.packets.now taken) crew.now.items }
             ensures { (length crew.exit.now.items ≡ length crew.entry.now.items)
                 × ((b : Board) → IsCrew b 0 crew.entry.now.items
-                → AreBack b.id b.rests taken.opened taken.first taken.base 0
-                (span task.entry.now.packets.now.packets taken.first taken.to) crew.exit.now.items) }
+                → AreBackFrom task.entry.now.packets.now taken b crew.exit.now.items) }
         { forward_all(task.rt, task.alloc, task.packets, taken, task.gate, crew) },
         &mut || -> Result<Stop, AllocError>
             requires { (from ≤ length task.now.script.now) × (reading.now.progress.lines ≡ from) × (applied_in control.now ≤ from) }
@@ -133,7 +130,8 @@ fn forward_round<'a, R: Threads + Wait + Sync, G: Gate>(
     requires short { round.place ≤ 65535 }
     ensures none { NoneOut control.new.plane.board }
     ensures ran { IfOk result
-        (λ f. HasForwardedRound task.now.script.now task.now.packets.now.packets round control.old reading.old.progress reading.old.text.items f.stop control.new reading.new.progress reading.new.text.items f.places.items) }
+        (λ f. HasForwardedRound task.now.script.now task.now.packets.now.packets round control.old reading.old.progress
+        reading.old.text.items f.stop control.new reading.new.progress reading.new.text.items f.places.items) }
 {
     let taken = Taken {
         opened: control.version().applied,
@@ -167,7 +165,8 @@ fn run_alone<R: Threads + Wait + Sync, G: Gate>(
     requires rests { (n : ℕ) × IsAtRest n round.place control.old }
     ensures none { NoneOut control.new.plane.board }
     ensures ran { IfOk result
-        (λ f. HasForwardedRound task.now.script.now task.now.packets.now.packets round control.old reading.old.progress reading.old.text.items f.stop control.new reading.new.progress reading.new.text.items f.places.items) }
+        (λ f. HasForwardedRound task.now.script.now task.now.packets.now.packets round control.old reading.old.progress
+        reading.old.text.items f.stop control.new reading.new.progress reading.new.text.items f.places.items) }
 {
     let stop = run_lines(
         &task.means(),
@@ -252,7 +251,8 @@ fn run_beside<'a, R: Threads + Wait + Sync, G: Gate>(
     requires short { round.place ≤ 65535 }
     ensures none { NoneOut control.new.plane.board }
     ensures ran { IfOk result
-        (λ f. HasForwardedRound task.now.script.now task.now.packets.now.packets round control.old reading.old.progress reading.old.text.items f.stop control.new reading.new.progress reading.new.text.items f.places.items) }
+        (λ f. HasForwardedRound task.now.script.now task.now.packets.now.packets round control.old reading.old.progress
+        reading.old.text.items f.stop control.new reading.new.progress reading.new.text.items f.places.items) }
 {
     if round.first == round.to {
         return run_alone(task, control, reading, round);

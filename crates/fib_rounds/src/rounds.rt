@@ -1,8 +1,8 @@
 // The rounds of a script.
 ghost use Rattle.std.specs.Prelude.{◌≡◌, ◌≤◌, ◌/◌, ◌⊎◌, OnOk, OnErr, IfOk, IsErrOf};
 ghost use Rattle.fib_outside.specs.Outside.{HasRisen};
-ghost use Rattle.fib_settings.specs.Ranges.{InRange};
-ghost use Rattle.fib_homing.specs.Homes.{NoneOut};
+ghost use Rattle.fib_core.specs.Ranges.{InRange};
+ghost use Rattle.fib_rounds_homing.specs.Homes.{NoneOut};
 ghost use Rattle.fib_rounds.specs.Output.{FirstOutput, Output};
 ghost use Rattle.fib_rounds.specs.Runs.{GainsPart, GainsRun, GainsTaken, IsNew};
 ghost use Rattle.fib_rounds.specs.Summaries.{summary_of};
@@ -18,10 +18,10 @@ use fib_capture::Capture;
 use fib_cells::{Cells, LiveBoard};
 use fib_commands::Script;
 use fib_control::Control;
+use fib_core::Settings;
 use fib_outside::{Gate, Sink};
-use fib_settings::Settings;
-use fib_taps::{NoTap, Tap};
-use fib_turns::Progress;
+use fib_rounds_taps::{NoTap, Tap};
+use fib_rounds_turns::Progress;
 use std::alloc::Global;
 use std::sync::Wait;
 use std::thread::Threads;

@@ -3,9 +3,9 @@ ghost use Rattle.std.specs.Prelude.{◌≡◌};
 
 use fib_capture::Capture;
 use fib_commands::Script;
+use fib_core::Settings;
 use fib_outside::Gate;
-use fib_settings::Settings;
-use fib_turns::{Means, Progress};
+use fib_rounds_turns::{Means, Progress};
 use std::alloc::Global;
 use std::sync::Wait;
 use std::thread::Threads;

@@ -3,7 +3,7 @@ use Rattle.std.proofs.Common.{arith, ◌≡◌, ◌∙◌, ℕ, zero, suc, ◌+�
 use Rattle.std.specs.Prelude.{take, drop}
 use Rattle.std.specs.List.{AllByRecursion}
 use Rattle.std.proofs.lemmas.List.{append_assoc, append-nil, length-take, length-drop}
-use Rattle.fib_list.proofs.Lists.{each-append}
+use Rattle.fib_base_list.proofs.Lists.{each-append}
 use Rattle.fib_resolve.specs.Tables.{fresh}
 use Rattle.fib_resolve.specs.Refusals.{refused}
 use Rattle.fib_resolve.specs.declared.types.Tables.{Tables}
@@ -22,9 +22,9 @@ use Rattle.fib_soak.proofs.Again.{script_again}
 use Rattle.fib_soak.proofs.Changing.{change_forms, forward_asks}
 use Rattle.fib_soak.proofs.Counts.{all_lines, all_flows, length-lines_for}
 use Rattle.fib_soak.proofs.Parts.{first_lines, first_state, script_parts, length-first, each-first, each-changes}
-use Rattle.fib_turns.specs.declared.progress.Batch.{Batch}
-use Rattle.fib_turns.specs.Routers.{Router, new_router}
-use Rattle.fib_turns.specs.Turns.{alone, by_refusal, change_turn, turn_in, turn_of, asks_in, asks, end_turn}
+use Rattle.fib_rounds_turns.specs.declared.progress.Batch.{Batch}
+use Rattle.fib_rounds_turns.specs.Routers.{Router, new_router}
+use Rattle.fib_rounds_turns.specs.Turns.{alone, by_refusal, change_turn, turn_in, turn_of, asks_in, asks, end_turn}
 use Rattle.fib_rounds.specs.declared.summary.Summary.{Summary}
 use Rattle.fib_rounds.specs.Stages.{Round, first_round, next_packet, opened_by}
 use Rattle.fib_rounds.specs.Summaries.{zero_counts, with_round, counted, summary_of}

@@ -1,8 +1,8 @@
 -- The script's text is read back to its lines.
 use Rattle.std.proofs.Common.{◌≡◌, ℕ, ◌+◌, ◌/◌, ◌%◌, ◌<◌, ◌^◌, ◌==◌, ◌∷◌, [], List, refl, arith, inl, inr}
-use Rattle.fib_list.proofs.Lists.{either}
+use Rattle.fib_base_list.proofs.Lists.{either}
 use Rattle.fib_addr.specs.Texts.{mac_number}
-use Rattle.fib_lines.specs.Lines.{lines_of}
+use Rattle.fib_base_lines.specs.Lines.{lines_of}
 use Rattle.fib_soak.specs.Draws.{draw, next, after_2, after_3}
 use Rattle.fib_soak.specs.Scripts.{create_line, up_line, address_line, neighbor_start, neighbor_mac, neighbor_line, target_line, route_line, state_line, drawn_route_line, deletion_line, path_line, change_of, change_line, soak_lines, soak_script}
 use Rattle.fib_soak.proofs.Clean.{IsClean, clean_append, decimal_clean, number_then, mac_clean, lines_again}

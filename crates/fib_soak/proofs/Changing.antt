@@ -1,10 +1,10 @@
 -- The lines of the script but those that forward are changes, or no lines of the grammar.
 use Rattle.std.proofs.Common.{◌≡◌, ℕ, ◌+◌, ◌/◌, ◌%◌, ◌==◌, ◌++◌, ◌∷◌, List, Bool, false, Option, Some, None, ◌⊎◌, inl, inr, refl}
 use Rattle.std.specs.Prelude.{codes, decimal, slice_index, if◌then◌else◌}
-use Rattle.fib_list.proofs.Lists.{either}
+use Rattle.fib_base_list.proofs.Lists.{either}
 use Rattle.fib_addr.specs.Texts.{◌>>=◌, address_of, mac_of, number_of}
-use Rattle.fib_lines.specs.Lines.{is_plain}
-use Rattle.fib_lines.specs.LineWords.{words_of}
+use Rattle.fib_base_lines.specs.Lines.{is_plain}
+use Rattle.fib_base_lines.specs.LineWords.{words_of}
 use Rattle.fib_commands.specs.declared.types.Line.{Line}
 use Rattle.fib_commands.specs.Names.{Words, word, keyword, finished, name_of}
 use Rattle.fib_commands.specs.Lines.{create_of, flag_of, state_of, own_address_of, last_mac_of, address_words, add_address_of, del_address_of, neighbor_words, set_neighbor_of, del_neighbor_of, some_route_of, route_of, add_route_of, del_route_of, either_of, forms, set_forms, route_forms, api_add_of, api_del_of, show_fib_of, show_lists_of, show_adj_of, reading_of, lookup_of, forward_of, line_of}

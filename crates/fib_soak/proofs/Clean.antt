@@ -9,10 +9,10 @@ use Rattle.std.proofs.lemmas.Fmt.{digits_decimal}
 use Rattle.std.proofs.lemmas.List.{append_assoc}
 use Rattle.std.proofs.lemmas.List.Folds.{list_all-append}
 use Rattle.std.proofs.lemmas.List.Splits.{slice_split_at, length-slice_split}
-use Rattle.fib_list.proofs.Booleans.{and_both}
+use Rattle.fib_base_list.proofs.Booleans.{and_both}
 use Rattle.fib_addr.proofs.Reading.{model}
 use Rattle.fib_addr.specs.Texts.{hex_digit, pair_text, three_text, mac_text}
-use Rattle.fib_lines.specs.Lines.{is_plain_byte, is_plain, is_line_feed, without_return, without_empty_end, lines_of}
+use Rattle.fib_base_lines.specs.Lines.{is_plain_byte, is_plain, is_line_feed, without_return, without_empty_end, lines_of}
 use Rattle.fib_soak.specs.Scripts.{text_of}
 use Rattle.fib_soak.proofs.Texts.{text_none, text_cons}
 

@@ -1,7 +1,7 @@
 -- What holds of each form of a line holds of each line of the script.
 use Rattle.std.proofs.Common.{◌≡◌, ℕ, zero, suc, ◌/◌, ◌%◌, ◌<◌, ◌++◌, ◌∷◌, [], List, length, refl, arith, length-append}
 use Rattle.std.specs.List.{AllByRecursion}
-use Rattle.fib_list.proofs.Lists.{each-append}
+use Rattle.fib_base_list.proofs.Lists.{each-append}
 use Rattle.fib_soak.specs.Draws.{draw, next, repeated, after_4}
 use Rattle.fib_soak.specs.Scripts.{create_line, up_line, address_line, neighbor_line, target_line, route_line, change_line, after_change, after_round, forward_line, lines_for, interface_lines, interfaces, neighbors, targets, routes, changes, round_lines, rounds, soak_lines}
 use Rattle.fib_soak.proofs.Counts.{length-lines_for, length-interfaces}

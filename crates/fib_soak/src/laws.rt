@@ -2,7 +2,7 @@
 ghost use Rattle.std.specs.Prelude.{◌≡◌, ℕ, length};
 ghost use Rattle.fib_soak.specs.Kinds.{LinesAreChanges};
 ghost use Rattle.fib_soak.specs.Flows.{soak_flows};
-ghost use Rattle.fib_lines.specs.Lines.{lines_of};
+ghost use Rattle.fib_base_lines.specs.Lines.{lines_of};
 ghost use Rattle.fib_soak.specs.Scripts.{soak_lines, soak_script};
 
 /// Every script has 2,988 lines.

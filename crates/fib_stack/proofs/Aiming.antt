@@ -2,8 +2,8 @@
 use Rattle.std.proofs.Common.{inl, inr, ◌≡◌, ℕ, zero, suc, ◌<◌, Bool, true, false, ◌&&◌, ◌||◌, cond, eq-eqb, List, [], ◌∷◌, refl, sym, ap, ◌∙◌, arith}
 use Rattle.std.specs.Prelude.{Contains, ◌⊎◌, Option, Some, None, IfSome, slice_get, filter, option_to_list, map, ◌==◌}
 use Rattle.std.specs.List.{AllByRecursion}
-use Rattle.fib_list.proofs.Lists.{each-filter, each-weaker, each-flat_map, each-at}
-use Rattle.fib_list.proofs.Booleans.{or_left, or_right, and_both}
+use Rattle.fib_base_list.proofs.Lists.{each-filter, each-weaker, each-flat_map, each-at}
+use Rattle.fib_base_list.proofs.Booleans.{or_left, or_right, and_both}
 use Rattle.fib_addr.specs.Prefixes.{Prefix, same_prefix}
 use Rattle.fib_addr.proofs.PrefixLaws.{same_prefix-Decides}
 use Rattle.fib_buckets.specs.Shares.{buckets}
@@ -16,10 +16,10 @@ use Rattle.fib_resolve.specs.declared.aims.Marked.{Marked}
 use Rattle.fib_resolve.specs.declared.types.End.{End}
 use Rattle.fib_resolve.specs.declared.types.End.TheVariants as answers
 use Rattle.fib_resolve.specs.declared.types.Tables.{Tables}
-use Rattle.fib_changes.specs.Ranks.{leads_on, is_usable_mark, is_aimed_at, counts_on, IsRanked}
-use Rattle.fib_changes.specs.Wanted.{least_mark, of_least_mark, spread_marks, aim_of, aim_by}
-use Rattle.fib_serving.specs.Kept.{same_end}
-use Rattle.fib_woken.proofs.Woken.{and_join, self_same}
+use Rattle.fib_resolve_changes.specs.Ranks.{leads_on, is_usable_mark, is_aimed_at, counts_on, IsRanked}
+use Rattle.fib_resolve_changes.specs.Wanted.{least_mark, of_least_mark, spread_marks, aim_of, aim_by}
+use Rattle.fib_core_promise.specs.Kept.{same_end}
+use Rattle.fib_stack_waking.proofs.Woken.{and_join, self_same}
 use Rattle.fib_stack.specs.States.{ends_there, has_hop, forwards_by}
 
 leads_agree : (f g : Prefix → Bool) (b : Bool) (m : Aim) → ((t : Prefix) → b && is_aimed_at t m ≡ true → f t ≡ g t) → b && leads_on f m ≡ b && leads_on g m

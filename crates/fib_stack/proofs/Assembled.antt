@@ -16,26 +16,27 @@ use Rattle.fib_resolve.specs.declared.types.End.TheVariants as answers
 use Rattle.fib_resolve.specs.declared.types.Tables.{Tables}
 use Rattle.fib_core.specs.declared.word.Word.{Word}
 use Rattle.fib_pool.specs.declared.object.AdjacencyRecord.{AdjacencyRecord}
-use Rattle.fib_changes.specs.Ranks.{counts_on, is_usable_mark, wakes, IsRanked}
-use Rattle.fib_changes.specs.Wanted.{aim_by, aim_of, of_least_mark, spread_marks}
-use Rattle.fib_changes.proofs.MarkLaws.{aim_is}
-use Rattle.fib_ledger.specs.declared.ledger.Known.{Known}
-use Rattle.fib_ledger.specs.declared.ledger.Use.{Use}
-use Rattle.fib_ledger.specs.Deferred.{late_at}
-use Rattle.fib_ledger.specs.Ledgers.{forwarded_by, record_used, same_record, times, used_by}
-use Rattle.fib_serving.specs.Kept.{same_end}
-use Rattle.fib_serving.specs.Stack.{Objects, aim_word, is_some}
-use Rattle.fib_joined.specs.declared.put.Put.{Put}
-use Rattle.fib_joined.specs.declared.put.Put.TheVariants as puts
-use Rattle.fib_joined.specs.Promise.{Promise}
-use Rattle.fib_joined.specs.View.{View, IsBalance}
+use Rattle.fib_resolve_changes.specs.Ranks.{counts_on, is_usable_mark, wakes, IsRanked}
+use Rattle.fib_resolve_changes.specs.Wanted.{aim_by, aim_of, of_least_mark, spread_marks}
+use Rattle.fib_resolve_changes.proofs.MarkLaws.{aim_is}
+use Rattle.fib_stack_ledger.specs.declared.ledger.Known.{Known}
+use Rattle.fib_stack_ledger.specs.declared.ledger.Use.{Use}
+use Rattle.fib_stack_ledger.specs.Deferred.{late_at}
+use Rattle.fib_stack_ledger.specs.Ledgers.{forwarded_by, record_used, same_record, times, used_by}
+use Rattle.fib_core_promise.specs.Kept.{same_end}
+use Rattle.fib_core_promise.specs.Stack.{Objects, aim_word, is_some}
+use Rattle.fib_plane_view.specs.declared.put.Put.{Put}
+use Rattle.fib_plane_view.specs.declared.put.Put.TheVariants as puts
+use Rattle.fib_plane_view.specs.Promise.{Promise}
+use Rattle.fib_plane_view.specs.View.{View, IsBalance}
 use Rattle.fib_stack.specs.Buckets.{recorded}
 use Rattle.fib_stack.specs.Joined.{Parts, IsLaid, balance_in, holds_by, queued_in, state_in, was_by}
 use Rattle.fib_stack.specs.Records.{AreObjects, end_used, holds_in, record_for, records_for}
 use Rattle.fib_stack.specs.Runs.{word_in, put_in, Settled, IsFilled, deferred_at, late_word}
 use Rattle.fib_stack.specs.States.{Fits, Kept, ends_there, has_hop, is_recorded}
 use Rattle.fib_stack.specs.Steps.{IsLeast, Restacked}
-use Rattle.fib_stack.specs.Turns.{IsReadied, IsFinished, IsRestacked, found_in, names_for}
+use Rattle.fib_stack.specs.Calls.{GivesOnly, TakesOnly}
+use Rattle.fib_stack.specs.Turns.{HasRun, IsReadied, IsFinished, IsRestacked, found_in, names_for}
 use Rattle.fib_stack.proofs.Aiming.{aim_agree, forwards_agree}
 use Rattle.fib_stack.proofs.Filled.{filled_by, settled_at}
 use Rattle.fib_stack.proofs.Keeping.{prefix_discrete, was_true, word_same}
@@ -282,8 +283,15 @@ module _ (S : Tables) (rank : Prefix → ℕ) (p : Promise) (v0 v2 v3 v4 v5 : Vi
   is_restacked = record {
     object = o;
     turn = restacked;
-    run = record { before = v2; after = v3; wanted = ws; answers = gave; puts = d.puts; words = word_is; late = d.late };
   }
+
+  -- and its puts are a run, whatever the plane was before it took what it needs
+  pub has_run : (u : View) → TakesOnly u v2 → GivesOnly v3 v5 → HasRun S e u v5 (state_in v5 t)
+  has_run u took given = (
+    o,
+    d.balance,
+    record { before = v2; taken = took; wanted = ws; answers = gave; after = v3; puts = d.puts; given = given; words = word_is; late = d.late },
+  )
 
   objects_there : (c : Prefix) → AreObjects v5 (used_by (t.known c))
   objects_there c = dite (prefix_discrete c e)

@@ -6,18 +6,18 @@ use Rattle.fib_resolve.specs.Aims.{marked_list}
 use Rattle.fib_resolve.specs.Touched.{differ}
 use Rattle.fib_resolve.specs.declared.types.Tables.{Tables}
 use Rattle.fib_pool.specs.declared.object.AdjacencyRecord.{AdjacencyRecord}
-use Rattle.fib_changes.specs.Ranks.{IsRanked, is_usable_mark, wakes}
-use Rattle.fib_changes.specs.Wanted.{of_least_mark, spread_marks}
-use Rattle.fib_ledger.specs.Ledgers.{record_used}
-use Rattle.fib_steady.specs.Names.{Names}
-use Rattle.fib_joined.specs.Frames.{IsQuiet}
-use Rattle.fib_joined.specs.Promise.{Promise, Serves}
-use Rattle.fib_joined.specs.View.{View, HasRoom, IsBalance}
+use Rattle.fib_resolve_changes.specs.Ranks.{IsRanked, is_usable_mark, wakes}
+use Rattle.fib_resolve_changes.specs.Wanted.{of_least_mark, spread_marks}
+use Rattle.fib_stack_ledger.specs.Ledgers.{record_used}
+use Rattle.fib_core_steady.specs.Names.{Names}
+use Rattle.fib_plane_view.specs.Frames.{IsQuiet}
+use Rattle.fib_plane_view.specs.Promise.{Promise, Serves}
+use Rattle.fib_plane_view.specs.View.{View, HasRoom, IsBalance}
 use Rattle.fib_stack.specs.Joined.{Parts, balance_in, was_by}
 use Rattle.fib_stack.specs.Records.{TookAll, records_for}
 use Rattle.fib_stack.specs.States.{forwards_by}
 use Rattle.fib_stack.specs.Turns.{GotObject, IsReadied, IsTurnOf, IsUnderway}
-use Rattle.fib_woken.specs.Waking.{are_among, have_ranks}
+use Rattle.fib_stack_waking.specs.Waking.{are_among, have_ranks}
 use Rattle.fib_stack.specs.declared.stack.Plan.{Plan}
 use Rattle.fib_stack.proofs.Leaving.{quiet_then}
 use Rattle.fib_stack.proofs.Listing.{objects_kept}

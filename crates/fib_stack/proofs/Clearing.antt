@@ -11,11 +11,11 @@ use Rattle.fib_core.specs.declared.word.Word.{Word}
 use Rattle.fib_core.specs.declared.word.Word.TheVariants as words
 use Rattle.fib_pool.specs.declared.object.AdjacencyRecord.{AdjacencyRecord}
 use Rattle.fib_pool.specs.declared.object.Kind.TheVariants as kinds
-use Rattle.fib_steady.specs.Aims.{IsLasting}
-use Rattle.fib_steady.specs.Names.{Names}
-use Rattle.fib_steady.specs.Promise.{IsRight}
-use Rattle.fib_joined.specs.View.{View, Retired, Goes, IsLive, IsBalance, IsTaken, IsLetGo, IsScanned, TookRecord, GaveRecord, leads}
-use Rattle.fib_joined.specs.Promise.{Promise, IsBegun, IsWalked, IsEndWord, IsAimed, IsPromised, IsStill, Serves}
+use Rattle.fib_core_steady.specs.Aims.{IsLasting}
+use Rattle.fib_core_steady.specs.Names.{Names}
+use Rattle.fib_core_steady.specs.Promise.{IsRight}
+use Rattle.fib_plane_view.specs.View.{View, Retired, Goes, IsLive, IsBalance, IsTaken, IsLetGo, IsScanned, TookRecord, GaveRecord, leads}
+use Rattle.fib_plane_view.specs.Promise.{Promise, IsBegun, IsWalked, IsEndWord, IsAimed, IsPromised, IsStill, Serves}
 
 module _ (p : Promise) (n : Names) (u v : View)
     (edges : (y t d : ℕ) (z : Word) → leads z d → Goes v y t z → Goes u y t z)

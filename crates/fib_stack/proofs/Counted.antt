@@ -5,7 +5,7 @@ use Rattle.std.specs.List.{AllByRecursion}
 use Rattle.std.proofs.lemmas.List.{length-map, length-append}
 use Rattle.std.proofs.lemmas.List.Elements.{Contains-append_left, Contains-append_right}
 use Rattle.std.proofs.lemmas.Map.Made.{is_member-Decides}
-use Rattle.fib_list.proofs.Lists.{Contains-flat_map, each-append, each-map, either}
+use Rattle.fib_base_list.proofs.Lists.{Contains-flat_map, each-append, each-map, either}
 use Rattle.fib_addr.specs.Prefixes.{Prefix}
 use Rattle.fib_addr.proofs.PrefixLaws.{same_prefix-Decides}
 use Rattle.fib_reach.specs.Walks.{AllDiffer}
@@ -23,13 +23,13 @@ use Rattle.fib_resolve.specs.declared.types.PathKind.{PathKind}
 use Rattle.fib_resolve.specs.declared.types.PathKind.TheVariants as kinds
 use Rattle.fib_resolve.specs.declared.types.Tables.{Tables}
 use Rattle.fib_resolve.proofs.Covering.{unique_in}
-use Rattle.fib_changes.specs.Ranks.{IsRanked, has_entry}
-use Rattle.fib_changes.proofs.CauseLaws.{any_from}
-use Rattle.fib_changes.proofs.SamePairs.{map_from}
+use Rattle.fib_resolve_changes.specs.Ranks.{IsRanked, has_entry}
+use Rattle.fib_resolve_changes.proofs.CauseLaws.{any_from}
+use Rattle.fib_resolve_changes.proofs.SamePairs.{map_from}
 use Rattle.fib_config.proofs.Within.{same_adjacency-Decides}
 use Rattle.fib_core.specs.StandsFor.{Thing, ply_of, balance_of, adjacency_of, IsCounted}
 use Rattle.fib_pool.specs.declared.object.AdjacencyRecord.{AdjacencyRecord}
-use Rattle.fib_stands.proofs.Nibbles.{map_at}
+use Rattle.fib_core_stands.proofs.Nibbles.{map_at}
 use Rattle.fib_stack.specs.States.{ends_there, has_hop}
 use Rattle.fib_stack.proofs.Listing.{record_is}
 

@@ -1,7 +1,7 @@
 -- With nothing queued and nothing retired, no word that a bucket wants closes a cycle.
 use Rattle.std.proofs.Common.{◌≡◌, ℕ, zero, suc, ◌<◌, ◌≤◌, inl, inr, ⊎_elim, Bool, false, true≢false, List, [], Option, Some, None, refl, sym, ap, ◌∙◌, subst, arith}
 use Rattle.std.specs.Prelude.{Contains, ◌⊎◌}
-use Rattle.fib_list.proofs.Lists.{Contains-nil}
+use Rattle.fib_base_list.proofs.Lists.{Contains-nil}
 use Rattle.fib_addr.specs.Prefixes.{Prefix}
 use Rattle.fib_reach.specs.Walks.{Walk}
 use Rattle.fib_resolve.specs.Aims.{marked_list}
@@ -11,10 +11,10 @@ use Rattle.fib_resolve.specs.declared.types.End.{End}
 use Rattle.fib_resolve.specs.declared.types.End.TheVariants as answers
 use Rattle.fib_resolve.specs.declared.types.Tables.{Tables}
 use Rattle.fib_core.specs.declared.word.Word.{Word}
-use Rattle.fib_changes.specs.Ranks.{IsRanked}
-use Rattle.fib_changes.specs.Wanted.{aim_by}
-use Rattle.fib_serving.specs.Stack.{Objects, aim_word, to_balance, to_adjacency}
-use Rattle.fib_joined.specs.View.{View, Retired, Goes, Edge, IsRecord, IsBalance, IsPlane, Closes, leads}
+use Rattle.fib_resolve_changes.specs.Ranks.{IsRanked}
+use Rattle.fib_resolve_changes.specs.Wanted.{aim_by}
+use Rattle.fib_core_promise.specs.Stack.{Objects, aim_word, to_balance, to_adjacency}
+use Rattle.fib_plane_view.specs.View.{View, Retired, Goes, Edge, IsRecord, IsBalance, IsPlane, Closes, leads}
 use Rattle.fib_stack.specs.States.{Fits, Kept}
 use Rattle.fib_stack.specs.Buckets.{recorded, state_of}
 use Rattle.fib_stack.proofs.Aiming.{bucket_on}

@@ -7,9 +7,9 @@ use native.Mathlib.Decide.{ℕ_discrete}
 use mathlib.Core.Logic.{dite}
 use Rattle.fib_core.specs.declared.word.Word.{Word}
 use Rattle.fib_core.specs.declared.word.Word.TheVariants as words
-use Rattle.fib_joined.specs.declared.put.Put.{Put}
-use Rattle.fib_joined.specs.declared.put.Put.TheVariants as puts
-use Rattle.fib_ledger.specs.Deferred.{late_count, one_late}
+use Rattle.fib_plane_view.specs.declared.put.Put.{Put}
+use Rattle.fib_plane_view.specs.declared.put.Put.TheVariants as puts
+use Rattle.fib_stack_ledger.specs.Deferred.{late_count, one_late}
 use Rattle.fib_stack.specs.Runs.{word_in, put_in, deferred_at, late_word}
 
 at_slot : (ws : List Word) (gave : List Put) (k : ℕ) → k < 16 → late_word (word_in ws k) (put_in gave k) ≡ deferred_at ws gave k

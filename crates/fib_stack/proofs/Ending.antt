@@ -1,4 +1,4 @@
--- What a bucket ends packets at is a possible end; and words are one or not.
+-- What a bucket ends packets at is a possible end.
 use Rattle.std.proofs.Common.{◌≡◌, ℕ, zero, suc, Bool, true, ⊎_elim, List, [], ◌∷◌, map, refl, sym, ap, ◌∙◌, subst, arith}
 use Rattle.std.specs.Prelude.{Contains, IfSome, Option, Some, None, slice_get, flat_map}
 use native.Mathlib.Decide.{ℕ_discrete}
@@ -20,8 +20,8 @@ use Rattle.fib_resolve.specs.declared.types.PathKind.{PathKind}
 use Rattle.fib_resolve.specs.declared.types.PathKind.TheVariants as kinds
 use Rattle.fib_resolve.specs.declared.types.Tables.{Tables}
 use Rattle.fib_resolve.proofs.Taken.{IsTaken}
-use Rattle.fib_stands.proofs.Listed.{at_bucket, end_possible, first_in}
-use Rattle.fib_changes.specs.Wanted.{aim_by}
+use Rattle.fib_core_stands.proofs.Listed.{at_bucket, end_possible, first_in}
+use Rattle.fib_resolve_changes.specs.Wanted.{aim_by}
 use Rattle.fib_stack.proofs.Aiming.{bucket_end}
 use Rattle.fib_core.specs.declared.word.Word.{Word}
 use Rattle.fib_core.specs.declared.word.Word.TheVariants as words
@@ -52,51 +52,6 @@ path_possible S e (Some p) t end is = kind_possible S e p p.kind refl t end is
 pub aim_possible : (S : Tables) (e : Prefix) (k : ℕ) (end : End) → aim S e k ≡ aims.Ends end → Contains (ends S) end
 unfolding aim
 aim_possible S e k end is = path_possible S e (slice_get (wanted S e) k) (at_bucket S e k) end is
-
--- words by a tag and a number
-tag : Word → ℕ
-tag words.Drop = 0
-tag words.Receive = 1
-tag (words.Glean i) = 2
-tag (words.ToPly x) = 3
-tag (words.ToBalance x) = 4
-tag (words.ToAdjacency x) = 5
-tag (words.Plain n) = 6
-
-number : Word → ℕ
-number words.Drop = 0
-number words.Receive = 0
-number (words.Glean i) = i
-number (words.ToPly x) = x
-number (words.ToBalance x) = x
-number (words.ToAdjacency x) = x
-number (words.Plain n) = n
-
-made : ℕ → ℕ → Word
-made zero n = words.Drop
-made (suc zero) n = words.Receive
-made (suc (suc zero)) n = words.Glean n
-made (suc (suc (suc zero))) n = words.ToPly n
-made (suc (suc (suc (suc zero)))) n = words.ToBalance n
-made (suc (suc (suc (suc (suc zero))))) n = words.ToAdjacency n
-made (suc (suc (suc (suc (suc (suc t)))))) n = words.Plain n
-
-made_again : (w : Word) → made (tag w) (number w) ≡ w
-unfolding made tag number
-made_again words.Drop = refl
-made_again words.Receive = refl
-made_again (words.Glean i) = refl
-made_again (words.ToPly x) = refl
-made_again (words.ToBalance x) = refl
-made_again (words.ToAdjacency x) = refl
-made_again (words.Plain n) = refl
-
-pub word_discrete : (v w : Word) → Dec (v ≡ w)
-word_discrete v w = dite (ℕ_discrete (tag v) (tag w))
-    (λ e. dite (ℕ_discrete (number v) (number w))
-    (λ f. yes (sym (made_again v) ∙ ap (λ n. made n (number v)) e ∙ ap (made (tag w)) f ∙ made_again w))
-    (λ ne. no (λ is. ne (ap number is))))
-    (λ ne. no (λ is. ne (ap tag is)))
 
 -- a path that counts and ends packets does so at a possible end
 counts_usable : (S : Tables) (e : Prefix) (need : Need) (kind : PathKind) (end : End) → kind_aim S e kind ≡ aims.Ends end → kind_counts S e need kind ≡ true → usable_kind S (forwards S) e need kind ≡ true

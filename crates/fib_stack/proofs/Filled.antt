@@ -1,9 +1,9 @@
 -- What sixteen puts leave of an object's buckets, and of others'.
 use Rattle.std.proofs.Common.{◌≡◌, ◌≢◌, ℕ, zero, suc, ◌+◌, ◌<◌, inl, inr, List, [], ◌∷◌, length, refl, sym, ap, ◌∙◌, subst, arith}
 use Rattle.fib_core.specs.declared.word.Word.{Word}
-use Rattle.fib_joined.specs.declared.put.Put.{Put}
-use Rattle.fib_joined.specs.declared.put.Put.TheVariants as puts
-use Rattle.fib_joined.specs.View.{View, IsBalance, IsPut, Answered}
+use Rattle.fib_plane_view.specs.declared.put.Put.{Put}
+use Rattle.fib_plane_view.specs.declared.put.Put.TheVariants as puts
+use Rattle.fib_plane_view.specs.View.{View, IsBalance, IsPut, Answered}
 use Rattle.fib_stack.specs.Runs.{word_in, put_in, Puts, Settled, IsFilled}
 
 settled_by : (u : View) (o s : ℕ) (w now : Word) (a : Put) → Answered u o s w now a → Settled (u.cell o s) now w a

@@ -4,10 +4,10 @@ use Rattle.std.specs.Prelude.{◌⊎◌}
 use Rattle.fib_core.specs.Walk.{hop_of}
 use Rattle.fib_core.specs.declared.word.Word.{Word}
 use Rattle.fib_core.specs.declared.word.Word.TheVariants as words
-use Rattle.fib_steady.specs.Names.{Names}
-use Rattle.fib_joined.specs.declared.put.Put.{Put}
-use Rattle.fib_joined.specs.Promise.{Promise, Allows, IsBegun, EndsIn, IsEndOf, MayPut}
-use Rattle.fib_joined.specs.View.{View, IsBalance, IsPlane, HasKind, IsPut, adjacency_end}
+use Rattle.fib_core_steady.specs.Names.{Names}
+use Rattle.fib_plane_view.specs.declared.put.Put.{Put}
+use Rattle.fib_plane_view.specs.Promise.{Promise, Allows, IsBegun, EndsIn, IsEndOf, MayPut}
+use Rattle.fib_plane_view.specs.View.{View, IsBalance, IsPlane, HasKind, IsPut, adjacency_end}
 use Rattle.fib_stack.specs.Buckets.{IsLooseBucket}
 use Rattle.fib_stack.specs.Runs.{word_in, Puts, IsReady, AreReady}
 use Rattle.fib_stack.proofs.Promising.{may_put, put_serves}

@@ -9,19 +9,19 @@ use Rattle.fib_addr.specs.Prefixes.{IsPrefix, Prefix, same_prefix, size_of}
 use Rattle.fib_addr.proofs.PrefixLaws.{same_prefix-Decides}
 use Rattle.fib_resolve.specs.Pairs.{entries}
 use Rattle.fib_resolve.specs.declared.types.Tables.{Tables}
-use Rattle.fib_changes.specs.Ranks.{IsRanked, has_entry}
-use Rattle.fib_stands.proofs.Nibbles.{everything_entry}
-use Rattle.fib_steady.specs.Aims.{IsLasting}
-use Rattle.fib_joined.specs.Promise.{Promise, MayClear, MayLetGo}
-use Rattle.fib_joined.specs.View.{View, IsBalance, IsLetGo, IsPlane}
+use Rattle.fib_resolve_changes.specs.Ranks.{IsRanked, has_entry}
+use Rattle.fib_core_stands.proofs.Nibbles.{everything_entry}
+use Rattle.fib_core_steady.specs.Aims.{IsLasting}
+use Rattle.fib_plane_view.specs.Promise.{Promise, MayClear, MayLetGo}
+use Rattle.fib_plane_view.specs.View.{View, IsBalance, IsLetGo, IsPlane}
 use Rattle.fib_ply.specs.Rows.{held}
 use Rattle.fib_ply.specs.Tables.{Came, Table, Stands, object_in}
-use Rattle.fib_queue.specs.Queues.{rank_in}
-use Rattle.fib_serving.specs.Matches.{FitsVersions, added, removed}
-use Rattle.fib_serving.specs.Stack.{is_some}
+use Rattle.fib_stack_queue.specs.Queues.{rank_in}
+use Rattle.fib_core_promise.specs.Matches.{FitsVersions, added, removed}
+use Rattle.fib_core_promise.specs.Stack.{is_some}
 use Rattle.fib_stack.specs.Joined.{IsLaid, Joined, Parts, balance_in, in_change, state_in, table_of}
 use Rattle.fib_stack.specs.Steps.{IsLeast, Removed, Restacked}
-use Rattle.fib_woken.proofs.Woken.{self_same}
+use Rattle.fib_stack_waking.proofs.Woken.{self_same}
 use Rattle.fib_stack.proofs.Clearing.{let_go_serves}
 use Rattle.fib_stack.proofs.Joining.{begun_of, table_names, table_quiet, to_change, to_now}
 use Rattle.fib_stack.proofs.Keeping.{ne_prefix, prefix_discrete, removed_keeps, restacked_keeps}
@@ -158,6 +158,10 @@ some_rank (Some r) h = (r, refl)
 
 pub waits_of : (S : Tables) (rank : Prefix → ℕ) (p : Promise) (v : View) (s : Parts) (e : Prefix) → Joined S rank p v s → IsLeast rank (state_in v s) e → p.settled < p.applied
 waits_of S rank p v s e j least = let q = some_rank (rank_in s.queue e) least.queued in j.waiting e q.0 q.1
+
+pub on_any : {A B : Type 0} {P : Type 0} (r : Result A B) → P → OnOk r P
+on_any (Ok x) h = h
+on_any (Err e) h = tt
 
 pub on_ok : {A B : Type 0} {P Q : Type 0} (r : Result A B) → (P → Q) → OnOk r P → OnOk r Q
 on_ok (Ok x) f h = f h

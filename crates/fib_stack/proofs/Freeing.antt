@@ -5,14 +5,14 @@ use Rattle.std.specs.List.{AllByRecursion, list_any}
 use Rattle.std.proofs.lemmas.List.Elements.{All-contains, All-from_recursion}
 use native.Mathlib.Decide.{ℕ_discrete}
 use mathlib.Core.Logic.{dite}
-use Rattle.fib_list.proofs.Lists.{either}
+use Rattle.fib_base_list.proofs.Lists.{either}
 use Rattle.fib_reach.proofs.Places.{length-le_from_differ}
-use Rattle.fib_changes.proofs.CauseLaws.{any_from}
-use Rattle.fib_changes.proofs.Edits.{any_in}
+use Rattle.fib_resolve_changes.proofs.CauseLaws.{any_from}
+use Rattle.fib_resolve_changes.proofs.Edits.{any_in}
 use Rattle.fib_pool.specs.declared.object.AdjacencyRecord.{AdjacencyRecord}
-use Rattle.fib_ledger.specs.declared.ledger.Use.{Use}
-use Rattle.fib_ledger.specs.Ledgers.{record_used, same_record, times}
-use Rattle.fib_joined.specs.View.{View, GaveRecord, HasIn, IsPlane, TookRecord}
+use Rattle.fib_stack_ledger.specs.declared.ledger.Use.{Use}
+use Rattle.fib_stack_ledger.specs.Ledgers.{record_used, same_record, times}
+use Rattle.fib_plane_view.specs.View.{View, GaveRecord, HasIn, IsPlane, TookRecord}
 use Rattle.fib_stack.specs.Records.{AreNew, Freed, GaveAll, IsAlone, TookAll, TookFor}
 use Rattle.fib_stack.proofs.Listing.{record_is, record_self, times-take_next}
 use Rattle.fib_stack.proofs.Newly.{listed_times}

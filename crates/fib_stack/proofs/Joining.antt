@@ -6,21 +6,21 @@ use Rattle.fib_resolve.specs.declared.aims.Aim.{Aim}
 use Rattle.fib_resolve.specs.declared.aims.Aim.TheVariants as aims
 use Rattle.fib_resolve.specs.declared.types.End.{End}
 use Rattle.fib_resolve.specs.declared.types.End.TheVariants as answers
-use Rattle.fib_ledger.specs.declared.ledger.Use.{Use}
-use Rattle.fib_ledger.specs.Ledgers.{record_used}
+use Rattle.fib_stack_ledger.specs.declared.ledger.Use.{Use}
+use Rattle.fib_stack_ledger.specs.Ledgers.{record_used}
 use Rattle.fib_ply.specs.Rows.{held}
 use Rattle.fib_ply.specs.Tables.{Table, Stands, watch_of}
-use Rattle.fib_ply.specs.inner.Served.{IsKept}
+use Rattle.fib_ply.specs.Served.{IsKept}
 use Rattle.fib_ply.proofs.Promises.{serves_of}
 use Rattle.fib_ply.proofs.Quiet.{quiet_stands}
 use Rattle.fib_ply.proofs.Rewatching.{rewatch}
-use Rattle.fib_serving.specs.Kept.{same_end}
-use Rattle.fib_serving.specs.Matches.{look_of}
-use Rattle.fib_serving.specs.Stack.{Objects, aim_word, to_adjacency, to_balance}
-use Rattle.fib_steady.specs.Names.{Names}
-use Rattle.fib_joined.specs.Frames.{IsQuiet}
-use Rattle.fib_joined.specs.Promise.{Promise, Allows, EndsIn, IsBegun, IsEndOf, KeepsBuckets, MayClear, Serves}
-use Rattle.fib_joined.specs.View.{View, HasKind, IsBalance, IsPlane, IsRecord}
+use Rattle.fib_core_promise.specs.Kept.{same_end}
+use Rattle.fib_core_promise.specs.Matches.{look_of}
+use Rattle.fib_core_promise.specs.Stack.{Objects, aim_word, to_adjacency, to_balance}
+use Rattle.fib_core_steady.specs.Names.{Names}
+use Rattle.fib_plane_view.specs.Frames.{IsQuiet}
+use Rattle.fib_plane_view.specs.Promise.{Promise, Allows, EndsIn, IsBegun, IsEndOf, KeepsBuckets, MayClear, Serves}
+use Rattle.fib_plane_view.specs.View.{View, HasKind, IsBalance, IsPlane, IsRecord}
 use Rattle.fib_stack.specs.Joined.{in_change}
 use Rattle.fib_stack.specs.Records.{AreObjects, end_used}
 use Rattle.fib_stack.specs.Turns.{found_in}

@@ -2,7 +2,7 @@
 use Rattle.std.proofs.Common.{◌≡◌, ℕ, suc, ◌<◌, ◌≤◌, ◌⊎◌, inl, inr, ⊎_elim, Bool, true, false, not, ◌&&◌, ◌||◌, true≢false, [], refl, sym, ap, ◌∙◌, subst, arith}
 use Rattle.std.specs.Prelude.{Option, Some, None}
 use mathlib.Core.Logic.{dite}
-use Rattle.fib_list.proofs.Lists.{either}
+use Rattle.fib_base_list.proofs.Lists.{either}
 use Rattle.fib_addr.specs.Prefixes.{Prefix, same_prefix}
 use Rattle.fib_addr.proofs.PrefixLaws.{same_prefix-Decides}
 use Rattle.fib_resolve.specs.Aims.{aim, marked_list}
@@ -15,13 +15,13 @@ use Rattle.fib_resolve.specs.declared.types.End.{End}
 use Rattle.fib_resolve.specs.declared.types.End.TheVariants as answers
 use Rattle.fib_resolve.specs.declared.types.Tables.{Tables}
 use Rattle.fib_core.specs.declared.word.Word.{Word}
-use Rattle.fib_changes.specs.Ranks.{counts_on, has_entry, wakes, IsRanked}
-use Rattle.fib_changes.specs.Wanted.{aim_by}
-use Rattle.fib_changes.proofs.MarkLaws.{aim_is, untouched_marked, untouched_stays, untouched_came}
-use Rattle.fib_serving.specs.Stack.{Objects, aim_word, to_adjacency, to_balance, is_some}
+use Rattle.fib_resolve_changes.specs.Ranks.{counts_on, has_entry, wakes, IsRanked}
+use Rattle.fib_resolve_changes.specs.Wanted.{aim_by}
+use Rattle.fib_resolve_changes.proofs.MarkLaws.{aim_is, untouched_marked, untouched_stays, untouched_came}
+use Rattle.fib_core_promise.specs.Stack.{Objects, aim_word, to_adjacency, to_balance, is_some}
 use Rattle.fib_stack.specs.States.{State, Fits, IsDone, IsPlaced, Kept, IsQuiet, forwards_by, has_hop}
 use Rattle.fib_stack.specs.Steps.{IsLeast, Restacked, Removed, Applied, StillOrStored, Retried, StandsFor}
-use Rattle.fib_woken.proofs.Woken.{and_join}
+use Rattle.fib_stack_waking.proofs.Woken.{and_join}
 use Rattle.fib_stack.proofs.Aiming.{forwards_agree, aim_agree, settled_below, bucket_on, bucket_hop}
 
 pub eq_prefix : (d e : Prefix) → d ≡ e → same_prefix d e ≡ true

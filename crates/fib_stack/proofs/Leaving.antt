@@ -9,9 +9,9 @@ use Rattle.fib_core.specs.declared.word.Word.{Word}
 use Rattle.fib_core.specs.declared.word.Word.TheVariants as words
 use Rattle.fib_pool.specs.declared.object.AdjacencyRecord.{AdjacencyRecord}
 use Rattle.fib_pool.specs.declared.object.Kind.TheVariants as kinds
-use Rattle.fib_joined.specs.declared.put.Put.{Put}
-use Rattle.fib_joined.specs.View.{View, Retired, Goes, IsLive, IsBalance, IsPlane, HasKind, IsPut, IsTaken, IsLetGo, IsScanned, IsSwept, TookRecord, TookOne, GaveRecord, leads}
-use Rattle.fib_joined.specs.Frames.{IsQuiet, IsAmong}
+use Rattle.fib_plane_view.specs.declared.put.Put.{Put}
+use Rattle.fib_plane_view.specs.View.{View, Retired, Goes, IsLive, IsBalance, IsPlane, HasKind, IsPut, IsTaken, IsLetGo, IsScanned, IsSwept, TookRecord, TookOne, GaveRecord, leads}
+use Rattle.fib_plane_view.specs.Frames.{IsQuiet, IsAmong}
 
 pub quiet_none : (look : Prefix → Option ℕ) (u : View) → IsQuiet look u u
 quiet_none look u = record { plies = λ x is live. (is, live); cells = λ x t is live. refl; edges = λ x t c g. g; kinds = λ x m h. (h, refl); held = λ x is h. h; root = refl }

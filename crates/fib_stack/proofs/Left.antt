@@ -7,10 +7,10 @@ use Rattle.fib_resolve.specs.declared.types.End.{End}
 use Rattle.fib_resolve.specs.declared.types.End.TheVariants as answers
 use Rattle.fib_resolve.specs.declared.types.Tables.{Tables}
 use Rattle.fib_pool.specs.declared.object.AdjacencyRecord.{AdjacencyRecord}
-use Rattle.fib_ledger.specs.declared.ledger.Known.{Known}
-use Rattle.fib_ledger.specs.Ledgers.{forwarded_by, times, used_by}
-use Rattle.fib_serving.specs.Stack.{is_some}
-use Rattle.fib_joined.specs.View.{View, IsBalance}
+use Rattle.fib_stack_ledger.specs.declared.ledger.Known.{Known}
+use Rattle.fib_stack_ledger.specs.Ledgers.{forwarded_by, times, used_by}
+use Rattle.fib_core_promise.specs.Stack.{is_some}
+use Rattle.fib_plane_view.specs.View.{View, IsBalance}
 use Rattle.fib_stack.specs.Buckets.{recorded}
 use Rattle.fib_stack.specs.Joined.{IsLaid, Parts, balance_in, holds_by, state_in}
 use Rattle.fib_stack.specs.Records.{AreObjects, holds_in}

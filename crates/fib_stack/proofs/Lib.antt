@@ -10,6 +10,7 @@ pub mod Filling
 pub mod Cycling
 pub mod Spreading
 pub mod Filled
+pub mod Exact
 pub mod Assembled
 pub mod Taking
 pub mod Readying
@@ -26,5 +27,7 @@ pub mod Retrying
 pub mod Newly
 pub mod Freeing
 pub mod Counted
+pub mod Calling
 pub mod Rooming
+pub mod Twenty
 pub mod Making

@@ -3,16 +3,16 @@ use Rattle.std.proofs.Common.{◌≡◌, ◌≢◌, ℕ, zero, suc, ◌+◌, ◌
 use Rattle.std.specs.Prelude.{◌==◌, ◌&&◌, Option, Some, None, Ok}
 use Rattle.std.specs.List.{AllByRecursion}
 use Rattle.std.proofs.lemmas.List.{length_push}
-use Rattle.fib_list.proofs.Lists.{either}
-use Rattle.fib_list.proofs.Booleans.{and_both}
+use Rattle.fib_base_list.proofs.Lists.{either}
+use Rattle.fib_base_list.proofs.Booleans.{and_both}
 use Rattle.fib_resolve.specs.Touched.{same_mac}
 use Rattle.fib_resolve.specs.declared.aims.Aim.{Aim}
 use Rattle.fib_pool.specs.declared.object.AdjacencyRecord.{AdjacencyRecord}
-use Rattle.fib_ledger.specs.declared.ledger.Use.{Use}
-use Rattle.fib_ledger.specs.Ledgers.{same_record, record_used, times}
-use Rattle.fib_joined.specs.View.{View, IsPlane, IsSwept, TookRecord, GaveRecord}
+use Rattle.fib_stack_ledger.specs.declared.ledger.Use.{Use}
+use Rattle.fib_stack_ledger.specs.Ledgers.{same_record, record_used, times}
+use Rattle.fib_plane_view.specs.View.{View, IsPlane, IsSwept, TookRecord, GaveRecord}
 use Rattle.fib_stack.specs.Records.{record_for, AreObjects, SameBalances, TookAll, GaveAll, SamePlane, TookFor}
-use Rattle.fib_woken.proofs.Woken.{and_join}
+use Rattle.fib_stack_waking.proofs.Woken.{and_join}
 
 same_mac_is : (m k : Option ℕ) → same_mac m k ≡ true → m ≡ k
 same_mac_is None None e = refl

@@ -6,7 +6,7 @@ use Rattle.std.proofs.lemmas.List.{length-append, length-map}
 use Rattle.std.proofs.lemmas.List.Elements.{All-contains, All-from_recursion}
 use Rattle.std.proofs.Math.Nat.{mul-div_cancel}
 use Rattle.std.proofs.Math.Pow.{pow_pos}
-use Rattle.fib_list.proofs.Lists.{each-append, each-map, each-weaker}
+use Rattle.fib_base_list.proofs.Lists.{each-append, each-map, each-weaker}
 use Rattle.fib_addr.specs.Prefixes.{Prefix, IsPrefix, masked, size_of}
 use Rattle.fib_reach.specs.Walks.{AllDiffer}
 use Rattle.fib_resolve.specs.Aims.{marked_list}
@@ -15,17 +15,17 @@ use Rattle.fib_resolve.specs.Resolution.{hop_end, mac_of}
 use Rattle.fib_resolve.specs.declared.pairs.Adjacency.{Adjacency}
 use Rattle.fib_resolve.specs.declared.types.End.TheVariants as answers
 use Rattle.fib_resolve.specs.declared.types.Tables.{Tables}
-use Rattle.fib_changes.specs.Ranks.{has_entry}
-use Rattle.fib_changes.proofs.Edits.{any_in}
-use Rattle.fib_changes.proofs.SamePairs.{map_from}
+use Rattle.fib_resolve_changes.specs.Ranks.{has_entry}
+use Rattle.fib_resolve_changes.proofs.Edits.{any_in}
+use Rattle.fib_resolve_changes.proofs.SamePairs.{map_from}
 use Rattle.fib_core.specs.StandsFor.{Thing, ply_of, balance_of, adjacency_of, IsCounted}
 use Rattle.fib_pool.specs.declared.object.AdjacencyRecord.{AdjacencyRecord}
-use Rattle.fib_ledger.specs.Ledgers.{times, used_by}
-use Rattle.fib_serving.specs.Kept.{same_end}
-use Rattle.fib_serving.specs.Matches.{look_of}
-use Rattle.fib_serving.specs.Stack.{is_some}
-use Rattle.fib_joined.specs.Promise.{Promise, IsBegun}
-use Rattle.fib_joined.specs.View.{View}
+use Rattle.fib_stack_ledger.specs.Ledgers.{times, used_by}
+use Rattle.fib_core_promise.specs.Kept.{same_end}
+use Rattle.fib_core_promise.specs.Matches.{look_of}
+use Rattle.fib_core_promise.specs.Stack.{is_some}
+use Rattle.fib_plane_view.specs.Promise.{Promise, IsBegun}
+use Rattle.fib_plane_view.specs.View.{View}
 use Rattle.fib_ply.specs.Prefixes.{Needs}
 use Rattle.fib_ply.specs.Tables.{Came}
 use Rattle.fib_ply.proofs.Needing.{needs_here}

@@ -11,14 +11,14 @@ use Rattle.fib_resolve.specs.declared.types.End.{End}
 use Rattle.fib_resolve.specs.declared.types.End.TheVariants as answers
 use Rattle.fib_resolve.specs.declared.types.Tables.{Tables}
 use Rattle.fib_pool.specs.declared.object.AdjacencyRecord.{AdjacencyRecord}
-use Rattle.fib_changes.specs.Wanted.{aim_by}
-use Rattle.fib_ledger.specs.Ledgers.{times, used_by}
-use Rattle.fib_ledger.specs.Deferred.{late_at}
-use Rattle.fib_steady.specs.Names.{Names}
-use Rattle.fib_serving.specs.Stack.{Anchored, Objects, aim_word, is_some}
-use Rattle.fib_joined.specs.Frames.{IsQuiet}
-use Rattle.fib_joined.specs.Promise.{Allows, Promise, Serves}
-use Rattle.fib_joined.specs.View.{View, HasRoom, IsPlane, IsScanned}
+use Rattle.fib_resolve_changes.specs.Wanted.{aim_by}
+use Rattle.fib_stack_ledger.specs.Ledgers.{times, used_by}
+use Rattle.fib_stack_ledger.specs.Deferred.{late_at}
+use Rattle.fib_core_steady.specs.Names.{Names}
+use Rattle.fib_core_promise.specs.Stack.{Anchored, Objects, aim_word, is_some}
+use Rattle.fib_plane_view.specs.Frames.{IsQuiet}
+use Rattle.fib_plane_view.specs.Promise.{Allows, Promise, Serves}
+use Rattle.fib_plane_view.specs.View.{View, HasRoom, IsPlane, IsScanned}
 use Rattle.fib_ply.specs.Tables.{Stands}
 use Rattle.fib_ply.proofs.Quiet.{quiet_stands}
 use Rattle.fib_stack.specs.Buckets.{recorded}

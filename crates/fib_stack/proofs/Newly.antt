@@ -4,12 +4,12 @@ use Rattle.std.specs.Prelude.{Contains, Option, Some, None, Ok, option_to_list}
 use Rattle.std.proofs.lemmas.List.Elements.{Contains-append_cases, Contains-append_left, Contains-append_right}
 use native.Mathlib.Decide.{ℕ_discrete}
 use mathlib.Core.Logic.{dite}
-use Rattle.fib_list.proofs.Lists.{Contains-nil, each-weaker}
+use Rattle.fib_base_list.proofs.Lists.{Contains-nil, each-weaker}
 use Rattle.fib_resolve.specs.declared.aims.Marked.{Marked}
 use Rattle.fib_pool.specs.declared.object.AdjacencyRecord.{AdjacencyRecord}
-use Rattle.fib_ledger.specs.declared.ledger.Use.{Use}
-use Rattle.fib_ledger.specs.Ledgers.{record_used, same_record, times}
-use Rattle.fib_joined.specs.View.{View, HasRoom}
+use Rattle.fib_stack_ledger.specs.declared.ledger.Use.{Use}
+use Rattle.fib_stack_ledger.specs.Ledgers.{record_used, same_record, times}
+use Rattle.fib_plane_view.specs.View.{View, HasRoom}
 use Rattle.fib_stack.specs.Records.{AreNew, LacksFor, TookAll, TookFor, TookNew, record_for, records_for}
 use Rattle.fib_stack.proofs.Listing.{record_self}
 use Rattle.fib_stack.proofs.Taking.{records_take}

@@ -14,14 +14,14 @@ use Rattle.fib_core.specs.Union.{IsBucketWord}
 use Rattle.fib_core.specs.Walk.{hop_of}
 use Rattle.fib_core.specs.declared.word.Word.{Word}
 use Rattle.fib_core.specs.declared.word.Word.TheVariants as words
-use Rattle.fib_steady.specs.Aims.{IsLasting, WantsAlike}
-use Rattle.fib_steady.specs.Names.{Names}
-use Rattle.fib_steady.specs.Promise.{IsRight}
-use Rattle.fib_serving.specs.Stack.{Objects, aim_word, Anchored, is_some}
-use Rattle.fib_joined.specs.declared.put.Put.{Put}
-use Rattle.fib_joined.specs.declared.put.Put.TheVariants as puts
-use Rattle.fib_joined.specs.View.{View, Goes, IsLive, IsBalance, IsPlane, HasKind, IsPut, Answered}
-use Rattle.fib_joined.specs.Promise.{Promise, Allows, IsBegun, IsWalked, HasPaths, IsEndWord, IsAimed, KeepsBuckets, KeepsPlies, IsPromised, Serves, EndsIn, MayPut}
+use Rattle.fib_core_steady.specs.Aims.{IsLasting, WantsAlike}
+use Rattle.fib_core_steady.specs.Names.{Names}
+use Rattle.fib_core_steady.specs.Promise.{IsRight}
+use Rattle.fib_core_promise.specs.Stack.{Objects, aim_word, Anchored, is_some}
+use Rattle.fib_plane_view.specs.declared.put.Put.{Put}
+use Rattle.fib_plane_view.specs.declared.put.Put.TheVariants as puts
+use Rattle.fib_plane_view.specs.View.{View, Goes, IsLive, IsBalance, IsPlane, HasKind, IsPut, Answered}
+use Rattle.fib_plane_view.specs.Promise.{Promise, Allows, IsBegun, IsWalked, HasPaths, IsEndWord, IsAimed, KeepsBuckets, KeepsPlies, IsPromised, Serves, EndsIn, MayPut}
 use Rattle.fib_stack.specs.States.{State}
 use Rattle.fib_stack.specs.Steadiness.{ledger_of, IsSteady}
 use Rattle.fib_stack.specs.Buckets.{IsLooseBucket}

@@ -5,10 +5,10 @@ use native.Mathlib.Decide.{ℕ_discrete}
 use mathlib.Core.Logic.{dite}
 use Rattle.fib_addr.specs.Prefixes.{Prefix}
 use Rattle.fib_pool.specs.declared.object.Kind.TheVariants as kinds
-use Rattle.fib_steady.specs.Names.{Names}
-use Rattle.fib_joined.specs.Frames.{IsQuiet}
-use Rattle.fib_joined.specs.Promise.{Promise, Serves}
-use Rattle.fib_joined.specs.View.{View, HasRoom, IsBalance, IsPlane, IsTaken}
+use Rattle.fib_core_steady.specs.Names.{Names}
+use Rattle.fib_plane_view.specs.Frames.{IsQuiet}
+use Rattle.fib_plane_view.specs.Promise.{Promise, Serves}
+use Rattle.fib_plane_view.specs.View.{View, HasRoom, IsBalance, IsPlane, IsTaken}
 use Rattle.fib_stack.specs.Records.{SameBalances, SamePlane}
 use Rattle.fib_stack.specs.declared.records.Want.{Want}
 use Rattle.fib_stack.specs.Turns.{GotObject}

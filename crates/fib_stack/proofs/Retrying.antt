@@ -6,7 +6,7 @@ use Rattle.std.proofs.lemmas.List.{get_or_default}
 use Rattle.std.proofs.lemmas.List.Edits.{get_or-remove_below}
 use native.Mathlib.Decide.{ℕ_discrete}
 use mathlib.Core.Logic.{dite}
-use Rattle.fib_list.proofs.Lists.{either}
+use Rattle.fib_base_list.proofs.Lists.{either}
 use Rattle.fib_addr.specs.Prefixes.{Prefix}
 use Rattle.fib_reach.specs.Walks.{Walk}
 use Rattle.fib_resolve.specs.Aims.{marked_list}
@@ -17,20 +17,20 @@ use Rattle.fib_resolve.specs.declared.types.Tables.{Tables}
 use Rattle.fib_core.specs.declared.word.Word.{Word}
 use Rattle.fib_core.specs.declared.word.Word.TheVariants as words
 use Rattle.fib_pool.specs.declared.object.AdjacencyRecord.{AdjacencyRecord}
-use Rattle.fib_changes.specs.Ranks.{IsRanked}
-use Rattle.fib_changes.specs.Wanted.{aim_by}
-use Rattle.fib_ledger.specs.declared.late.Late.{Late}
-use Rattle.fib_ledger.specs.Deferred.{AreApart, AreSlots, is_at, late_at}
-use Rattle.fib_ledger.specs.Ledgers.{used_by}
-use Rattle.fib_ledger.proofs.LateLists.{at_index, at_is, at_self, at_when, late_removed_here, late_removed_there, late_there}
-use Rattle.fib_serving.specs.Stack.{Objects, aim_word, is_some}
-use Rattle.fib_steady.specs.Names.{Names}
-use Rattle.fib_joined.specs.Frames.{IsQuiet}
-use Rattle.fib_joined.specs.declared.put.Put.{Put}
-use Rattle.fib_joined.specs.declared.put.Put.TheVariants as puts
-use Rattle.fib_joined.specs.Promise.{Promise, EndsIn, MayPut, Serves}
-use Rattle.fib_joined.specs.View.{View, Answered, Closes, Edge, Goes, HasKind, IsBalance, IsLive, IsPlane, IsPut, IsRecord, Retired, leads}
-use Rattle.fib_queue.specs.Queues.{rank_in}
+use Rattle.fib_resolve_changes.specs.Ranks.{IsRanked}
+use Rattle.fib_resolve_changes.specs.Wanted.{aim_by}
+use Rattle.fib_stack_ledger.specs.declared.late.Late.{Late}
+use Rattle.fib_stack_ledger.specs.Deferred.{AreApart, AreSlots, is_at, late_at}
+use Rattle.fib_stack_ledger.specs.Ledgers.{used_by}
+use Rattle.fib_stack_ledger.proofs.LateLists.{at_index, at_is, at_self, at_when, late_removed_here, late_removed_there, late_there}
+use Rattle.fib_core_promise.specs.Stack.{Objects, aim_word, is_some}
+use Rattle.fib_core_steady.specs.Names.{Names}
+use Rattle.fib_plane_view.specs.Frames.{IsQuiet}
+use Rattle.fib_plane_view.specs.declared.put.Put.{Put}
+use Rattle.fib_plane_view.specs.declared.put.Put.TheVariants as puts
+use Rattle.fib_plane_view.specs.Promise.{Promise, EndsIn, MayPut, Serves}
+use Rattle.fib_plane_view.specs.View.{View, Answered, Closes, Edge, Goes, HasKind, IsBalance, IsLive, IsPlane, IsPut, IsRecord, Retired, leads}
+use Rattle.fib_stack_queue.specs.Queues.{rank_in}
 use Rattle.fib_stack.specs.Buckets.{IsLooseBucket, recorded}
 use Rattle.fib_stack.specs.Done.{StaysLate}
 use Rattle.fib_stack.specs.Joined.{Joined, Parts, balance_in, holds_by, queued_in, state_in, table_of, was_by}

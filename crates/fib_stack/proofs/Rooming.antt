@@ -5,7 +5,7 @@ use Rattle.std.specs.List.{AllByRecursion, range_with_len}
 use Rattle.std.proofs.lemmas.List.{length-append, length-map}
 use Rattle.std.proofs.lemmas.List.FromFn.{get_or-range_with_len, length-range_with_len}
 use mathlib.Core.Logic.{dite}
-use Rattle.fib_list.proofs.Lists.{each-append, each-map, each-weaker}
+use Rattle.fib_base_list.proofs.Lists.{each-append, each-map, each-weaker}
 use Rattle.fib_addr.specs.Prefixes.{Prefix, host, masked, same_prefix}
 use Rattle.fib_addr.proofs.PrefixLaws.{same_prefix-Decides, same_prefix_equiv}
 use Rattle.fib_reach.specs.Walks.{AllDiffer}
@@ -21,14 +21,14 @@ use Rattle.fib_resolve.specs.declared.types.PathKind.TheVariants as kinds
 use Rattle.fib_resolve.specs.declared.types.Tables.{Tables}
 use Rattle.fib_resolve.proofs.Covering.{unique_in}
 use Rattle.fib_resolve.proofs.Touching.{same_pair-Decides, same_pair_equiv}
-use Rattle.fib_changes.specs.Ranks.{IsRanked, has_entry}
+use Rattle.fib_resolve_changes.specs.Ranks.{IsRanked, has_entry}
 use Rattle.fib_core.specs.StandsFor.{Thing, ply_of, balance_of, adjacency_of, IsCounted}
-use Rattle.fib_serving.specs.Stack.{is_some}
-use Rattle.fib_stands.proofs.Nibbles.{map_at, ply_there}
-use Rattle.fib_joined.specs.Promise.{Promise, IsBegun}
-use Rattle.fib_joined.specs.View.{View}
+use Rattle.fib_core_promise.specs.Stack.{is_some}
+use Rattle.fib_core_stands.proofs.Nibbles.{map_at, ply_there}
+use Rattle.fib_plane_view.specs.Promise.{Promise, IsBegun}
+use Rattle.fib_plane_view.specs.View.{View}
 use Rattle.fib_stack.specs.Joined.{Joined, Parts, state_in}
-use Rattle.fib_stack.specs.Room.{HasRoomLeft, IsMade, IsSeated, Makes}
+use Rattle.fib_stack.specs.Room.{HasRoomLeft, IsMade, IsSeated, Makes, Took}
 use Rattle.fib_stack.specs.States.{State, has_hop}
 use Rattle.fib_stack.specs.Steps.{Removed, Restacked}
 use Rattle.fib_stack.proofs.Counted.{differ_append, differ_map, thing_in, things, things_long}
@@ -36,14 +36,14 @@ use Rattle.fib_stack.proofs.Keeping.{prefix_discrete}
 use Rattle.fib_stack.proofs.Settling.{is_entry}
 
 -- counted things that differ are no more than the size says
-few : (S : Tables) (xs : List Thing) → AllDiffer xs → AllByRecursion (IsCounted S) xs → length xs ≤ size S
+pub few : (S : Tables) (xs : List Thing) → AllDiffer xs → AllByRecursion (IsCounted S) xs → length xs ≤ size S
 few S xs d h =
     let l = length-le_from_differ xs (things S) d (each-weaker (IsCounted S) (λ x. Contains (things S) x) (λ x c. thing_in S x c) xs h) in
     let s = things_long S in
     omega (arith, l, s)
 
 -- what is new differs from what is made
-both_differ : (S : Tables) (s : State) (new made : List Thing) → AllDiffer new → AllDiffer made → AllByRecursion (λ x. IsMade S s x → ⊥) new → AllByRecursion (IsMade S s) made → AllDiffer (new ++ made)
+pub both_differ : (S : Tables) (s : State) (new made : List Thing) → AllDiffer new → AllDiffer made → AllByRecursion (λ x. IsMade S s x → ⊥) new → AllByRecursion (IsMade S s) made → AllDiffer (new ++ made)
 both_differ S s new made d e out there =
     differ_append new made d e
     (each-weaker (λ x. IsMade S s x → ⊥) (λ x. AllByRecursion (λ y. x ≢ y) made) (λ x no. each-weaker (IsMade S s) (λ y. x ≢ y) (λ y yes is. no (subst (IsMade S s) (sym is) yes)) made there) new out)
@@ -71,6 +71,23 @@ makes_none S s t free left le = record { made = []; apart = tt; counted = tt; ne
 
 pub room_left : (S : Tables) (s t : State) (free left : ℕ) → free ≤ left → ((x : Thing) → IsMade S s x → IsMade S t x) → HasRoomLeft S free s → HasRoomLeft S left t
 room_left S s t free left le stays room = left_after S s t free left room (makes_none S s t free left le) stays
+
+pub took_none : (S : Tables) (s t : State) (free left : ℕ) → free ≤ left → ((x : Thing) → IsMade S s x → IsMade S t x) → Took S s t free left
+took_none S s t free left le stays = record { makes = makes_none S s t free left le; stays = stays }
+
+-- what steps take adds up
+pub took_then : (S : Tables) (s t r : State) (f g h : ℕ) → Took S s t f g → Took S t r g h → Took S s r f h
+took_then S s t r f g h a b = record {
+  makes = record {
+    made = b.makes.made ++ a.makes.made;
+    apart = both_differ S t b.makes.made a.makes.made b.makes.apart a.makes.apart b.makes.new a.makes.there;
+    counted = each-append (IsCounted S) b.makes.made a.makes.made b.makes.counted a.makes.counted;
+    new = each-append (λ x. IsMade S s x → ⊥) b.makes.made a.makes.made (each-weaker (λ x. IsMade S t x → ⊥) (λ x. IsMade S s x → ⊥) (λ x no made. no (a.stays x made)) b.makes.made b.makes.new) a.makes.new;
+    there = each-append (IsMade S r) b.makes.made a.makes.made b.makes.there (each-weaker (IsMade S t) (IsMade S r) b.stays a.makes.made a.makes.there);
+    paid = (let long = length-append b.makes.made a.makes.made in let p = a.makes.paid in let q = b.makes.paid in omega (arith, long, p, q));
+  };
+  stays = λ x made. b.stays x (a.stays x made);
+}
 
 -- a turn of an entry
 module _ (S : Tables) (e : Prefix) (o : ℕ) (s t : State) (r : Restacked S e o s t) where

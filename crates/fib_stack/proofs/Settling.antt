@@ -14,9 +14,9 @@ use Rattle.fib_resolve.specs.declared.types.End.TheVariants as answers
 use Rattle.fib_resolve.specs.declared.types.Tables.{Tables}
 use Rattle.std.proofs.lemmas.Map.Made.{is_member-Decides}
 use Rattle.fib_core.specs.declared.word.Word.{Word}
-use Rattle.fib_changes.specs.Ranks.{counts_on, has_entry, IsRanked}
-use Rattle.fib_changes.proofs.MarkLaws.{aim_is}
-use Rattle.fib_serving.specs.Stack.{Objects, aim_word, Anchored, is_some}
+use Rattle.fib_resolve_changes.specs.Ranks.{counts_on, has_entry, IsRanked}
+use Rattle.fib_resolve_changes.proofs.MarkLaws.{aim_is}
+use Rattle.fib_core_promise.specs.Stack.{Objects, aim_word, Anchored, is_some}
 use Rattle.fib_stack.specs.States.{State, Fits, IsQuiet, has_hop}
 use Rattle.fib_stack.specs.Steps.{Restacked, Removed, Applied, Retried, StillOrStored, StandsFor}
 use Rattle.fib_stack.specs.Steadiness.{ledger_of, Holding, IsSteady}

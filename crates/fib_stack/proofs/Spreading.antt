@@ -12,7 +12,7 @@ use Rattle.fib_resolve.specs.Tables.{IsSound}
 use Rattle.fib_resolve.specs.declared.aims.Marked.{Marked}
 use Rattle.fib_resolve.specs.declared.types.Tables.{Tables}
 use Rattle.fib_resolve.proofs.PairLaws.{chosen_short}
-use Rattle.fib_changes.specs.Wanted.{least_mark, of_least_mark, spread_marks}
+use Rattle.fib_resolve_changes.specs.Wanted.{least_mark, of_least_mark, spread_marks}
 
 no_longer : (p : Marked → Bool) (ms : List Marked) → length (filter p ms) ≤ length ms
 no_longer p ms = omega (arith, length-filter p ms, count_by-le-length p ms)

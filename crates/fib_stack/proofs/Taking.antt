@@ -5,12 +5,12 @@ use Rattle.std.proofs.lemmas.List.{length-map, length_push}
 use Rattle.fib_addr.specs.Prefixes.{Prefix}
 use Rattle.fib_resolve.specs.declared.aims.Marked.{Marked}
 use Rattle.fib_pool.specs.declared.object.AdjacencyRecord.{AdjacencyRecord}
-use Rattle.fib_ledger.specs.declared.ledger.Use.{Use}
-use Rattle.fib_ledger.specs.Ledgers.{record_used}
-use Rattle.fib_steady.specs.Names.{Names}
-use Rattle.fib_joined.specs.Frames.{IsQuiet}
-use Rattle.fib_joined.specs.Promise.{Promise, Serves}
-use Rattle.fib_joined.specs.View.{View, IsPlane}
+use Rattle.fib_stack_ledger.specs.declared.ledger.Use.{Use}
+use Rattle.fib_stack_ledger.specs.Ledgers.{record_used}
+use Rattle.fib_core_steady.specs.Names.{Names}
+use Rattle.fib_plane_view.specs.Frames.{IsQuiet}
+use Rattle.fib_plane_view.specs.Promise.{Promise, Serves}
+use Rattle.fib_plane_view.specs.View.{View, IsPlane}
 use Rattle.fib_stack.specs.Records.{TookAll, TookFor, record_for, records_for}
 use Rattle.fib_stack.specs.declared.records.Want.{Want}
 use Rattle.fib_stack.specs.declared.records.Want.TheVariants as wants

@@ -3,13 +3,13 @@ use Rattle.std.proofs.Common.{◌≡◌, ℕ, true, false, List, [], ◌∷◌, 
 use Rattle.std.specs.Prelude.{Option, Some, None}
 use Rattle.fib_addr.specs.Prefixes.{Prefix}
 use Rattle.fib_resolve.specs.declared.types.Tables.{Tables}
-use Rattle.fib_ordered.specs.Sets.{first_of}
-use Rattle.fib_queue.specs.Queues.{rank_in}
-use Rattle.fib_queue.specs.Queues as queues
-use Rattle.fib_queue.specs.declared.order.Queued.{Queued}
-use Rattle.fib_serving.specs.Stack.{is_some}
-use Rattle.fib_joined.specs.Promise.{Promise}
-use Rattle.fib_joined.specs.View.{View}
+use Rattle.fib_base_ordered.specs.Sets.{first_of}
+use Rattle.fib_stack_queue.specs.Queues.{rank_in}
+use Rattle.fib_stack_queue.specs.Queues as queues
+use Rattle.fib_stack_queue.specs.declared.order.Queued.{Queued}
+use Rattle.fib_core_promise.specs.Stack.{is_some}
+use Rattle.fib_plane_view.specs.Promise.{Promise}
+use Rattle.fib_plane_view.specs.View.{View}
 use Rattle.fib_stack.specs.Joined.{Joined, Parts, state_in}
 use Rattle.fib_stack.specs.Steps.{IsLeast}
 

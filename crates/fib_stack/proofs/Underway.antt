@@ -9,12 +9,12 @@ use Rattle.fib_resolve.specs.declared.types.End.TheVariants as answers
 use Rattle.fib_resolve.specs.declared.types.Tables.{Tables}
 use Rattle.fib_core.specs.declared.word.Word.{Word}
 use Rattle.fib_pool.specs.declared.object.AdjacencyRecord.{AdjacencyRecord}
-use Rattle.fib_changes.specs.Wanted.{aim_of}
-use Rattle.fib_ledger.specs.Ledgers.{times, used_by}
-use Rattle.fib_serving.specs.Stack.{Objects, aim_word, is_some}
-use Rattle.fib_steady.specs.Names.{Names}
-use Rattle.fib_joined.specs.Promise.{Promise, Serves}
-use Rattle.fib_joined.specs.View.{View, IsBalance, IsPlane, IsRecord}
+use Rattle.fib_resolve_changes.specs.Wanted.{aim_of}
+use Rattle.fib_stack_ledger.specs.Ledgers.{times, used_by}
+use Rattle.fib_core_promise.specs.Stack.{Objects, aim_word, is_some}
+use Rattle.fib_core_steady.specs.Names.{Names}
+use Rattle.fib_plane_view.specs.Promise.{Promise, Serves}
+use Rattle.fib_plane_view.specs.View.{View, IsBalance, IsPlane, IsRecord}
 use Rattle.fib_stack.specs.Buckets.{IsLooseBucket, recorded}
 use Rattle.fib_stack.specs.Joined.{Parts, balance_in, state_in, table_of}
 use Rattle.fib_stack.specs.Records.{holds_in}
@@ -22,7 +22,8 @@ use Rattle.fib_stack.specs.Runs.{AreReady, IsReady, word_in}
 use Rattle.fib_stack.specs.Turns.{IsUnderway, names_for}
 use Rattle.fib_stack.specs.declared.stack.Plan.{Plan}
 use Rattle.fib_stack.proofs.Assembled.{aim_here, found_object, holds_hops, some_times}
-use Rattle.fib_stack.proofs.Ending.{aim_possible, word_discrete}
+use Rattle.fib_plane_view.proofs.Storing.{word_discrete}
+use Rattle.fib_stack.proofs.Ending.{aim_possible}
 use Rattle.fib_stack.proofs.Joining.{begun_of, table_names, word_ends, word_kind}
 use Rattle.fib_stack.proofs.Keeping.{word_same}
 use Rattle.fib_stack.proofs.Promising.{fresh_is_loose, turn_is_loose}

@@ -6,8 +6,8 @@ use Rattle.fib_resolve.specs.declared.types.End.{End}
 use Rattle.fib_resolve.specs.declared.types.End.TheVariants as answers
 use Rattle.fib_resolve.specs.declared.types.Tables.{Tables}
 use Rattle.fib_core.specs.declared.word.Word.{Word}
-use Rattle.fib_steady.specs.Aims.{IsLasting, WantsAlike}
-use Rattle.fib_joined.specs.View.{View}
+use Rattle.fib_core_steady.specs.Aims.{IsLasting, WantsAlike}
+use Rattle.fib_plane_view.specs.View.{View}
 use Rattle.fib_stack.specs.States.{State}
 
 -- the object of the end's adjacency record
@@ -18,7 +18,8 @@ recorded v (answers.Glean i) = None
 recorded v (answers.Hop i a m) = v.record_of (record { interface = i; next_hop = a; mac = m })
 
 -- the plane, with what the prefix table, the stack and the queue know
-abbrev pub state_of : View → (Prefix → Option ℕ) → (Prefix → Bool) → (Prefix → ℕ → Option Word) → (Prefix → End → Bool) → (Prefix → Bool) → State
+abbrev pub state_of : View → (Prefix → Option ℕ) → (Prefix → Bool) → (Prefix → ℕ → Option Word) → (Prefix → End → Bool)
+    → (Prefix → Bool) → State
 state_of v balances was late holds queued = record {
   objects = record { balance = balances; record_of = recorded v };
   cell = v.cell;

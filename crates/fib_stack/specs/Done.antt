@@ -1,18 +1,19 @@
 -- What a turn and a retry answer.
-use Rattle.std.specs.Prelude.{◌≡◌, ◌⊎◌, ℕ, ◌-◌, ◌%◌, ◌^◌, ◌≤◌, true, false, List, Some}
+use Rattle.std.specs.Prelude.{◌≡◌, ◌⊎◌, ℕ, ◌-◌, ◌%◌, ◌^◌, ◌≤◌, true, false, List, length, Option, Some}
 use Rattle.fib_addr.specs.Prefixes.{Prefix}
 use Rattle.fib_resolve.specs.declared.types.Tables.{Tables}
-use Rattle.fib_changes.specs.Ranks.{has_entry}
-use Rattle.fib_ledger.specs.declared.late.Late.{Late}
-use Rattle.fib_ledger.specs.Deferred.{late_at, late_count}
+use Rattle.fib_resolve_changes.specs.Ranks.{has_entry}
+use Rattle.fib_stack_ledger.specs.declared.late.Late.{Late}
+use Rattle.fib_stack_ledger.specs.Deferred.{late_at, late_count}
 use Rattle.fib_core.specs.declared.word.Word.{Word}
-use Rattle.fib_joined.specs.View.{View, Closes}
+use Rattle.fib_plane_view.specs.Stores.{StoresEach}
+use Rattle.fib_plane_view.specs.View.{View, Closes}
 use Rattle.fib_stack.specs.declared.turn.Turn.{Turn}
 use Rattle.fib_stack.specs.declared.turn.Turn.TheVariants as turns
 use Rattle.fib_stack.specs.Joined.{Parts, balance_in, queued_in}
 use Rattle.fib_stack.specs.States.{State}
 use Rattle.fib_stack.specs.Steps.{IsLeast, Removed}
-use Rattle.fib_stack.specs.Turns.{IsRestacked}
+use Rattle.fib_stack.specs.Turns.{HasRun, IsRestacked}
 
 -- a prefix of the least rank was taken
 abbrev pub IsTaken : Tables → (Prefix → ℕ) → Prefix → State → State → Type 0
@@ -23,6 +24,11 @@ abbrev pub TurnDone : Tables → (Prefix → ℕ) → Turn → State → State �
 TurnDone S rank turns.Idle s t = (t ≡ s) × ((d : Prefix) → s.queued d ≡ false)
 TurnDone S rank (turns.Restacked e stores dropped) s t = IsTaken S rank e s t
 
+-- the turn of an entry has its run of puts, from the plane before it to the plane after it
+abbrev pub RunDone : Tables → Turn → View → View → State → Type 0
+RunDone S turns.Idle u v t = v ≡ u
+RunDone S (turns.Restacked e stores dropped) u v t = has_entry S e ≡ true → HasRun S e u v t
+
 -- the buckets that the turn left deferred are counted
 abbrev pub IsCounted : Turn → List Late → Type 0
 IsCounted turns.Idle late = Unit {0}
@@ -32,6 +38,13 @@ IsCounted (turns.Restacked e stores dropped) late = dropped ≡ late_count (late
 abbrev pub IsStored : Turn → ℕ → ℕ → Type 0
 IsStored turns.Idle old new = new ≡ old
 IsStored (turns.Restacked e stores dropped) old new = (old ≤ new) × (stores ≡ (new - old) % 2 ^ 64)
+
+-- where an entry was in the prefix table, there are as many stores as cells that differ afterwards, modulo 2^64
+abbrev pub StoresDiffering : Tables → Turn → (Prefix → Option ℕ) → View → View → Type 0
+StoresDiffering S turns.Idle balances u v = Unit {0}
+StoresDiffering S (turns.Restacked e stores dropped) balances u v =
+    has_entry S e ≡ true → (o : ℕ) → balances e ≡ Some o
+    → (all : StoresEach (λ x k. Unit {0}) u v) × (stores ≡ length all.cells % 2 ^ 64)
 
 -- why a bucket stays deferred: its prefix is queued, or the edge that it wants closes a cycle
 abbrev pub StaysLate : View → Parts → Prefix → Word → Type 0

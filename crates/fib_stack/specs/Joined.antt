@@ -5,19 +5,19 @@ use Rattle.fib_resolve.specs.declared.types.End.{End}
 use Rattle.fib_resolve.specs.declared.types.Tables.{Tables}
 use Rattle.fib_core.specs.declared.word.Word.{Word}
 use Rattle.fib_pool.specs.declared.object.AdjacencyRecord.{AdjacencyRecord}
-use Rattle.fib_ledger.specs.declared.ledger.Known.{Known}
-use Rattle.fib_ledger.specs.declared.late.Late.{Late}
-use Rattle.fib_ledger.specs.Deferred.{late_at}
-use Rattle.fib_ledger.specs.Ledgers.{forwarded_by, used_by}
-use Rattle.fib_queue.specs.Queues.{rank_in}
-use Rattle.fib_queue.specs.declared.order.Queued.{Queued}
+use Rattle.fib_stack_ledger.specs.declared.ledger.Known.{Known}
+use Rattle.fib_stack_ledger.specs.declared.late.Late.{Late}
+use Rattle.fib_stack_ledger.specs.Deferred.{late_at}
+use Rattle.fib_stack_ledger.specs.Ledgers.{forwarded_by, used_by}
+use Rattle.fib_stack_queue.specs.Queues.{rank_in}
+use Rattle.fib_stack_queue.specs.declared.order.Queued.{Queued}
 use Rattle.fib_ply.specs.Rows.{held}
 use Rattle.fib_ply.specs.Tables.{Table, Stands}
 use Rattle.fib_ply.specs.declared.rows.Row.{Row}
-use Rattle.fib_serving.specs.Matches.{FitsVersions}
-use Rattle.fib_serving.specs.Stack.{is_some}
-use Rattle.fib_joined.specs.Promise.{Promise, IsBegun}
-use Rattle.fib_joined.specs.View.{View, IsBalance}
+use Rattle.fib_core_promise.specs.Matches.{FitsVersions}
+use Rattle.fib_core_promise.specs.Stack.{is_some}
+use Rattle.fib_plane_view.specs.Promise.{Promise, IsBegun}
+use Rattle.fib_plane_view.specs.View.{View, IsBalance}
 use Rattle.fib_stack.specs.Buckets.{state_of}
 use Rattle.fib_stack.specs.Records.{AreObjects, holds_in}
 use Rattle.fib_stack.specs.States.{Kept, State}

@@ -1,3 +1,4 @@
+-- What the stack's contracts say.
 pub mod States
 pub mod Steps
 pub mod Steadiness
@@ -5,6 +6,7 @@ pub mod Orders
 pub mod Buckets
 pub mod Records
 pub mod Runs
+pub mod Calls
 pub mod Joined
 pub mod Turns
 pub mod Done

@@ -1,5 +1,5 @@
 -- Adjacency records that are taken, or given back, one user each.
-use Rattle.std.specs.Prelude.{◌≡◌, ℕ, ◌+◌, ◌<◌, ◌≤◌, Bool, List, [], ◌∷◌, ◌++◌, length, flat_map, option_to_list, Contains, Option, Some, None, Result, Ok, Err}
+use Rattle.std.specs.Prelude.{◌≡◌, ℕ, ◌+◌, ◌<◌, ◌≤◌, ◌⊎◌, Bool, List, [], ◌∷◌, ◌++◌, length, flat_map, option_to_list, Contains, Option, Some, None, Result, Ok, Err}
 use Rattle.std.specs.List.{AllByRecursion, list_any}
 use Rattle.fib_reach.specs.Walks.{AllDiffer}
 use Rattle.fib_resolve.specs.declared.aims.Aim.{Aim}
@@ -8,10 +8,10 @@ use Rattle.fib_resolve.specs.declared.aims.Marked.{Marked}
 use Rattle.fib_resolve.specs.declared.types.End.{End}
 use Rattle.fib_resolve.specs.declared.types.End.TheVariants as answers
 use Rattle.fib_pool.specs.declared.object.AdjacencyRecord.{AdjacencyRecord}
-use Rattle.fib_ledger.specs.declared.ledger.Use.{Use}
-use Rattle.fib_ledger.specs.Ledgers.{record_used, times}
-use Rattle.fib_serving.specs.Kept.{same_end}
-use Rattle.fib_joined.specs.View.{View, HasIn, IsBalance, TookRecord}
+use Rattle.fib_stack_ledger.specs.declared.ledger.Use.{Use}
+use Rattle.fib_stack_ledger.specs.Ledgers.{record_used, times}
+use Rattle.fib_core_promise.specs.Kept.{same_end}
+use Rattle.fib_plane_view.specs.View.{View, HasIn, IsBalance, TookRecord}
 use Rattle.fib_stack.specs.declared.records.Want.{Want}
 use Rattle.fib_stack.specs.declared.records.Want.TheVariants as wants
 
@@ -40,6 +40,11 @@ holds_in us end = list_any (λ u. same_end (end_used u) end) us
 -- the objects are those of the records
 abbrev pub AreObjects : View → List Use → Type 0
 AreObjects v us = AllByRecursion (λ u. v.record_of (record_used u) ≡ Some u.object) us
+
+-- the object is one of theirs
+abbrev pub IsObjectOf : List Use → ℕ → Type 0
+IsObjectOf [] x = ⊥
+IsObjectOf (u ∷ us) x = (u.object ≡ x) ⊎ IsObjectOf us x
 
 -- the balances that are held are the same, with their cells
 pub record SameBalances (u v : View) : Type 0 where
@@ -79,7 +84,8 @@ pub record SamePlane (u v : View) : Type 0 where
 abbrev pub TookFor : View → View → Option AdjacencyRecord → List Use → List Use → Result Unit Want → Type 0
 TookFor u v None old new (Ok x) = (v ≡ u) × (new ≡ old)
 TookFor u v None old new (Err e) = ⊥
-TookFor u v (Some m) old new (Ok x) = (o : ℕ) × TookRecord u v m o × (new ≡ old ++ (record { interface = m.interface; next_hop = m.next_hop; mac = m.mac; object = o }) ∷ [])
+TookFor u v (Some m) old new (Ok x) = (o : ℕ) × TookRecord u v m o
+    × (new ≡ old ++ (record { interface = m.interface; next_hop = m.next_hop; mac = m.mac; object = o }) ∷ [])
 TookFor u v (Some m) old new (Err e) = (v ≡ u) × (new ≡ old) × (e ≡ wants.Object → u.free ≡ 0)
 
 -- these records have no users, and stand in the list; each is named once

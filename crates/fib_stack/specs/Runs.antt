@@ -3,11 +3,11 @@ use Rattle.std.specs.Prelude.{◌≡◌, ◌≢◌, ◌⊎◌, ℕ, suc, ◌+◌
 use Rattle.fib_addr.specs.Prefixes.{Prefix}
 use Rattle.fib_core.specs.declared.word.Word.{Word}
 use Rattle.fib_core.specs.declared.word.Word.TheVariants as words
-use Rattle.fib_steady.specs.Names.{Names}
-use Rattle.fib_joined.specs.declared.put.Put.{Put}
-use Rattle.fib_joined.specs.declared.put.Put.TheVariants as puts
-use Rattle.fib_joined.specs.Promise.{Promise, Serves, EndsIn}
-use Rattle.fib_joined.specs.View.{View, HasKind, IsBalance, IsPut, SameRecords}
+use Rattle.fib_core_steady.specs.Names.{Names}
+use Rattle.fib_plane_view.specs.declared.put.Put.{Put}
+use Rattle.fib_plane_view.specs.declared.put.Put.TheVariants as puts
+use Rattle.fib_plane_view.specs.Promise.{Promise, Serves, EndsIn}
+use Rattle.fib_plane_view.specs.View.{View, HasKind, IsBalance, IsPut, SameRecords}
 use Rattle.fib_stack.specs.Buckets.{IsLooseBucket}
 
 abbrev pub word_in : List Word → ℕ → Word

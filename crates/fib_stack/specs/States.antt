@@ -11,10 +11,10 @@ use Rattle.fib_resolve.specs.declared.types.End.TheVariants as answers
 use Rattle.fib_resolve.specs.declared.types.Tables.{Tables}
 use Rattle.fib_core.specs.declared.word.Word.{Word}
 use Rattle.fib_core.specs.declared.word.Word.TheVariants as words
-use Rattle.fib_changes.specs.Ranks.{is_usable_mark, has_entry}
-use Rattle.fib_changes.specs.Wanted.{aim_by}
-use Rattle.fib_serving.specs.Kept.{same_end}
-use Rattle.fib_serving.specs.Stack.{Objects, aim_word, is_some}
+use Rattle.fib_resolve_changes.specs.Ranks.{is_usable_mark, has_entry}
+use Rattle.fib_resolve_changes.specs.Wanted.{aim_by}
+use Rattle.fib_core_promise.specs.Kept.{same_end}
+use Rattle.fib_core_promise.specs.Stack.{Objects, aim_word, is_some}
 
 -- the end has an adjacency record
 abbrev pub is_recorded : End → Bool
@@ -56,7 +56,8 @@ Fits (Some v) cell w = (v ≡ w) × (cell ≡ words.Drop)
 pub record IsDone (S : Tables) (s : State) (e : Prefix) : Type 0 where
   pub placed : is_some (s.objects.balance e) ≡ has_entry S e
   pub known : s.was e ≡ forwards_by s.was (marked_list S e)
-  pub filled : (o k : ℕ) → s.objects.balance e ≡ Some o → k < 16 → Fits (s.late e k) (s.cell o k) (aim_word s.objects (aim_by s.was (marked_list S e) k))
+  pub filled : (o k : ℕ) → s.objects.balance e ≡ Some o → k < 16
+      → Fits (s.late e k) (s.cell o k) (aim_word s.objects (aim_by s.was (marked_list S e) k))
   pub holding : (end : End) → s.holds e end ≡ has_hop (marked_list S e) end
 
 -- what stands of every prefix

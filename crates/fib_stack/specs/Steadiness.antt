@@ -5,8 +5,8 @@ use Rattle.fib_resolve.specs.declared.aims.Aim.{Aim}
 use Rattle.fib_resolve.specs.declared.types.End.{End}
 use Rattle.fib_resolve.specs.declared.types.Tables.{Tables}
 use Rattle.fib_core.specs.Walk.{hop_of}
-use Rattle.fib_steady.specs.Aims.{IsLasting, WantsAlike}
-use Rattle.fib_serving.specs.Stack.{Ledger, aim_word, Anchored, is_some}
+use Rattle.fib_core_steady.specs.Aims.{IsLasting, WantsAlike}
+use Rattle.fib_core_promise.specs.Stack.{Ledger, aim_word, Anchored, is_some}
 use Rattle.fib_stack.specs.States.{State}
 
 abbrev pub ledger_of : State → Ledger

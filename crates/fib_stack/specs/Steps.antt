@@ -7,8 +7,8 @@ use Rattle.fib_resolve.specs.Touched.{is_touched, differ}
 use Rattle.fib_resolve.specs.declared.types.End.{End}
 use Rattle.fib_resolve.specs.declared.types.Tables.{Tables}
 use Rattle.fib_core.specs.declared.word.Word.{Word}
-use Rattle.fib_changes.specs.Ranks.{wakes, has_entry}
-use Rattle.fib_serving.specs.Stack.{aim_word, is_some}
+use Rattle.fib_resolve_changes.specs.Ranks.{wakes, has_entry}
+use Rattle.fib_core_promise.specs.Stack.{aim_word, is_some}
 use Rattle.fib_stack.specs.States.{State, Fits, has_hop}
 
 -- a queued prefix of the least rank
@@ -32,7 +32,8 @@ pub record Restacked (S : Tables) (e : Prefix) (o : ℕ) (s t : State) : Type 0 
   pub others_holding : (d : Prefix) (end : End) → (d ≡ e → ⊥) → t.holds d end ≡ s.holds d end
   -- a record that has a user afterwards is there, and one that had a user before keeps its object
   pub held : (d : Prefix) (end : End) → t.holds d end ≡ true → is_some (t.objects.record_of end) ≡ true
-  pub same_record : (d c : Prefix) (end : End) → t.holds d end ≡ true → s.holds c end ≡ true → t.objects.record_of end ≡ s.objects.record_of end
+  pub same_record : (d c : Prefix) (end : End) → t.holds d end ≡ true → s.holds c end ≡ true
+      → t.objects.record_of end ≡ s.objects.record_of end
   -- who is woken, exactly
   pub queue : (d : Prefix) → t.queued d ≡ (s.queued d && not (same_prefix d e)) || (differ (s.was e) (forwards S e) && wakes S d e)
 
@@ -48,7 +49,8 @@ pub record Removed (e : Prefix) (s t : State) : Type 0 where
   pub holding : (end : End) → t.holds e end ≡ false
   pub others_holding : (d : Prefix) (end : End) → (d ≡ e → ⊥) → t.holds d end ≡ s.holds d end
   pub held : (d : Prefix) (end : End) → t.holds d end ≡ true → is_some (t.objects.record_of end) ≡ true
-  pub same_record : (d c : Prefix) (end : End) → t.holds d end ≡ true → s.holds c end ≡ true → t.objects.record_of end ≡ s.objects.record_of end
+  pub same_record : (d c : Prefix) (end : End) → t.holds d end ≡ true → s.holds c end ≡ true
+      → t.objects.record_of end ≡ s.objects.record_of end
   pub queue : (d : Prefix) → t.queued d ≡ (s.queued d && not (same_prefix d e))
 
 -- the tables changed: what the change touches is queued, and nothing else is other
@@ -71,8 +73,10 @@ pub record Retried (s t : State) : Type 0 where
   pub was : t.was ≡ s.was
   pub holds : t.holds ≡ s.holds
   pub queue : t.queued ≡ s.queued
-  pub cells : (e : Prefix) (o k : ℕ) → s.objects.balance e ≡ Some o → k < 16 → s.queued e ≡ false → StillOrStored (s.late e k) (t.late e k) (s.cell o k) (t.cell o k)
-  pub waiting : (e : Prefix) (o k : ℕ) → s.objects.balance e ≡ Some o → s.queued e ≡ true → (t.late e k ≡ s.late e k) × (t.cell o k ≡ s.cell o k)
+  pub cells : (e : Prefix) (o k : ℕ) → s.objects.balance e ≡ Some o → k < 16 → s.queued e ≡ false
+      → StillOrStored (s.late e k) (t.late e k) (s.cell o k) (t.cell o k)
+  pub waiting : (e : Prefix) (o k : ℕ) → s.objects.balance e ≡ Some o → s.queued e ≡ true → (t.late e k ≡ s.late e k)
+      × (t.cell o k ≡ s.cell o k)
   pub no_more : (e : Prefix) (k : ℕ) → s.late e k ≡ None → t.late e k ≡ None
 
 -- the buckets are those of the tables

@@ -3,12 +3,12 @@ use Rattle.std.specs.Prelude.{◌≡◌, ◌⊎◌, ℕ, ◌+◌, ◌-◌, ◌*�
 use Rattle.fib_addr.specs.Prefixes.{Prefix, same_prefix}
 use Rattle.fib_resolve.specs.Touched.{differ}
 use Rattle.fib_resolve.specs.declared.types.End.{End}
-use Rattle.fib_ledger.specs.Deferred.{late_at}
-use Rattle.fib_ordered.specs.Sets.{Order}
+use Rattle.fib_stack_ledger.specs.Deferred.{late_at}
+use Rattle.fib_base_ordered.specs.Sets.{Order}
 use Rattle.fib_ply.specs.Tables.{Table}
-use Rattle.fib_queue.specs.declared.order.Queued.{Queued}
-use Rattle.fib_serving.specs.Kept.{same_end}
-use Rattle.fib_woken.specs.Waking.{are_among, have_ranks}
+use Rattle.fib_stack_queue.specs.declared.order.Queued.{Queued}
+use Rattle.fib_core_promise.specs.Kept.{same_end}
+use Rattle.fib_stack_waking.specs.Waking.{are_among, have_ranks}
 use Rattle.fib_stack.specs.declared.stack.Plan.{Plan}
 use Rattle.fib_stack.specs.declared.stack.Stack.{Stack}
 use Rattle.fib_resolve.specs.Aims.{aim, marked_list}
@@ -16,37 +16,45 @@ use Rattle.fib_resolve.specs.declared.aims.Marked.{Marked}
 use Rattle.fib_resolve.specs.declared.types.Tables.{Tables}
 use Rattle.fib_core.specs.declared.word.Word.{Word}
 use Rattle.fib_pool.specs.declared.object.AdjacencyRecord.{AdjacencyRecord}
-use Rattle.fib_changes.specs.Ranks.{IsRanked, has_entry, is_usable_mark, wakes}
-use Rattle.fib_changes.specs.Wanted.{aim_of, of_least_mark, spread_marks}
-use Rattle.fib_ledger.specs.declared.ledger.Use.{Use}
-use Rattle.fib_ledger.specs.Ledgers.{count, known_of, record_used, times, total, used_by}
-use Rattle.fib_serving.specs.Stack.{Objects, aim_word}
-use Rattle.fib_steady.specs.Names.{Names}
-use Rattle.fib_joined.specs.declared.put.Put.{Put}
-use Rattle.fib_joined.specs.Frames.{Beside, IsQuiet}
-use Rattle.fib_joined.specs.Promise.{Promise, Serves}
-use Rattle.fib_joined.specs.View.{View, IsBalance, IsPlane, SameRecords}
+use Rattle.fib_resolve_changes.specs.Ranks.{IsRanked, has_entry, is_usable_mark, wakes}
+use Rattle.fib_resolve_changes.specs.Wanted.{aim_of, of_least_mark, spread_marks}
+use Rattle.fib_stack_ledger.specs.declared.ledger.Use.{Use}
+use Rattle.fib_stack_ledger.specs.Ledgers.{count, known_of, record_used, times, total, used_by}
+use Rattle.fib_core_promise.specs.Stack.{Objects, aim_word}
+use Rattle.fib_core_steady.specs.Names.{Names}
+use Rattle.fib_plane_view.specs.declared.put.Put.{Put}
+use Rattle.fib_plane_view.specs.Frames.{Beside, IsQuiet}
+use Rattle.fib_plane_view.specs.Promise.{Promise, Serves}
+use Rattle.fib_plane_view.specs.View.{View, IsBalance, IsPlane, SameRecords}
 use Rattle.fib_stack.specs.Joined.{Joined, Parts, balance_in, queued_in, state_in, was_by}
 use Rattle.fib_stack.specs.Records.{AreObjects, GaveAll, end_used, records_for}
+use Rattle.fib_stack.specs.Calls.{GivesOnly, TakesOnly}
 use Rattle.fib_stack.specs.Runs.{Puts, word_in, deferred_at}
 use Rattle.fib_stack.specs.States.{State, forwards_by}
 use Rattle.fib_stack.specs.Steps.{IsLeast, Restacked}
 
--- the sixteen puts: each of the wanted word, over the plane that it met; and what they dropped is deferred
-pub record IsRun (S : Tables) (e : Prefix) (o : ℕ) (t : State) : Type 0 where
+-- the sixteen puts of an entry's turn, from u to v. They begin over the plane as it was, but for what was taken; each is over the plane that
+-- the one before it left; all that comes after them is given back, or is the prefix table's. What they dropped is deferred: that edge closed
+-- a cycle in the union of current and retired edges, as it was at its put
+pub record IsRun (S : Tables) (e : Prefix) (o : ℕ) (u v : View) (t : State) : Type 0 where
   pub before : View
-  pub after : View
+  pub taken : TakesOnly u before
   pub wanted : List Word
   pub answers : List Put
+  pub after : View
   pub puts : Puts before o 0 wanted answers after
+  pub given : GivesOnly after v
   pub words : (k : ℕ) → k < 16 → word_in wanted k ≡ aim_word t.objects (aim S e k)
   pub late : (k : ℕ) → t.late e k ≡ deferred_at wanted answers k
+
+-- into the buckets of the entry's balance
+abbrev pub HasRun : Tables → Prefix → View → View → State → Type 0
+HasRun S e u v t = (o : ℕ) × (t.objects.balance e ≡ Some o) × IsRun S e o u v t
 
 -- there is an object for which the turn is one of the definition
 pub record IsRestacked (S : Tables) (e : Prefix) (s t : State) : Type 0 where
   pub object : ℕ
   pub turn : Restacked S e object s t
-  pub run : IsRun S e object t
 
 -- what a turn made ready before its first put: v0 is the plane before it
 pub record IsReadied (S : Tables) (p : Promise) (v0 v : View) (e : Prefix) (o : ℕ) (s : Parts) (f : Bool) (ms : List Marked) (us : List Use) : Type 0 where
@@ -114,6 +122,10 @@ pub record HasRoomFor (v : View) (s : Stack) (t : Table) (q : Order Queued) (use
 
 abbrev pub parts_of : Table → Stack → Order Queued → Parts
 parts_of t s q = record { rows = t.rows.members; plies = t.plies; known = known_of s.ledger.rows; total = total s.ledger.rows; late = s.late.members; queue = q.members }
+
+-- the state that a turn begins and ends with: the plane, with what the prefix table, the stack and the queue know
+abbrev pub state_at : View → Table → Stack → Order Queued → State
+state_at v t s q = state_in v (parts_of t s q)
 
 -- what was read of an entry: nothing is taken yet
 pub record IsRead (S : Tables) (rank : Prefix → ℕ) (was : Prefix → Bool) (e : Prefix) (plan : Plan) : Type 0 where

@@ -1,1 +1,2 @@
+-- What carries the proofs of a retry.
 pub mod Growing

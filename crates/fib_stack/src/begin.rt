@@ -1,15 +1,17 @@
 // A turn of an entry, up to its first put.
-ghost use Rattle.std.specs.Prelude.{◌≡◌, ◌+◌, ◌<◌, ◌≤◌, ℕ, true, IfOk, IsErrOf, OnErr, OnOk, Option, length};
+ghost use Rattle.std.specs.Prelude.{◌≡◌, ◌+◌, ◌<◌, ◌≤◌, ℕ, Some, true, IfOk, IsErrOf, OnErr, OnOk, Option, length};
 ghost use Rattle.fib_addr.specs.Prefixes.{Prefix as PrefixValue};
 ghost use Rattle.fib_resolve.specs.Aims.{marked_list};
 ghost use Rattle.fib_resolve.specs.declared.types.Tables.{Tables as TablesValue};
-ghost use Rattle.fib_changes.specs.Ranks.{has_entry};
-ghost use Rattle.fib_entries.specs.Known.{StandsFor, rank_of};
-ghost use Rattle.fib_steady.specs.Names.{Names};
-ghost use Rattle.fib_joined.specs.Frames.{IsQuiet};
-ghost use Rattle.fib_joined.specs.Promise.{Serves};
+ghost use Rattle.fib_resolve_changes.specs.Ranks.{has_entry};
+ghost use Rattle.fib_entries_rows.specs.Known.{StandsFor, rank_of};
+ghost use Rattle.fib_core_steady.specs.Names.{Names};
+ghost use Rattle.fib_plane_view.specs.Frames.{IsQuiet};
+ghost use Rattle.fib_plane_view.specs.Promise.{Serves};
+ghost use Rattle.fib_plane_view.specs.Stores.{StoresEach};
 ghost use Rattle.fib_ply.specs.Tables.{object_in};
-ghost use Rattle.fib_stack.specs.Records.{LacksFor, SamePlane, TookNew, records_for};
+ghost use Rattle.fib_stack.specs.Calls.{TakesOnly};
+ghost use Rattle.fib_stack.specs.Records.{IsObjectOf, LacksFor, SamePlane, TookNew, records_for};
 ghost use Rattle.fib_stack.specs.Turns.{HasRoomFor, IsTurnOf, IsUnderway, balances_for, parts_of};
 
 use crate::ready::{make_room, object_for, read};
@@ -17,9 +19,9 @@ use crate::records::{Want, give_all, take_all};
 use crate::stack::{Plan, Stack};
 use fib_addr::Prefix;
 use fib_entries::Entries;
-use fib_joined::Objects;
+use fib_plane_view::Objects;
 use fib_ply::PrefixTable;
-use fib_queue::Queue;
+use fib_stack_queue::Queue;
 
 /// Makes the turn of an entry ready. After a fault all is as before, but for the room and the count of stores. `Object` comes only where fewer
 /// objects are free than the entry has paths and eight: its balance, and a ply for each group of four bits below the root.
@@ -46,6 +48,9 @@ pub fn begin<P: Objects>(
         → (P.view on.old).free < 8 + length (marked_list S entry) }
     ensures taken { (S : TablesValue) → StandsFor entries.now S → OnOk result
         (TookNew (P.view on.old) (P.view on.new) (records_for (marked_list S entry)) (balances_for (object_in table.old entry))) }
+    ensures calls { OnOk result (TakesOnly (P.view on.old) (P.view on.new)) }
+    ensures stores { IfOk result (λ plan. (o : ℕ) → object_in table.old entry ≡ Some o
+        → StoresEach (λ y k. IsObjectOf plan.uses.items y) (P.view on.old) (P.view on.new)) }
     ensures lacks { (S : TablesValue) → StandsFor entries.now S → IsErrOf result Want.Object
         → LacksFor (P.view on.old) (records_for (marked_list S entry)) 8 }
     ensures quiet { (look : PrefixValue → Option ℕ) → IsQuiet look (P.view on.old) (P.view on.new) }

@@ -1,13 +1,13 @@
 // Buckets that sixteen puts left for later.
 ghost use Rattle.std.specs.Prelude.{◌≡◌, ◌+◌, ◌<◌, ◌≤◌, ℕ, None};
 ghost use Rattle.fib_addr.specs.Prefixes.{Prefix as PrefixValue};
-ghost use Rattle.fib_ledger.specs.Deferred.{is_at, late_at, late_count, one_late};
+ghost use Rattle.fib_stack_ledger.specs.Deferred.{is_at, late_at, late_count, one_late};
 ghost use Rattle.fib_stack.specs.Runs.{deferred_at, late_word};
 
 use fib_addr::Prefix;
 use fib_core::Word;
-use fib_joined::Put;
-use fib_ledger::Lates;
+use fib_plane_view::Put;
+use fib_stack_ledger::Lates;
 
 /// Defers the word, if the put dropped. Answers how many it deferred.
 fn defer_one(late: &mut Lates, entry: Prefix, slot: u32, word: Word, answer: Put) -> u32

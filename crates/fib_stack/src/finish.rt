@@ -2,14 +2,17 @@
 ghost use Rattle.std.specs.Prelude.{◌≡◌, ◌⊎◌, ◌+◌, ◌*◌, ◌<◌, ◌≤◌, ℕ, Bool, None, Some, Option, length};
 ghost use Rattle.fib_addr.specs.Prefixes.{Prefix as PrefixValue};
 ghost use Rattle.fib_resolve.specs.declared.types.Tables.{Tables as TablesValue};
-ghost use Rattle.fib_ledger.specs.Deferred.{late_at, late_count};
-ghost use Rattle.fib_joined.specs.Frames.{Beside};
-ghost use Rattle.fib_joined.specs.Promise.{Allows, IsBegun};
-ghost use Rattle.fib_joined.specs.View.{IsBalance, View};
+ghost use Rattle.fib_stack_ledger.specs.Deferred.{late_at, late_count};
+ghost use Rattle.fib_plane_view.specs.Frames.{Beside};
+ghost use Rattle.fib_plane_view.specs.Promise.{Allows, IsBegun};
+ghost use Rattle.fib_plane_view.specs.Stores.{StoresEach};
+ghost use Rattle.fib_plane_view.specs.View.{IsBalance, View};
+ghost use Rattle.fib_stack.specs.Records.{IsObjectOf};
 ghost use Rattle.fib_ply.specs.Tables.{Came, Stands, object_in};
-ghost use Rattle.fib_serving.specs.Matches.{FitsVersions, IsSometime};
+ghost use Rattle.fib_core_promise.specs.Matches.{FitsVersions, IsSometime};
+ghost use Rattle.fib_stack.specs.Calls.{GivesOnly, TakesOnly};
 ghost use Rattle.fib_stack.specs.Joined.{Joined, state_in};
-ghost use Rattle.fib_stack.specs.Turns.{HasRoomFor, IsRestacked, IsUnderway, parts_of};
+ghost use Rattle.fib_stack.specs.Turns.{HasRoomFor, HasRun, IsRestacked, IsUnderway, parts_of, state_at};
 
 use crate::defer::defer;
 use crate::records::give_old;
@@ -17,12 +20,12 @@ use crate::sixteen::fill;
 use crate::stack::{Plan, Stack};
 use crate::words::words_of;
 use fib_addr::Prefix;
-use fib_joined::Objects;
-use fib_ledger::Known;
-use fib_list::List;
+use fib_base_list::List;
+use fib_plane_view::Objects;
 use fib_ply::PrefixTable;
-use fib_queue::Queue;
-use fib_woken::wake_all;
+use fib_stack_ledger::Known;
+use fib_stack_queue::Queue;
+use fib_stack_waking::wake_all;
 
 /// Enters the prefix at the balance, unless it is there.
 fn place<P: Objects>(on: &mut P, table: &mut PrefixTable, entry: Prefix, object: u32)
@@ -40,10 +43,13 @@ fn place<P: Objects>(on: &mut P, table: &mut PrefixTable, entry: Prefix, object:
     ensures stands { Stands (P.promise on.new) table.new (P.view on.new) }
     ensures fits { FitsVersions (P.promise on.new).versions (object_in table.new) }
     ensures beside { Beside (P.view on.old) (P.view on.new) }
+    ensures given { GivesOnly (P.view on.old) (P.view on.new) }
+    ensures same { object_in table.old entry ≡ Some object → P.view on.new ≡ P.view on.old }
     ensures came { (count : ℕ) × Came (object_in table.old) entry count × ((P.view on.old).free ≤ (P.view on.new).free + count) }
     ensures stored { (P.view on.old).stored ≤ (P.view on.new).stored }
     ensures promise { P.promise on.new ≡ P.promise on.old }
 {
+    // A length tells that it is a prefix: the bits past it are cleared.
     let _length = entry.len();
     if table.object(entry).is_none() {
         table.add(on, entry, object);
@@ -64,7 +70,14 @@ pub fn finish<P: Objects>(
     ensures turn { (S : TablesValue) (rank : PrefixValue → ℕ) (v0 : View)
         → IsUnderway S rank (P.promise on.old) v0 (P.view on.old) (parts_of table.old stack.old queue.old) plan
         → IsRestacked S plan.entry (state_in v0 (parts_of table.old stack.old queue.old))
-        (state_in (P.view on.new) (parts_of table.new stack.new queue.new)) }
+        (state_at (P.view on.new) table.new stack.new queue.new) }
+    ensures run { (S : TablesValue) (rank : PrefixValue → ℕ) (v0 u : View)
+        → IsUnderway S rank (P.promise on.old) v0 (P.view on.old) (parts_of table.old stack.old queue.old) plan
+        → TakesOnly u (P.view on.old) → HasRun S plan.entry u (P.view on.new) (state_at (P.view on.new) table.new stack.new queue.new) }
+    ensures stores { (S : TablesValue) (rank : PrefixValue → ℕ) (v0 u : View)
+        → IsUnderway S rank (P.promise on.old) v0 (P.view on.old) (parts_of table.old stack.old queue.old) plan
+        → object_in table.old plan.entry ≡ Some plan.object → StoresEach (λ y k. IsObjectOf plan.uses.items y) u (P.view on.old)
+        → StoresEach (λ y k. Unit {0}) u (P.view on.new) }
     ensures joined { (S : TablesValue) (rank : PrefixValue → ℕ) (v0 : View)
         → IsUnderway S rank (P.promise on.old) v0 (P.view on.old) (parts_of table.old stack.old queue.old) plan
         → Joined S rank (P.promise on.old) (P.view on.new) (parts_of table.new stack.new queue.new) }

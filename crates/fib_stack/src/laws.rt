@@ -4,7 +4,7 @@ ghost use Rattle.fib_addr.specs.Prefixes.{Prefix};
 ghost use Rattle.fib_resolve.specs.Forwarding.{forwards};
 ghost use Rattle.fib_resolve.specs.Tables.{IsSound};
 ghost use Rattle.fib_resolve.specs.declared.types.Tables.{Tables};
-ghost use Rattle.fib_changes.specs.Ranks.{IsRanked, has_entry, wakes};
+ghost use Rattle.fib_resolve_changes.specs.Ranks.{IsRanked, has_entry, wakes};
 ghost use Rattle.fib_stack.specs.States.{IsQuiet, Kept, State};
 ghost use Rattle.fib_stack.specs.Steps.{Applied, IsLeast, Removed, Restacked, Retried, StandsFor};
 ghost use Rattle.fib_stack.specs.Steadiness.{IsSteady};

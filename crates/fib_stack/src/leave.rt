@@ -2,23 +2,23 @@
 ghost use Rattle.std.specs.Prelude.{◌≡◌, ◌+◌, ◌*◌, ◌<◌, ◌≤◌, ℕ, None, Some, false, Option};
 ghost use Rattle.fib_addr.specs.Prefixes.{Prefix as PrefixValue};
 ghost use Rattle.fib_resolve.specs.declared.types.Tables.{Tables as TablesValue};
-ghost use Rattle.fib_changes.specs.Ranks.{IsRanked, has_entry};
-ghost use Rattle.fib_ledger.specs.Deferred.{late_at};
-ghost use Rattle.fib_steady.specs.Aims.{IsLasting};
-ghost use Rattle.fib_joined.specs.Promise.{IsBegun};
-ghost use Rattle.fib_joined.specs.View.{IsBalance, View};
+ghost use Rattle.fib_resolve_changes.specs.Ranks.{IsRanked, has_entry};
+ghost use Rattle.fib_stack_ledger.specs.Deferred.{late_at};
+ghost use Rattle.fib_core_steady.specs.Aims.{IsLasting};
+ghost use Rattle.fib_plane_view.specs.Promise.{IsBegun};
+ghost use Rattle.fib_plane_view.specs.View.{IsBalance, View};
 ghost use Rattle.fib_ply.specs.Tables.{Stands, object_in};
-ghost use Rattle.fib_serving.specs.Matches.{FitsVersions};
-ghost use Rattle.fib_stack.specs.Joined.{Joined, state_in};
+ghost use Rattle.fib_core_promise.specs.Matches.{FitsVersions};
+ghost use Rattle.fib_stack.specs.Joined.{Joined};
 ghost use Rattle.fib_stack.specs.Steps.{IsLeast, Removed};
-ghost use Rattle.fib_stack.specs.Turns.{WentFrom, parts_of};
+ghost use Rattle.fib_stack.specs.Turns.{WentFrom, parts_of, state_at};
 
 use crate::records::give_old;
 use crate::stack::Stack;
 use fib_addr::Prefix;
-use fib_joined::Objects;
+use fib_plane_view::Objects;
 use fib_ply::PrefixTable;
-use fib_queue::Queue;
+use fib_stack_queue::Queue;
 
 /// Takes the prefix out of the table, if it is there, and lets its balance go.
 fn take_out<P: Objects>(on: &mut P, table: &mut PrefixTable, entry: Prefix)
@@ -54,15 +54,15 @@ pub fn leave<P: Objects>(
 )
     requires left { (S : TablesValue) × (rank : PrefixValue → ℕ) × IsRanked S rank
         × Joined S rank (P.promise on.old) (P.view on.old) (parts_of table.old stack.old queue.old)
-        × IsLeast rank (state_in (P.view on.old) (parts_of table.old stack.old queue.old)) entry × (has_entry S entry ≡ false) }
+        × IsLeast rank (state_at (P.view on.old) table.old stack.old queue.old) entry × (has_entry S entry ≡ false) }
     requires prefix { 1 ≤ entry.len }
     requires spare { 16 * table.old.plies ≤ (P.view on.old).spare }
     ensures turn { (S : TablesValue) (rank : PrefixValue → ℕ) → Joined S rank (P.promise on.old) (P.view on.old)
-        (parts_of table.old stack.old queue.old) → Removed entry (state_in (P.view on.old) (parts_of table.old stack.old queue.old))
-        (state_in (P.view on.new) (parts_of table.new stack.new queue.new)) }
+        (parts_of table.old stack.old queue.old) → Removed entry (state_at (P.view on.old) table.old stack.old queue.old)
+        (state_at (P.view on.new) table.new stack.new queue.new) }
     ensures joined { (S : TablesValue) (rank : PrefixValue → ℕ) → IsRanked S rank
         → Joined S rank (P.promise on.old) (P.view on.old) (parts_of table.old stack.old queue.old)
-        → IsLeast rank (state_in (P.view on.old) (parts_of table.old stack.old queue.old)) entry → has_entry S entry ≡ false
+        → IsLeast rank (state_at (P.view on.old) table.old stack.old queue.old) entry → has_entry S entry ≡ false
         → Joined S rank (P.promise on.old) (P.view on.new) (parts_of table.new stack.new queue.new) }
     ensures clear { (k : ℕ) → late_at stack.new.late.members entry k ≡ None }
     ensures free { (P.view on.old).free ≤ (P.view on.new).free }

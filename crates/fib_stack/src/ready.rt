@@ -4,15 +4,16 @@ ghost use Rattle.fib_addr.specs.Prefixes.{Prefix as PrefixValue};
 ghost use Rattle.fib_resolve.specs.Aims.{marked_list};
 ghost use Rattle.fib_resolve.specs.Touched.{differ};
 ghost use Rattle.fib_resolve.specs.declared.types.Tables.{Tables as TablesValue};
-ghost use Rattle.fib_changes.specs.Ranks.{has_entry, wakes};
-ghost use Rattle.fib_entries.specs.Known.{StandsFor, rank_of};
-ghost use Rattle.fib_ledger.specs.Ledgers.{was_in};
-ghost use Rattle.fib_steady.specs.Names.{Names};
-ghost use Rattle.fib_joined.specs.Frames.{IsQuiet};
-ghost use Rattle.fib_joined.specs.Promise.{MayClear, Serves};
-ghost use Rattle.fib_joined.specs.View.{HasRoom, IsBalance};
-ghost use Rattle.fib_ply.specs.Tables.{object_in};
-ghost use Rattle.fib_stack.specs.Joined.{Joined, state_in};
+ghost use Rattle.fib_resolve_changes.specs.Ranks.{has_entry, wakes};
+ghost use Rattle.fib_entries_rows.specs.Known.{StandsFor, rank_of};
+ghost use Rattle.fib_stack_ledger.specs.Ledgers.{was_in};
+ghost use Rattle.fib_core_steady.specs.Names.{Names};
+ghost use Rattle.fib_plane_view.specs.Frames.{IsQuiet};
+ghost use Rattle.fib_plane_view.specs.Promise.{MayClear, Promise as PromiseValue, Serves};
+ghost use Rattle.fib_plane_view.specs.View.{HasRoom, IsBalance};
+ghost use Rattle.fib_ply.specs.Tables.{Stands, object_in};
+ghost use Rattle.fib_stack.specs.Calls.{TakesOnly};
+ghost use Rattle.fib_stack.specs.Joined.{Joined};
 ghost use Rattle.fib_stack.specs.Records.{SamePlane};
 ghost use Rattle.fib_stack.specs.Steps.{IsLeast};
 ghost use Rattle.fib_stack.specs.Turns.{GotObject, HasRoomFor, IsRead, IsUnderway, balances_for, parts_of};
@@ -22,12 +23,12 @@ use crate::stack::{Plan, Stack};
 use crate::wanted::{forwards, wanted};
 use fib_addr::Prefix;
 use fib_entries::Entries;
-use fib_joined::Objects;
-use fib_ledger::Ledger;
+use fib_plane_view::Objects;
 use fib_ply::PrefixTable;
 use fib_pool::Kind;
-use fib_queue::Queue;
-use fib_woken::woken_where;
+use fib_stack_ledger::Ledger;
+use fib_stack_queue::Queue;
+use fib_stack_waking::woken_where;
 use std::alloc::{AllocError, Global};
 
 fn differs(left: bool, right: bool) -> bool
@@ -63,20 +64,6 @@ pub fn read(
     })
 }
 
-/// Room in the plane for the puts, and for a change of a table with so many plies. A plane has fewer objects than that.
-pub fn room_for<P: Objects>(on: &mut P, plies: u32) -> Result<(), AllocError>
-    ensures room { OnOk result (16 * (plies + 7) + 16 ≤ (P.view on.new).spare) }
-    ensures same { HasRoom (P.view on.old) (P.view on.new) }
-    ensures promise { P.promise on.new ≡ P.promise on.old }
-{
-    if plies > 131_072 {
-        // No ply more is ever asked for.
-        on.room(0)?;
-        return Err(AllocError);
-    }
-    on.room(16 * (plies + 7) + 16)
-}
-
 /// All room for the rest of a turn.
 pub fn make_room<P: Objects>(
     on: &mut P,
@@ -86,13 +73,14 @@ pub fn make_room<P: Objects>(
     uses: usize,
     woken: usize,
 ) -> Result<(), AllocError>
+    requires stands { (p : PromiseValue) × Stands p table.old (P.view on.old) }
     ensures room { OnOk result (HasRoomFor (P.view on.new) stack.new table.new queue.new uses woken) }
     ensures parts { parts_of table.new stack.new queue.new ≡ parts_of table.old stack.old queue.old }
     ensures same { HasRoom (P.view on.old) (P.view on.new) }
     ensures promise { P.promise on.new ≡ P.promise on.old }
 {
     let alloc = stack.late.allocator();
-    room_for(on, table.plies())?;
+    table.room(on)?;
     stack.late.reserve(16)?;
     stack.ledger.reserve(uses)?;
     table.reserve(alloc, 1)?;
@@ -109,6 +97,8 @@ pub fn object_for<P: Objects>(on: &mut P, table: &PrefixTable, entry: Prefix) ->
     ensures none { IfNone result (P.view on.new ≡ P.view on.old) }
     ensures short { IfNone result ((P.view on.old).free < 8) }
     ensures taken { (P.view on.old).free ≤ (P.view on.new).free + balances_for (object_in table.now entry) }
+    ensures same { (o : ℕ) → object_in table.now entry ≡ Some o → P.view on.new ≡ P.view on.old }
+    ensures calls { TakesOnly (P.view on.old) (P.view on.new) }
     ensures quiet { (look : PrefixValue → Option ℕ) → IsQuiet look (P.view on.old) (P.view on.new) }
     ensures serves { (n : Names) → Serves (P.promise on.old) n (P.view on.old) → Serves (P.promise on.old) n (P.view on.new) }
     ensures promise { P.promise on.new ≡ P.promise on.old }

@@ -4,16 +4,19 @@ ghost use Rattle.std.specs.List.{AllByRecursion};
 ghost use Rattle.fib_addr.specs.Prefixes.{Prefix};
 ghost use Rattle.fib_pool.specs.declared.object.AdjacencyRecord.{AdjacencyRecord as Record};
 ghost use Rattle.fib_pool.specs.Records.{adjacency};
-ghost use Rattle.fib_ledger.specs.Ledgers.{record_used, times, used_by};
-ghost use Rattle.fib_steady.specs.Names.{Names};
-ghost use Rattle.fib_joined.specs.Frames.{IsQuiet};
-ghost use Rattle.fib_joined.specs.Promise.{MayClear, Serves};
-ghost use Rattle.fib_stack.specs.Records.{AreObjects, Freed, GaveAll, IsAlone, LacksFor, SamePlane, TookAll, TookFor, TookNew, record_for, records_for};
+ghost use Rattle.fib_stack_ledger.specs.Ledgers.{record_used, times, used_by};
+ghost use Rattle.fib_core_steady.specs.Names.{Names};
+ghost use Rattle.fib_plane_view.specs.Frames.{IsQuiet};
+ghost use Rattle.fib_plane_view.specs.Promise.{MayClear, Serves};
+ghost use Rattle.fib_plane_view.specs.Stores.{IsFreed, StoresEach};
+ghost use Rattle.fib_plane_view.specs.View.{IsLive};
+ghost use Rattle.fib_stack.specs.Calls.{GivesOnly, TakesOnly};
+ghost use Rattle.fib_stack.specs.Records.{AreObjects, Freed, GaveAll, IsAlone, IsObjectOf, LacksFor, SamePlane, TookAll, TookFor, TookNew, record_for, records_for};
 
 use fib_addr::{Addr, Mac};
-use fib_joined::Objects;
-use fib_ledger::{Known, Use};
+use fib_plane_view::Objects;
 use fib_resolve::{Aim, End, Marked};
+use fib_stack_ledger::{Known, Use};
 
 /// What kept records, or an object, from being taken.
 #[derive(Clone, Copy, PartialEq, Eq, Debug)]
@@ -30,6 +33,9 @@ pub fn give_all<P: Objects>(on: &mut P, uses: &[Use])
     requires objects { AreObjects (P.view on.old) uses.now }
     requires promise { MayClear (P.promise on.old) (P.view on.old) }
     ensures gave { GaveAll (P.view on.old) (P.view on.new) uses.now }
+    ensures given { GivesOnly (P.view on.old) (P.view on.new) }
+    ensures stores { StoresEach (λ y k. IsFreed (P.view on.old) (P.view on.new) y) (P.view on.old) (P.view on.new) }
+    ensures alive { (y : ℕ) → IsLive (P.view on.new) y → IsLive (P.view on.old) y }
     ensures freed { (ms : List Record) → AllByRecursion (IsAlone (P.view on.old)) ms → Freed (P.view on.old) (P.view on.new) uses.now ms }
     ensures quiet { (look : Prefix → Option ℕ) → IsQuiet look (P.view on.old) (P.view on.new) }
     ensures serves { (n : Names) → Serves (P.promise on.old) n (P.view on.old) → Serves (P.promise on.old) n (P.view on.new) }
@@ -46,6 +52,9 @@ pub fn give_old<P: Objects>(on: &mut P, old: &Option<Known>)
     requires objects { AreObjects (P.view on.old) (used_by old.now) }
     requires promise { MayClear (P.promise on.old) (P.view on.old) }
     ensures gave { GaveAll (P.view on.old) (P.view on.new) (used_by old.now) }
+    ensures given { GivesOnly (P.view on.old) (P.view on.new) }
+    ensures stores { StoresEach (λ y k. IsFreed (P.view on.old) (P.view on.new) y) (P.view on.old) (P.view on.new) }
+    ensures alive { (y : ℕ) → IsLive (P.view on.new) y → IsLive (P.view on.old) y }
     ensures quiet { (look : Prefix → Option ℕ) → IsQuiet look (P.view on.old) (P.view on.new) }
     ensures serves { (n : Names) → Serves (P.promise on.old) n (P.view on.old) → Serves (P.promise on.old) n (P.view on.new) }
     ensures promise { P.promise on.new ≡ P.promise on.old }
@@ -78,6 +87,7 @@ fn take_hop<P: Objects>(
     requires few { (m : Record) → (P.view on.old).users m < 2 ^ 32 - 1 }
     requires promise { MayClear (P.promise on.old) (P.view on.old) }
     ensures took { TookFor (P.view on.old) (P.view on.new) (Some (adjacency interface next_hop mac)) uses.old.items uses.new.items result }
+    ensures stores { StoresEach (λ y k. IsObjectOf uses.new.items y × (IsLive (P.view on.old) y → ⊥)) (P.view on.old) (P.view on.new) }
     ensures capacity { vec_capacity uses.new ≡ vec_capacity uses.old }
     ensures promise { P.promise on.new ≡ P.promise on.old }
 {
@@ -102,6 +112,7 @@ fn take_for<P: Objects>(on: &mut P, aim: Aim, uses: &mut Vec<Use>) -> Result<(),
     requires few { (m : Record) → (P.view on.old).users m < 2 ^ 32 - 1 }
     requires promise { MayClear (P.promise on.old) (P.view on.old) }
     ensures took { TookFor (P.view on.old) (P.view on.new) (record_for aim) uses.old.items uses.new.items result }
+    ensures stores { StoresEach (λ y k. IsObjectOf uses.new.items y × (IsLive (P.view on.old) y → ⊥)) (P.view on.old) (P.view on.new) }
     ensures capacity { vec_capacity uses.new ≡ vec_capacity uses.old }
     ensures promise { P.promise on.new ≡ P.promise on.old }
 {
@@ -129,6 +140,8 @@ pub fn take_all<P: Objects>(on: &mut P, marks: &[Marked], uses: &mut Vec<Use>) -
     requires few { (m : Record) → (P.view on.old).users m + length marks.now < 2 ^ 32 - 1 }
     requires promise { MayClear (P.promise on.old) (P.view on.old) }
     ensures ok { OnOk result (TookAll (P.view on.old) (P.view on.new) uses.new.items) }
+    ensures taken { OnOk result (TakesOnly (P.view on.old) (P.view on.new)) }
+    ensures stores { OnOk result (StoresEach (λ y k. IsObjectOf uses.new.items y) (P.view on.old) (P.view on.new)) }
     ensures records { OnOk result (map record_used uses.new.items ≡ records_for marks.now) }
     ensures err { OnErr result (SamePlane (P.view on.old) (P.view on.new)) }
     ensures short { IsErrOf result Want.Object → (P.view on.old).free < length marks.now }

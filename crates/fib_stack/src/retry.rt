@@ -2,22 +2,22 @@
 ghost use Rattle.std.specs.Prelude.{◌≡◌, ◌<◌, ◌≤◌, ℕ, Option, Some, [], length, remove, slice_index_or, true, false};
 ghost use Rattle.fib_addr.specs.Prefixes.{Prefix as PrefixValue};
 ghost use Rattle.fib_resolve.specs.declared.types.Tables.{Tables as TablesValue};
-ghost use Rattle.fib_changes.specs.Ranks.{IsRanked};
+ghost use Rattle.fib_resolve_changes.specs.Ranks.{IsRanked};
 ghost use Rattle.fib_core.specs.declared.word.Word.{Word as WordValue};
-ghost use Rattle.fib_ledger.specs.declared.late.Late.{Late as LateValue};
-ghost use Rattle.fib_ledger.specs.Deferred.{late_at};
-ghost use Rattle.fib_joined.specs.Frames.{IsQuiet};
+ghost use Rattle.fib_stack_ledger.specs.declared.late.Late.{Late as LateValue};
+ghost use Rattle.fib_stack_ledger.specs.Deferred.{late_at};
+ghost use Rattle.fib_plane_view.specs.Frames.{IsQuiet};
 ghost use Rattle.fib_stack.specs.Done.{StaysLate};
-ghost use Rattle.fib_stack.specs.Joined.{Joined, queued_in, state_in};
-ghost use Rattle.fib_stack.specs.Room.{HasRoomLeft};
+ghost use Rattle.fib_stack.specs.Joined.{Joined, queued_in};
+ghost use Rattle.fib_stack.specs.Room.{HasRoomLeft, Took};
 ghost use Rattle.fib_stack.specs.Steps.{Retried};
-ghost use Rattle.fib_stack.specs.Turns.{parts_of};
+ghost use Rattle.fib_stack.specs.Turns.{parts_of, state_at};
 ghost use Rattle.fib_stack.specs.inner.Growing.{Grew};
 
 use crate::stack::Stack;
-use fib_joined::{Objects, Put};
+use fib_plane_view::{Objects, Put};
 use fib_ply::PrefixTable;
-use fib_queue::Queue;
+use fib_stack_queue::Queue;
 
 /// Tries the deferred bucket at that place of the list, unless its prefix is queued. Answers whether it left the list, since its word is
 /// there now.
@@ -33,8 +33,8 @@ fn try_at<P: Objects>(
     requires place { place < length stack.old.late.members }
     ensures retried { (S : TablesValue) (rank : PrefixValue → ℕ)
         → Joined S rank (P.promise on.old) (P.view on.old) (parts_of table.now stack.old queue.now)
-        → Retried (state_in (P.view on.old) (parts_of table.now stack.old queue.now))
-        (state_in (P.view on.new) (parts_of table.now stack.new queue.now)) }
+        → Retried (state_at (P.view on.old) table.now stack.old queue.now)
+        (state_at (P.view on.new) table.now stack.new queue.now) }
     ensures joined { (S : TablesValue) (rank : PrefixValue → ℕ) → Joined S rank (P.promise on.old) (P.view on.old)
         (parts_of table.now stack.old queue.now) → Joined S rank (P.promise on.old) (P.view on.new)
         (parts_of table.now stack.new queue.now) }
@@ -46,6 +46,7 @@ fn try_at<P: Objects>(
     ensures quiet { (look : PrefixValue → Option ℕ) → IsQuiet look (P.view on.old) (P.view on.new) }
     ensures promise { P.promise on.new ≡ P.promise on.old }
 {
+    // A length of the list tells that each deferred bucket stands there once, at a slot below sixteen.
     let _listed = stack.late.len();
     let next = stack.late.at(place);
     if queue.is_queued(next.entry) {
@@ -74,8 +75,8 @@ impl Stack {
             (parts_of table.now self.old queue.now) }
         ensures retried { (S : TablesValue) (rank : PrefixValue → ℕ)
             → Joined S rank (P.promise on.old) (P.view on.old) (parts_of table.now self.old queue.now)
-            → Retried (state_in (P.view on.old) (parts_of table.now self.old queue.now))
-            (state_in (P.view on.new) (parts_of table.now self.new queue.now)) }
+            → Retried (state_at (P.view on.old) table.now self.old queue.now)
+            (state_at (P.view on.new) table.now self.new queue.now) }
         ensures joined { (S : TablesValue) (rank : PrefixValue → ℕ)
             → Joined S rank (P.promise on.old) (P.view on.old) (parts_of table.now self.old queue.now)
             → Joined S rank (P.promise on.new) (P.view on.new) (parts_of table.now self.new queue.now) }
@@ -90,8 +91,10 @@ impl Stack {
         ensures quiet { (look : PrefixValue → Option ℕ) → IsQuiet look (P.view on.old) (P.view on.new) }
         ensures free { (P.view on.old).free ≤ (P.view on.new).free }
         ensures room { (S : TablesValue) → HasRoomLeft S (P.view on.old).free
-            (state_in (P.view on.old) (parts_of table.now self.old queue.now))
-            → HasRoomLeft S (P.view on.new).free (state_in (P.view on.new) (parts_of table.now self.new queue.now)) }
+            (state_at (P.view on.old) table.now self.old queue.now)
+            → HasRoomLeft S (P.view on.new).free (state_at (P.view on.new) table.now self.new queue.now) }
+        ensures takes { (S : TablesValue) → Took S (state_at (P.view on.old) table.now self.old queue.now)
+            (state_at (P.view on.new) table.now self.new queue.now) (P.view on.old).free (P.view on.new).free }
         ensures stored { (P.view on.old).stored ≤ (P.view on.new).stored }
         ensures promise { P.promise on.new ≡ P.promise on.old }
     {

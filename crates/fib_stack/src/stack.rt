@@ -2,12 +2,12 @@
 ghost use Rattle.std.specs.Prelude.{◌≡◌, ◌<◌, [], length};
 ghost use Rattle.fib_addr.specs.Prefixes.{Prefix as PrefixValue};
 ghost use Rattle.fib_pool.specs.declared.object.AdjacencyRecord.{AdjacencyRecord as Record};
-ghost use Rattle.fib_ledger.specs.Ledgers.{known_of, times, total, used_by};
+ghost use Rattle.fib_stack_ledger.specs.Ledgers.{known_of, times, total, used_by};
 
 use fib_addr::Prefix;
-use fib_ledger::{Lates, Ledger, Use};
-use fib_queue::Queued;
 use fib_resolve::Marked;
+use fib_stack_ledger::{Lates, Ledger, Use};
+use fib_stack_queue::Queued;
 use std::alloc::Global;
 
 /// The buckets of entries, as far as they aren't in the plane: what is known of each prefix since its last turn, and which buckets are

@@ -1,12 +1,12 @@
 // What an entry wants of its buckets.
 ghost use Rattle.std.specs.Prelude.{◌≡◌, ◌<◌, ◌≤◌, ◌++◌, All, IfOk, OnOk, filter, flat_map, length, map, option_to_list, slice_get, sum};
-ghost use Rattle.fib_changes.specs.Ranks.{is_usable_mark, leads_on};
-ghost use Rattle.fib_changes.specs.Wanted.{aim_by, aim_of, least_mark, of_least_mark, spread_marks};
-ghost use Rattle.fib_ledger.specs.Ledgers.{was_in};
+ghost use Rattle.fib_resolve_changes.specs.Ranks.{is_usable_mark, leads_on};
+ghost use Rattle.fib_resolve_changes.specs.Wanted.{aim_by, aim_of, least_mark, of_least_mark, spread_marks};
+ghost use Rattle.fib_stack_ledger.specs.Ledgers.{was_in};
 ghost use Rattle.fib_stack.specs.States.{forwards_by};
 
-use fib_ledger::Ledger;
 use fib_resolve::{Aim, End, Marked};
+use fib_stack_ledger::Ledger;
 use std::alloc::{AllocError, Global};
 
 /// Whether the entry at which packets go on, if there is one, forwarded at its last turn.

@@ -2,9 +2,9 @@
 ghost use Rattle.std.specs.Prelude.{◌≡◌, ◌<◌, ℕ, IfSome, Option, length, slice_get};
 ghost use Rattle.fib_addr.specs.Prefixes.{Prefix as PrefixValue};
 ghost use Rattle.fib_resolve.specs.Touched.{same_mac};
-ghost use Rattle.fib_changes.specs.Wanted.{aim_of};
-ghost use Rattle.fib_serving.specs.Kept.{same_end};
-ghost use Rattle.fib_serving.specs.Stack.{aim_word, end_word};
+ghost use Rattle.fib_resolve_changes.specs.Wanted.{aim_of};
+ghost use Rattle.fib_core_promise.specs.Kept.{same_end};
+ghost use Rattle.fib_core_promise.specs.Stack.{aim_word, end_word};
 ghost use Rattle.fib_ply.specs.Tables.{object_in};
 ghost use Rattle.fib_stack.specs.Records.{end_used};
 ghost use Rattle.fib_stack.specs.Runs.{word_in};
@@ -13,9 +13,9 @@ ghost use Rattle.fib_stack.specs.Turns.{found_in};
 use crate::wanted::aim_at;
 use fib_addr::{Mac, Prefix};
 use fib_core::Word;
-use fib_ledger::Use;
 use fib_ply::PrefixTable;
 use fib_resolve::{Aim, End, Marked};
+use fib_stack_ledger::Use;
 
 fn same_mac(left: &Option<Mac>, right: &Option<Mac>) -> bool
     ensures { result ≡ same_mac left.now right.now }

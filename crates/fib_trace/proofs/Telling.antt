@@ -1,16 +1,16 @@
 -- Loads that are told one by one.
 use Rattle.std.proofs.Common.{◌≡◌, ◌+◌, ◌*◌, ◌++◌, ◌∷◌, [], ℕ, List, reverse, map, sym, ap, ◌∙◌, subst, arith}
 use Rattle.std.proofs.lemmas.List.{reverse-append, map-append}
-use Rattle.fib_results.specs.declared.record.Version.{Version}
+use Rattle.fib_core_results.specs.declared.record.Version.{Version}
 use Rattle.fib_core.specs.declared.word.Word.{Word}
 use Rattle.fib_core.specs.Words.{encoded}
 use Rattle.fib_core.specs.Trails.{IsSoundTrail, place, stands}
-use Rattle.fib_lawful.specs.State.{Worker}
-use Rattle.fib_board.specs.Crews.{Seated}
+use Rattle.fib_core_lawful.specs.State.{Worker}
+use Rattle.fib_core_board.specs.Crews.{Seated}
 use Rattle.fib_cells.specs.Seats.{seat_loaded}
-use Rattle.fib_hops.specs.declared.stage.Stage.{Stage}
-use Rattle.fib_hops.specs.declared.stage.Stage.TheVariants as stages
-use Rattle.fib_hops.specs.Stages.{StandsAt}
+use Rattle.fib_core.specs.declared.stage.Stage.{Stage}
+use Rattle.fib_core.specs.declared.stage.Stage.TheVariants as stages
+use Rattle.fib_core.specs.Stages.{StandsAt}
 use Rattle.fib_worker.specs.Passes.{HasHopped}
 use Rattle.fib_worker.specs.inner.Runs.{IsOn, IsOnItsWay, IsRunning, Nears, WithTrail}
 use Rattle.fib_worker.proofs.Passing.{IsLoaded, Reading, loaded}
@@ -63,14 +63,3 @@ way_on a h v w s t lo n m p hop at sound near on is =
       few = omega arith;
       count = omega arith;
     }
-
-pub known_on : (u v w : Worker) → WithTrail u v → WithTrail v w → WithTrail u w
-known_on u v w p q = record {
-  objects = q.objects ∙ p.objects;
-  number = q.number ∙ p.number;
-  pass = q.pass ∙ p.pass;
-  knows = q.knows ∙ p.knows;
-  past = q.past ∙ p.past;
-  claims = q.claims ∙ p.claims;
-  lo = q.lo ∙ p.lo;
-}

@@ -1,10 +1,10 @@
 -- The loads of a pass as they are told, and as the seat knows them.
 use Rattle.std.specs.Prelude.{◌≡◌, ℕ, ◌+◌, ◌*◌, List, reverse, map}
-use Rattle.fib_results.specs.declared.record.Record.{Record}
-use Rattle.fib_results.specs.Trails.{AtLeast}
+use Rattle.fib_core_results.specs.declared.record.Record.{Record}
+use Rattle.fib_core_results.specs.Trails.{AtLeast}
 use Rattle.fib_core.specs.Words.{encoded}
 use Rattle.fib_core.specs.Trails.{Trail, Follows, result_of}
-use Rattle.fib_board.specs.Crews.{Seated}
+use Rattle.fib_core_board.specs.Crews.{Seated}
 use Rattle.fib_worker.specs.Passes.{passed}
 use Rattle.fib_trace.specs.declared.load.Load.{Load}
 

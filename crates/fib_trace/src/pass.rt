@@ -1,8 +1,8 @@
 // A whole pass, load by load.
 ghost use Rattle.std.specs.Prelude.{◌≡◌, ◌<◌, ◌≤◌, ◌+◌, [], ℕ, length};
 ghost use Rattle.fib_core.specs.Trails.{IsSoundTrail, place};
-ghost use Rattle.fib_lawful.specs.State.{left_of};
-ghost use Rattle.fib_hops.specs.Stages.{StandsAt};
+ghost use Rattle.fib_core_lawful.specs.State.{left_of};
+ghost use Rattle.fib_core.specs.Stages.{StandsAt};
 ghost use Rattle.fib_worker.specs.Passes.{HasEnded, HasHopped};
 ghost use Rattle.fib_worker.specs.inner.Runs.{IsAtItsEnd, IsOn, IsOnItsWay, IsRunning, Nears, WithTrail};
 ghost use Rattle.fib_trace.specs.Traces.{HasTraced, coded};
@@ -12,8 +12,7 @@ use crate::load::Load;
 use crate::trail::Trail;
 use fib_addr::{Addr, nibble};
 use fib_cells::{WalkingSeat, WorkerSeat};
-use fib_core::{Record, Version, Word};
-use fib_hops::{Stage, adjacency_end, after_balance, after_ply};
+use fib_core::{Record, Stage, Version, Word, adjacency_end, after_balance, after_ply};
 use fib_resolve::End;
 
 // One load of the object where the seat stands, which is kept.

@@ -7,9 +7,9 @@ use Rattle.std.proofs.lemmas.List.{append-nil, drop_all, length-drop, length-tak
 use Rattle.std.proofs.lemmas.Option.{slice_get_within, get_or_from_slice_get}
 use Rattle.fib_resolve.specs.declared.types.Tables.{Tables}
 use Rattle.fib_control.specs.Controls.{Control}
-use Rattle.fib_crew.proofs.Spans.{drop_at}
-use Rattle.fib_turns.specs.Routers.{HasGrown, Progress, Router, applied_in, counted, history_in, one_refused, refusing, router_of}
-use Rattle.fib_turns.specs.Turns.{change_turn_of, refusal_turn}
+use Rattle.fib_worker_crew.proofs.Spans.{drop_at}
+use Rattle.fib_rounds_turns.specs.Routers.{HasGrown, Progress, Router, applied_in, counted, history_in, one_refused, refusing, router_of}
+use Rattle.fib_rounds_turns.specs.Turns.{change_turn_of, refusal_turn}
 use Rattle.fib_rounds.specs.Stages.{Stage, grown, start}
 use Rattle.fib_rounds.specs.Rounds.{stage_of}
 use Rattle.fib_tracer.specs.Lines.{after_line, after_trace, before_trace, behind, closing, is_trace, lines_text, opening, stage_from, text_from, traced_turn}

@@ -2,16 +2,16 @@
 use Rattle.std.proofs.Common.{◌≡◌, ◌<◌, ◌≤◌, ◌+◌, ◌^◌, ◌++◌, ◌∷◌, [], ℕ, List, length, take, map, arith, refl, ap, ap₂, ◌∙◌, sym, subst, Some}
 use Rattle.std.specs.Prelude.{slice_get}
 use Rattle.std.proofs.lemmas.List.{append_assoc, append-nil, length-append, map-append}
-use Rattle.fib_results.specs.declared.record.Record.{Record}
-use Rattle.fib_results.specs.declared.record.Version.{Version}
-use Rattle.fib_results.specs.Trails.{AtLeast}
+use Rattle.fib_core_results.specs.declared.record.Record.{Record}
+use Rattle.fib_core_results.specs.declared.record.Version.{Version}
+use Rattle.fib_core_results.specs.Trails.{AtLeast}
 use Rattle.fib_capture.specs.declared.packet.Packet.{Packet}
 use Rattle.fib_capture.specs.declared.packet.Packet.TheVariants.{Flow, NotIpv4, BadHeader}
 use Rattle.fib_core.specs.Trails.{Trail}
-use Rattle.fib_lawful.specs.State.{left_of}
-use Rattle.fib_board.specs.Crews.{Seated}
-use Rattle.fib_crew.specs.Packets.{Matched}
-use Rattle.fib_crew.proofs.Matching.{at_least_trans, matched_append, matched_weaker}
+use Rattle.fib_core_lawful.specs.State.{left_of}
+use Rattle.fib_core_board.specs.Crews.{Seated}
+use Rattle.fib_worker_crew.specs.Packets.{Matched}
+use Rattle.fib_worker_crew.proofs.Matching.{at_least_trans, matched_append, matched_weaker}
 use Rattle.fib_trace.specs.declared.load.Load.{Load}
 use Rattle.fib_trace.specs.Traces.{HasTraced}
 use Rattle.fib_tracer.specs.declared.log.Traced.{Traced}

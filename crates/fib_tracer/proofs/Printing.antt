@@ -7,8 +7,8 @@ use Rattle.fib_resolve.specs.declared.types.Tables.{Tables}
 use Rattle.fib_capture.specs.declared.packet.Packet.{Packet}
 use Rattle.fib_capture.specs.declared.packet.Packet.TheVariants.{Flow, NotIpv4, BadHeader}
 use Rattle.fib_print.specs.Packets.{bad_header_text, not_ipv4_text, packet_text}
-use Rattle.fib_crew.specs.Packets.{Matched}
-use Rattle.fib_crew.proofs.Spans.{drop_at}
+use Rattle.fib_worker_crew.specs.Packets.{Matched}
+use Rattle.fib_worker_crew.proofs.Spans.{drop_at}
 use Rattle.fib_trace.specs.Texts.{loads_text}
 use Rattle.fib_tracer.specs.declared.log.Traced.{Traced}
 use Rattle.fib_tracer.specs.Passes.{passes_text}

@@ -3,21 +3,21 @@ use Rattle.std.proofs.Common.{◌≡◌, ◌<◌, ◌≤◌, ◌^◌, ◌++◌, 
 use Rattle.std.specs.Prelude.{slice_index_or, slice_set}
 use Rattle.std.specs.List.{AllByRecursion}
 use Rattle.fib_resolve.specs.declared.types.Tables.{Tables}
-use Rattle.fib_results.specs.declared.record.Version.{Version}
-use Rattle.fib_results.specs.Trails.{AtLeast, version_at}
+use Rattle.fib_core_results.specs.declared.record.Version.{Version}
+use Rattle.fib_core_results.specs.Trails.{AtLeast, version_at}
 use Rattle.fib_capture.specs.declared.packet.Packet.{Packet}
 use Rattle.fib_capture.specs.declared.packet.Packet.TheVariants.{Flow, NotIpv4, BadHeader}
 use Rattle.fib_core.specs.Trails.{AreLawful, Trail}
-use Rattle.fib_lawful.specs.State.{Worker}
-use Rattle.fib_steady.specs.Undisturbed.{IsSteadyTrail}
-use Rattle.fib_board.specs.Boards.{Board}
-use Rattle.fib_board.specs.Crews.{MaySend, Seated, board_joined, board_sent, new_seat}
-use Rattle.fib_board.specs.Told.{IsBoard}
+use Rattle.fib_core_lawful.specs.State.{Worker}
+use Rattle.fib_core_steady.specs.Undisturbed.{IsSteadyTrail}
+use Rattle.fib_core_board.specs.Boards.{Board}
+use Rattle.fib_core_board.specs.Crews.{MaySend, Seated, board_joined, board_sent, new_seat}
+use Rattle.fib_core_board.specs.Told.{IsBoard}
 use Rattle.fib_control.specs.Controls.{Control, with_board}
-use Rattle.fib_crew.specs.Packets.{Matched}
-use Rattle.fib_crew.proofs.Matching.{at_least_trans}
-use Rattle.fib_homing.specs.Homes.{NoneOut}
-use Rattle.fib_turns.specs.Routers.{KeepsCrew, applied_in, but_versions, history_in}
+use Rattle.fib_worker_crew.specs.Packets.{Matched}
+use Rattle.fib_worker_crew.proofs.Matching.{at_least_trans}
+use Rattle.fib_rounds_homing.specs.Homes.{NoneOut}
+use Rattle.fib_rounds_turns.specs.Routers.{KeepsCrew, applied_in, but_versions, history_in}
 use Rattle.fib_trace.specs.Traces.{Trace}
 use Rattle.fib_tracer.specs.declared.beside.Tracer.{Tracer}
 use Rattle.fib_tracer.specs.declared.log.Log.{Log}

@@ -2,14 +2,14 @@
 use Rattle.std.proofs.Common.{◌≡◌, ◌≤◌, ◌+◌, ◌++◌, ◌/◌, [], ℕ, List, Option, Result, Ok, Err, OnOk, OnErr, length, take, drop, ap, ◌∙◌, sym, subst, take-append-drop, Some, ◌⊎◌, inl, inr}
 use Rattle.std.specs.Prelude.{None, min}
 use Rattle.fib_resolve.specs.declared.types.Tables.{Tables}
-use Rattle.fib_lines.specs.Lines.{lines_of}
+use Rattle.fib_base_lines.specs.Lines.{lines_of}
 use Rattle.fib_capture.specs.Captures.{Capture}
 use Rattle.fib_outside.specs.Outside.{Appends}
-use Rattle.fib_board.specs.Boards.{Board}
+use Rattle.fib_core_board.specs.Boards.{Board}
 use Rattle.fib_control.specs.Controls.{Control, tables_in}
-use Rattle.fib_crew.specs.Packets.{Matched}
-use Rattle.fib_turns.specs.Changes.{Stays}
-use Rattle.fib_turns.specs.Routers.{KeepsCrew, Progress, applied_in, history_in}
+use Rattle.fib_worker_crew.specs.Packets.{Matched}
+use Rattle.fib_rounds_turns.specs.Changes.{Stays}
+use Rattle.fib_rounds_turns.specs.Routers.{KeepsCrew, Progress, applied_in, history_in}
 use Rattle.fib_rounds.specs.Stages.{Stage, start}
 use Rattle.fib_rounds.specs.Rounds.{stage_of}
 use Rattle.fib_rounds.proofs.Rounding.{stage_stays}

@@ -6,8 +6,8 @@ use Rattle.clap.specs.Words.{Row, Text, first_of}
 use Rattle.clap.specs.Faults.{is_simple_and_free}
 use Rattle.clap.specs.Simple.{is_simple}
 use Rattle.clap.proofs.OnLiterals.{clap_on_literals}
-use Rattle.fib_settings.specs.Ranges.{InRange}
-use Rattle.fib_settings.specs.declared.sizes.Settings.{Settings}
+use Rattle.fib_core.specs.Ranges.{InRange}
+use Rattle.fib_core.specs.declared.settings.Settings.{Settings}
 use Rattle.fib_words.specs.Parts.{objects_or}
 use Rattle.fib_words.specs.Words.{Origin, files}
 use Rattle.fib_words.proofs.Ranges.{behind, objects_or-within}

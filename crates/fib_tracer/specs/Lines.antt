@@ -1,8 +1,8 @@
 -- What the lines of a traced script do and print.
 use Rattle.std.specs.Prelude.{ℕ, ◌+◌, ◌==◌, ◌++◌, ◌&&◌, ◌∷◌, [], List, Bool, codes, length, if◌then◌else◌}
-use Rattle.fib_lines.specs.LineWords.{next_is, words_of}
-use Rattle.fib_turns.specs.Routers.{Router}
-use Rattle.fib_turns.specs.Turns.{Turn, change_turn_of, refusal_turn}
+use Rattle.fib_base_lines.specs.LineWords.{next_is, words_of}
+use Rattle.fib_rounds_turns.specs.Routers.{Router}
+use Rattle.fib_rounds_turns.specs.Turns.{Turn, change_turn_of, refusal_turn}
 use Rattle.fib_rounds.specs.Stages.{Stage, grown, start}
 
 -- the line behind which the packets are traced: the one word `trace`

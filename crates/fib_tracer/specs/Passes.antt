@@ -1,12 +1,12 @@
 -- Traced passes, and what is printed of them.
 use Rattle.std.specs.Prelude.{◌≡◌, ℕ, ◌+◌, ◌++◌, ◌∷◌, [], List, map}
 use Rattle.fib_resolve.specs.declared.types.Tables.{Tables}
-use Rattle.fib_results.specs.Trails.{AtLeast, version_at}
+use Rattle.fib_core_results.specs.Trails.{AtLeast, version_at}
 use Rattle.fib_capture.specs.declared.packet.Packet.{Packet}
 use Rattle.fib_capture.specs.declared.packet.Packet.TheVariants.{Flow, NotIpv4, BadHeader}
 use Rattle.fib_core.specs.Trails.{Trail, Follows, IsLawfulTrail, result_of}
-use Rattle.fib_steady.specs.Undisturbed.{IsSteadyTrail}
-use Rattle.fib_crew.specs.Packets.{Matched}
+use Rattle.fib_core_steady.specs.Undisturbed.{IsSteadyTrail}
+use Rattle.fib_worker_crew.specs.Packets.{Matched}
 use Rattle.fib_print.specs.Packets.{packet_text, not_ipv4_text, bad_header_text}
 use Rattle.fib_trace.specs.Texts.{loads_text}
 use Rattle.fib_trace.specs.Traces.{coded}

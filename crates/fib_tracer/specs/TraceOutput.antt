@@ -1,10 +1,10 @@
 -- What a traced run may print: what its lines say, and for each packet its line and, where it is a flow, the loads of its pass.
 use Rattle.std.specs.Prelude.{◌≡◌, ℕ, ◌++◌, ◌/◌, List, Some, None}
-use Rattle.fib_lines.specs.Lines.{lines_of}
+use Rattle.fib_base_lines.specs.Lines.{lines_of}
 use Rattle.fib_capture.specs.Captures.{Capture}
-use Rattle.fib_crew.specs.Packets.{Matched}
+use Rattle.fib_worker_crew.specs.Packets.{Matched}
 use Rattle.fib_control.specs.Controls.{Control, tables_in}
-use Rattle.fib_turns.specs.Routers.{applied_in, history_in}
+use Rattle.fib_rounds_turns.specs.Routers.{applied_in, history_in}
 use Rattle.fib_rounds.specs.Packets.{last_text}
 use Rattle.fib_words.specs.Words.{soak, files}
 use Rattle.fib_run.specs.Files.{Holds, Wanted, IsCommands, IsCapture}

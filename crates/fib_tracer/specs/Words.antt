@@ -2,7 +2,7 @@
 use Rattle.std.specs.Prelude.{ℕ, List, Bool, Option, Some, None, if◌then◌else◌, codes, is_some}
 use Rattle.fib_addr.specs.Texts.{◌>>=◌}
 use Rattle.clap.specs.Words.{App, Row, Text, first_of, matches_of, with_rule}
-use Rattle.fib_settings.specs.declared.sizes.Settings.{Settings}
+use Rattle.fib_core.specs.declared.settings.Settings.{Settings}
 use Rattle.fib_words.specs.Parts.{bare_command, is_taken_by, name_rule, objects_or, option_rule}
 use Rattle.fib_words.specs.Words.{Origin, files}
 use Rattle.fib_tracer.specs.declared.words.Wanted.{Wanted}

@@ -1,8 +1,8 @@
 // One worker traces while lines are run.
 ghost use Rattle.std.specs.Prelude.{◌≡◌, ◌≤◌, None, Some, OnOk, IfSome, length, take, true};
-ghost use Rattle.fib_board.specs.Crews.{Seated, board_joined};
+ghost use Rattle.fib_core_board.specs.Crews.{Seated, board_joined};
 ghost use Rattle.fib_control.specs.Controls.{with_board};
-ghost use Rattle.fib_turns.specs.Routers.{KeepsCrew, applied_in};
+ghost use Rattle.fib_rounds_turns.specs.Routers.{KeepsCrew, applied_in};
 ghost use Rattle.fib_rounds.specs.Rounds.{stage_of};
 ghost use Rattle.fib_tracer.specs.inner.Going.{HasGone};
 ghost use Rattle.fib_tracer.specs.inner.Standing.{HasDone, IsOf, IsReady};

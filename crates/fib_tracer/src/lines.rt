@@ -1,18 +1,18 @@
 // The lines of a script, before and behind the line `trace`.
 ghost use Rattle.std.specs.Prelude.{◌≡◌, ◌≤◌, ◌<◌, ◌+◌, ◌++◌, ◌-◌, ◌^◌, None, OnOk, IfOk, drop, length, min, take};
-ghost use Rattle.fib_turns.specs.Routers.{HasGrown, KeepsCrew, applied_in, router_of};
+ghost use Rattle.fib_rounds_turns.specs.Routers.{HasGrown, KeepsCrew, applied_in, router_of};
 ghost use Rattle.fib_rounds.specs.Rounds.{stage_of};
 ghost use Rattle.fib_tracer.specs.Lines.{after_trace, before_trace, is_trace, traced_turn};
 ghost use Rattle.fib_tracer.specs.inner.Going.{HasGone};
 
 use crate::reading::Reading;
-use fib_board::Board;
+use fib_base_lines::Words;
 use fib_commands::Script;
 use fib_control::Control;
-use fib_lines::Words;
+use fib_core_board::Board;
 use fib_outside::Gate;
 use fib_rounds::Task;
-use fib_turns::{Progress, pass_line, refuse_line, run_change_line};
+use fib_rounds_turns::{Progress, pass_line, refuse_line, run_change_line};
 use std::alloc::AllocError;
 use std::sync::Wait;
 use std::thread::Threads;

@@ -1,8 +1,8 @@
 // The passes that were made.
 ghost use Rattle.std.specs.Prelude.{◌≡◌, ◌≤◌, ◌+◌, ◌++◌, ◌∷◌, [], length, IfOk, OnOk, OnErr};
 
+use fib_base_list::List;
 use fib_core::Record;
-use fib_list::List;
 use fib_trace::{Load, Trail};
 use std::alloc::{AllocError, Global};
 

@@ -1,6 +1,6 @@
 // The packets of a capture, each traced in turn.
 ghost use Rattle.std.specs.Prelude.{◌≡◌, ◌<◌, ◌≤◌, ◌∷◌, [], length, true};
-ghost use Rattle.fib_lawful.specs.State.{left_of};
+ghost use Rattle.fib_core_lawful.specs.State.{left_of};
 ghost use Rattle.fib_tracer.specs.inner.Tracing.{HasTracedAll, IsSameSeat};
 
 use crate::log::{Log, keep};

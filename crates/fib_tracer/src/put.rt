@@ -2,7 +2,7 @@
 ghost use Rattle.std.specs.Prelude.{◌≡◌, ◌<◌, ◌≤◌, ◌+◌, ◌^◌, ◌++◌, List, ℕ, drop, length, IfOk, OnOk, OnErr, IsErrOf};
 ghost use Rattle.fib_outside.specs.Outside.{Appends, HasRisen};
 ghost use Rattle.fib_rounds.specs.Writes.{AppendsSome};
-ghost use Rattle.fib_crew.specs.Packets.{Matched};
+ghost use Rattle.fib_worker_crew.specs.Packets.{Matched};
 ghost use Rattle.fib_print.specs.Packets.{packet_text};
 ghost use Rattle.fib_trace.specs.Texts.{loads_text};
 ghost use Rattle.fib_tracer.specs.Passes.{passes_text};

@@ -1,10 +1,10 @@
 // A traced run.
 ghost use Rattle.std.specs.Prelude.{◌≡◌, ◌≤◌, ◌/◌, ◌⊎◌, None, OnOk, OnErr, IfOk, IsErrOf, length, take};
 ghost use Rattle.fib_outside.specs.Outside.{HasRisen};
-ghost use Rattle.fib_settings.specs.Ranges.{InRange};
-ghost use Rattle.fib_crew.specs.Packets.{Matched};
-ghost use Rattle.fib_homing.specs.Homes.{NoneOut};
-ghost use Rattle.fib_turns.specs.Routers.{applied_in, history_in};
+ghost use Rattle.fib_core.specs.Ranges.{InRange};
+ghost use Rattle.fib_worker_crew.specs.Packets.{Matched};
+ghost use Rattle.fib_rounds_homing.specs.Homes.{NoneOut};
+ghost use Rattle.fib_rounds_turns.specs.Routers.{applied_in, history_in};
 ghost use Rattle.fib_rounds.specs.Rounds.{stage_of};
 ghost use Rattle.fib_rounds.specs.Runs.{IsNew};
 ghost use Rattle.fib_rounds.specs.Writes.{Gains};
@@ -24,7 +24,7 @@ use fib_cells::{Cells, LiveBoard};
 use fib_control::Control;
 use fib_outside::{Gate, Sink};
 use fib_rounds::{RunFault, Task, settle_home};
-use fib_turns::Progress;
+use fib_rounds_turns::Progress;
 use std::alloc::AllocError;
 use std::sync::Wait;
 use std::thread::Threads;
@@ -120,7 +120,8 @@ pub fn trace_run<R: Threads + Wait + Sync, K: Sink, G: Gate>(
         ⊎ Gains (FirstPart (TraceOutput (task.now.settings.objects / 2) task.now.script.now task.now.packets.now)) (K.written out.old)
         (K.written out.new)) }
     ensures first { IsErrOf result RunFault.Write → Gains
-        (FirstPart (TraceOutput (task.now.settings.objects / 2) task.now.script.now task.now.packets.now)) (K.written out.old) (K.written out.new) }
+        (FirstPart (TraceOutput (task.now.settings.objects / 2) task.now.script.now task.now.packets.now)) (K.written out.old)
+        (K.written out.new) }
     ensures write { IsErrOf result RunFault.Write → HasRisen (K.faults out.old) (K.faults out.new) }
     ensures counted { K.faults out.old ≤ K.faults out.new }
 {

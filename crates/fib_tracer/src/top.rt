@@ -2,7 +2,7 @@
 ghost use Rattle.std.specs.Prelude.{◌≡◌, ◌∷◌, [], ◌⊎◌, ℕ, List, Some, map, string_bytes, true, false, OnOk, OnErr, IsErrOf, Contains};
 ghost use Rattle.fib_outside.specs.Outside.{HasRisen, HasNotRisen};
 ghost use Rattle.fib_outside.specs.declared.part.Part.{Part};
-ghost use Rattle.fib_settings.specs.Ranges.{InRange};
+ghost use Rattle.fib_core.specs.Ranges.{InRange};
 ghost use Rattle.fib_rounds.specs.Writes.{Gains};
 ghost use Rattle.fib_run.specs.Files.{IsHeld, MayOpen, MayRefuse, MayBeLong, due, statuses, names_commands};
 ghost use Rattle.fib_run.specs.Output.{FirstPart};

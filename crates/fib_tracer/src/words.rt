@@ -2,7 +2,7 @@
 ghost use Rattle.std.specs.Prelude.{◌≡◌, map, string_bytes, IfOk, IfSome, option_map, is_some};
 ghost use Rattle.fib_addr.specs.Texts.{Reads};
 ghost use Rattle.clap.specs.Words.{app_of, found_of, rows_of};
-ghost use Rattle.fib_settings.specs.Ranges.{InRange};
+ghost use Rattle.fib_core.specs.Ranges.{InRange};
 ghost use Rattle.fib_tracer.specs.Words.{accepts, sized, trace_command, wanted, wanted_by, wanted_in};
 
 use clap::{ArgMatches, Command};

@@ -7,7 +7,7 @@ use Rattle.std.proofs.lemmas.List.Sums.{sum_by-set, sum_by-cons}
 use Rattle.fib_reach.specs.Walks.{Reaches, Leads, IsAcyclic, Plus}
 use Rattle.fib_reach.proofs.Walking.{acyclic-plus, acyclic_part, leads_iff}
 use Rattle.fib_union.specs.Marks.{Mark, fresh}
-use Rattle.fib_union.specs.Unions.{Retired, Union, owner, edge_at, Goes, Edge, leads_to, one, into, must_retire, retire_if, stored, left_if, left_at_once}
+use Rattle.fib_union.specs.Unions.{Retired, Union, owner, edge_at, Goes, Edge, HasEdge, leads_to, one, into, must_retire, retire_if, stored, left_if, left_at_once}
 
 pub some_none : {A : Type 0} (y : A) → None ≡ Some y → ⊥
 some_none y e = cc
@@ -64,3 +64,7 @@ into-stored u workers k e o lt =
     let a : count_by (leads_to o) (set u.edges k e) + one o (edge_at u.edges k) ≡ count_by (leads_to o) u.edges + one o e = sum_by-set (λ (f : Option ℕ). cond (leads_to o f) 1 0) u.edges k e None lt in
     let b = copied (must_retire u k) k o (fresh workers) (edge_at u.edges k) u.retired in
     omega (arith, a, b)
+
+-- in a union without a cycle no way leads back from where a current edge leads
+pub no_second_way : (u : Union) (x y : ℕ) → IsAcyclic (Edge u) → HasEdge u x y → Leads (Edge u) y x → ⊥
+no_second_way u x y calm h l = calm x (l.0, (y, (h.0, h.1, inl h.2), l.1))

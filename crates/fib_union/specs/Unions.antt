@@ -35,6 +35,10 @@ Goes u k y = (edge_at u.edges k ≡ Some y) ⊎ ((r : Retired) × Contains u.ret
 abbrev pub Edge : Union → ℕ → ℕ → Type 0
 Edge u x y = (k : ℕ) × (owner k ≡ x) × Goes u k y
 
+-- a current edge leads from the one object to the other
+abbrev pub HasEdge : Union → ℕ → ℕ → Type 0
+HasEdge u x y = (k : ℕ) × (owner k ≡ x) × (edge_at u.edges k ≡ Some y)
+
 -- some edge of the union leads to this object
 abbrev pub HasIn : Union → ℕ → Type 0
 HasIn u o = (k : ℕ) × Goes u k o

@@ -2,7 +2,7 @@
 ghost use Rattle.std.specs.Prelude.{◌≡◌, ◌≢◌, ℕ, ◌+◌, ◌<◌, ◌≤◌, ◌↔◌, ◌⊎◌, true, Some, length};
 ghost use Rattle.fib_reach.specs.Walks.{Leads, IsAcyclic};
 ghost use Rattle.fib_union.specs.Marks.{passed, mark_after, IsOver};
-ghost use Rattle.fib_union.specs.Unions.{owner, Edge, HasIn, one, into, must_retire, stored, left_at_once, scanned, gone_to, times};
+ghost use Rattle.fib_union.specs.Unions.{owner, Edge, HasEdge, HasIn, one, into, must_retire, stored, left_at_once, scanned, gone_to, times};
 
 use crate::Union;
 
@@ -14,6 +14,11 @@ pub fn retires_where_entered(union: &Union, cell: u64)
 /// An object's count of edges is above 0 exactly where an edge leads to it.
 pub fn counts_tell(union: &Union, object: u64)
     ensures { (0 < into union.now.union object) ↔ HasIn union.now.union object }
+{}
+
+/// In a union without a cycle an edge beside a current one, from the same object to the same target, closes none.
+pub fn another_edge_closes_no_cycle(union: &Union, from: u64, to: u64)
+    ensures { IsAcyclic (Edge union.now.union) → HasEdge union.now.union from to → Leads (Edge union.now.union) to from → ⊥ }
 {}
 
 /// A store keeps the union acyclic where the new edge's target doesn't lead back to its object.

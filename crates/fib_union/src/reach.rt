@@ -102,3 +102,16 @@ pub fn reaches(
     }
     false
 }
+
+/// Whether one of the node's current edges leads there.
+pub fn holds(edges: &[Option<u32>], node: u32, to: u32) -> bool
+    requires { 16 * node + 16 ≤ length edges.now }
+    ensures { IsTrue result ↔ CellRuns edges.now node to }
+{
+    for slot in 0..16 {
+        if edges[16 * node as usize + slot] == Some(to) {
+            return true;
+        }
+    }
+    false
+}

@@ -3,7 +3,7 @@ ghost use Rattle.std.specs.Prelude.{◌≡◌, ℕ, ◌+◌, ◌*◌, ◌-◌, �
 ghost use Rattle.std.specs.List.{All};
 ghost use Rattle.std.specs.Bool.{OnTrue, OnFalse};
 ghost use Rattle.fib_reach.specs.Walks.{Leads, Reaches, IsAcyclic, HasCycle, Plus};
-ghost use Rattle.fib_union.specs.Unions.{owner, edge_at, one, into, Edge, HasIn, must_retire, stored, left_at_once, scanned, gone_to, scan_from, gone_from, no_edges, unmarked};
+ghost use Rattle.fib_union.specs.Unions.{owner, edge_at, one, into, Edge, HasEdge, HasIn, must_retire, stored, left_at_once, scanned, gone_to, scan_from, gone_from, no_edges, unmarked};
 ghost use Rattle.fib_union.specs.declared.retired.RetiredEdge.{RetiredEdge as Copies};
 ghost use Rattle.fib_union.specs.inner.Fields.{ins_of, plain, IsGrown, Runs, IsLinked, StartsBelow};
 
@@ -53,9 +53,17 @@ impl Model for Union {
 
     ghost Value = { Kept };
 
-    ghost view = { λ u. record { union = union_of u.edges.items (map plain u.retired.items) u.progress.items; workers = length u.progress.items; left = u.left.items; spare = spare_of (vec_capacity u.retired) (length u.retired.items) (vec_capacity u.left) (length u.left.items) } };
+    ghost view = { λ u. record {
+      union = union_of u.edges.items
+          (map plain u.retired.items) u.progress.items;
+      workers = length u.progress.items;
+      left = u.left.items;
+      spare = spare_of
+          (vec_capacity u.retired) (length u.retired.items) (vec_capacity u.left) (length u.left.items);
+    } };
 
-    ghost invariant = { λ u. IsKept (length u.ins.items) u.edges.items u.ins.items u.retired.items u.newest.items u.progress.items u.left.items (vec_capacity u.left) × (u.search.nodes ≡ length u.ins.items) };
+    ghost invariant = { λ u. IsKept (length u.ins.items) u.edges.items u.ins.items u.retired.items u.newest.items u.progress.items
+        u.left.items (vec_capacity u.left) × (u.search.nodes ≡ length u.ins.items) };
 }
 
 /// Whether the edge that a cell of this object holds is to be retired when it is replaced.
@@ -144,7 +152,8 @@ fn drop_oldest(
     requires room { length left.old.items + length retired.old.items ≤ vec_capacity left.old }
     ensures retired { map plain retired.new.items ≡ drop gone (map plain retired.old.items) }
     ensures linked { IsLinked (length newest.old) newest.new retired.new.items }
-    ensures ins { (o : ℕ) → slice_index ins.new o + count_by (λ (c : ℕ × ℕ). eqb c.1 o) (take gone (map plain retired.old.items)) ≡ slice_index ins.old o }
+    ensures ins { (o : ℕ) → slice_index ins.new o + count_by (λ (c : ℕ × ℕ). eqb c.1 o) (take gone (map plain retired.old.items))
+        ≡ slice_index ins.old o }
     ensures len { length ins.new ≡ length ins.old }
     ensures left { left.new.items ≡ left.old.items ++ map (λ (c : ℕ × ℕ). c.1) (take gone (map plain retired.old.items)) }
     ensures capacity { vec_capacity retired.old ≤ vec_capacity retired.new }
@@ -215,6 +224,15 @@ impl Union {
         self.ins[object as usize] > 0
     }
 
+    /// Whether a current edge leads from the one object to the other: in a union without a cycle, another such edge closes none. Looks at 16
+    /// cells.
+    pub fn has_edge(&self, from: u32, to: u32) -> bool
+        requires { 16 * from < length self.now.union.edges }
+        ensures { IsTrue result ↔ HasEdge self.now.union from to }
+    {
+        reach::holds(self.edges.as_slice(), from, to)
+    }
+
     /// Whether the edge would close a cycle among current and retired edges.
     ///
     /// Costs nothing where no edge leads to its object, and else what is reachable from its target: 16 cells an object, and its retired
@@ -275,7 +293,8 @@ impl Union {
         requires from_in { 16 * from < length self.old.union.edges }
         requires slot_in { slot < 16 }
         requires to_in { (y : ℕ) → to ≡ Some y → 16 * y < length self.old.union.edges }
-        requires room { (y : ℕ) → edge_at self.old.union.edges (16 * from + slot) ≡ Some y → must_retire self.old.union (16 * from + slot) ≡ true → 0 < self.old.spare }
+        requires room { (y : ℕ) → edge_at self.old.union.edges (16 * from + slot) ≡ Some y
+            → must_retire self.old.union (16 * from + slot) ≡ true → 0 < self.old.spare }
         ensures union { self.new.union ≡ stored self.old.workers self.old.union (16 * from + slot) to }
         ensures left_at_once { result ≡ left_at_once self.old.union (16 * from + slot) }
         ensures workers { self.new.workers ≡ self.old.workers }

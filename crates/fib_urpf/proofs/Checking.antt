@@ -4,15 +4,15 @@ use Rattle.std.specs.Prelude.{Contains, is_some, ◌↔◌}
 use Rattle.std.specs.Set.{is_member}
 use Rattle.std.specs.List.{list_any}
 use Rattle.std.proofs.lemmas.Bool.{cases_lt}
-use Rattle.fib_list.proofs.Booleans.{or_left, or_right}
+use Rattle.fib_base_list.proofs.Booleans.{or_left, or_right}
 use Rattle.fib_addr.specs.Prefixes.{Prefix, same_prefix}
 use Rattle.fib_resolve.specs.Pairs.{best, entries}
 use Rattle.fib_resolve.specs.Tables.{IsSound}
 use Rattle.fib_resolve.specs.declared.types.Tables.{Tables}
-use Rattle.fib_changes.specs.Ranks.{has_entry}
-use Rattle.fib_changes.proofs.Ranking.{ranked}
-use Rattle.fib_queue.specs.Queues.{rank_in}
-use Rattle.fib_queue.specs.declared.order.Queued.{Queued}
+use Rattle.fib_resolve_changes.specs.Ranks.{has_entry}
+use Rattle.fib_resolve_changes.proofs.Ranking.{ranked}
+use Rattle.fib_stack_queue.specs.Queues.{rank_in}
+use Rattle.fib_stack_queue.specs.declared.order.Queued.{Queued}
 use Rattle.fib_urpf.specs.declared.interfaces.Interfaces.{Interfaces}
 use Rattle.fib_urpf.specs.Interfaces.{has}
 use Rattle.fib_urpf.specs.Kept.{IsFor, Kept, state_of}

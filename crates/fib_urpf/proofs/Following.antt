@@ -2,22 +2,22 @@
 use Rattle.std.proofs.Common.{⊎_elim, ◌≡◌, ◌⊎◌, ℕ, false, ◌||◌, List, [], sym, ap, ◌∙◌, subst}
 use Rattle.std.specs.Prelude.{Contains, Some, None, is_some, ◌↔◌}
 use Rattle.std.specs.Set.{is_member}
-use Rattle.fib_list.proofs.Lists.{Contains-nil}
+use Rattle.fib_base_list.proofs.Lists.{Contains-nil}
 use Rattle.fib_addr.specs.Prefixes.{Prefix, same_prefix}
 use Rattle.fib_addr.proofs.PrefixLaws.{same_prefix-Decides}
 use Rattle.fib_reach.specs.Walks.{AllDiffer}
 use Rattle.fib_resolve.specs.Pairs.{entries}
 use Rattle.fib_resolve.specs.Tables.{IsSound}
 use Rattle.fib_resolve.specs.declared.types.Tables.{Tables}
-use Rattle.fib_changes.specs.Ranks.{Falls, has_entry}
-use Rattle.fib_changes.proofs.CauseLaws.{any_from}
-use Rattle.fib_changes.proofs.Edits.{any_in}
-use Rattle.fib_changes.proofs.Ranking.{ranked}
-use Rattle.fib_entries.specs.Changes.{AreTouched}
-use Rattle.fib_queue.specs.Queues.{rank_in}
-use Rattle.fib_queue.specs.declared.order.Queued.{Queued}
-use Rattle.fib_woken.specs.Waking.{AreRanked, is_among}
-use Rattle.fib_woken.proofs.Woken.{among_touched, self_same}
+use Rattle.fib_resolve_changes.specs.Ranks.{Falls, has_entry}
+use Rattle.fib_resolve_changes.proofs.CauseLaws.{any_from}
+use Rattle.fib_resolve_changes.proofs.Edits.{any_in}
+use Rattle.fib_resolve_changes.proofs.Ranking.{ranked}
+use Rattle.fib_entries_rows.specs.Changes.{AreTouched}
+use Rattle.fib_stack_queue.specs.Queues.{rank_in}
+use Rattle.fib_stack_queue.specs.declared.order.Queued.{Queued}
+use Rattle.fib_stack_waking.specs.Waking.{AreRanked, is_among}
+use Rattle.fib_stack_waking.proofs.Woken.{among_touched, self_same}
 use Rattle.fib_urpf.specs.Marks.{marks_lead}
 use Rattle.fib_urpf.specs.Sets.{kept_in}
 use Rattle.fib_urpf.specs.Kept.{IsFor, Kept, state_of}

@@ -4,8 +4,8 @@ use Rattle.std.specs.Prelude.{Contains}
 use mathlib.Core.Logic.{dite}
 use Rattle.std.proofs.lemmas.Bool.{false≢true}
 use Rattle.std.proofs.lemmas.List.Elements.{Contains-push_cases}
-use Rattle.fib_list.proofs.Lists.{each-append, Contains-nil}
-use Rattle.fib_list.proofs.Booleans.{or_left, or_right, or_cases, and_both}
+use Rattle.fib_base_list.proofs.Lists.{each-append, Contains-nil}
+use Rattle.fib_base_list.proofs.Booleans.{or_left, or_right, or_cases, and_both}
 use Rattle.fib_reach.specs.Walks.{AllDiffer}
 use Rattle.fib_addr.specs.Prefixes.{Prefix, same_prefix}
 use Rattle.fib_addr.proofs.PrefixLaws.{same_prefix-Decides}
@@ -16,8 +16,8 @@ use Rattle.fib_resolve.specs.declared.aims.Aim.{Aim}
 use Rattle.fib_resolve.specs.declared.aims.Aim.TheVariants as aims
 use Rattle.fib_resolve.specs.declared.aims.Marked.{Marked}
 use Rattle.fib_resolve.specs.declared.types.Tables.{Tables}
-use Rattle.fib_changes.specs.Ranks.{counts_on, is_aimed_at, has_entry, wakes, IsRanked}
-use Rattle.fib_changes.proofs.MarkLaws.{untouched_marked, untouched_stays, untouched_came}
+use Rattle.fib_resolve_changes.specs.Ranks.{counts_on, is_aimed_at, has_entry, wakes, IsRanked}
+use Rattle.fib_resolve_changes.proofs.MarkLaws.{untouched_marked, untouched_stays, untouched_came}
 use Rattle.fib_urpf.specs.ReversePath.{is_reverse}
 use Rattle.fib_urpf.specs.Marks.{aim_leads, marks_lead}
 use Rattle.fib_urpf.specs.States.{State, over, IsDone, Stands, Turned, Followed}

@@ -2,8 +2,8 @@
 use Rattle.std.proofs.Common.{inl, inr, ◌≡◌, ℕ, Bool, true, false, cond, not, ◌&&◌, ◌||◌, ◌==◌, List, [], ◌∷◌, refl, sym, ap, ◌∙◌}
 use Rattle.std.specs.List.{list_any}
 use Rattle.std.proofs.lemmas.Bool.{false≢true}
-use Rattle.fib_list.proofs.Lists.{list_any-map}
-use Rattle.fib_list.proofs.Booleans.{and_both, or_cases, or_right}
+use Rattle.fib_base_list.proofs.Lists.{list_any-map}
+use Rattle.fib_base_list.proofs.Booleans.{and_both, or_cases, or_right}
 use Rattle.fib_addr.specs.Prefixes.{Prefix, host}
 use Rattle.fib_resolve.specs.Pairs.{chosen, cover}
 use Rattle.fib_resolve.specs.Loops.{looped}

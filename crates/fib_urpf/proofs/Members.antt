@@ -3,7 +3,7 @@ use Rattle.std.proofs.Common.{inl, inr, ⊎_elim, ◌≡◌, ◌≢◌, ◌⊎�
 use Rattle.std.specs.Prelude.{Contains, ◌↔◌, slice_index_or}
 use Rattle.std.specs.Set.{is_member}
 use Rattle.std.proofs.lemmas.Map.Views.{Contains-from_any}
-use Rattle.fib_list.proofs.Booleans.{or_left, or_right}
+use Rattle.fib_base_list.proofs.Booleans.{or_left, or_right}
 use Rattle.fib_addr.specs.Prefixes.{Prefix, same_prefix}
 use Rattle.fib_addr.proofs.PrefixLaws.{same_prefix-Decides}
 

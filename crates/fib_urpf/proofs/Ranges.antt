@@ -5,7 +5,7 @@ use Rattle.std.specs.List.{list_any}
 use Rattle.std.proofs.lemmas.Bool.{false≢true}
 use Rattle.std.proofs.lemmas.Option.{slice_get_within}
 use Rattle.std.proofs.lemmas.Bool.Decides.{nat_tests}
-use Rattle.fib_list.proofs.Booleans.{or_cases, and_both}
+use Rattle.fib_base_list.proofs.Booleans.{or_cases, and_both}
 use Rattle.fib_addr.specs.Prefixes.{Prefix, host}
 use Rattle.fib_resolve.specs.Pairs.{chosen, cover}
 use Rattle.fib_resolve.specs.Forwarding.{forwards, is_up, up_of, usable, limit}

@@ -12,8 +12,8 @@ use Rattle.fib_resolve.specs.declared.types.PathKind.{PathKind}
 use Rattle.fib_resolve.specs.declared.types.PathKind.TheVariants as kinds
 use Rattle.fib_resolve.specs.declared.types.Tables.{Tables}
 use Rattle.fib_reach.proofs.Rounds.{Agree, stable}
-use Rattle.fib_list.proofs.Lists.{either}
-use Rattle.fib_list.proofs.Booleans.{or_cases, or_right}
+use Rattle.fib_base_list.proofs.Lists.{either}
+use Rattle.fib_base_list.proofs.Booleans.{or_cases, or_right}
 use Rattle.fib_resolve.proofs.Entries.{chosen-no_entry}
 use Rattle.fib_urpf.specs.ReversePath.{kind_leads, leads_by, leads_in, is_reverse}
 

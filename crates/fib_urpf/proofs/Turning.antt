@@ -6,12 +6,12 @@ use Rattle.fib_addr.specs.Prefixes.{Prefix, same_prefix}
 use Rattle.fib_addr.proofs.PrefixLaws.{same_prefix-Decides}
 use Rattle.fib_resolve.specs.Aims.{marked_list}
 use Rattle.fib_resolve.specs.declared.types.Tables.{Tables}
-use Rattle.fib_changes.specs.Ranks.{has_entry, wakes}
-use Rattle.fib_changes.proofs.Ranking.{ranked}
-use Rattle.fib_ordered.specs.Sets.{first_of}
-use Rattle.fib_queue.specs.Queues.{IsLeast, rank_in}
-use Rattle.fib_queue.specs.declared.order.Queued.{Queued}
-use Rattle.fib_woken.specs.Waking.{AreRanked, are_among}
+use Rattle.fib_resolve_changes.specs.Ranks.{has_entry, wakes}
+use Rattle.fib_resolve_changes.proofs.Ranking.{ranked}
+use Rattle.fib_base_ordered.specs.Sets.{first_of}
+use Rattle.fib_stack_queue.specs.Queues.{IsLeast, rank_in}
+use Rattle.fib_stack_queue.specs.declared.order.Queued.{Queued}
+use Rattle.fib_stack_waking.specs.Waking.{AreRanked, are_among}
 use Rattle.fib_urpf.specs.declared.interfaces.Interfaces.{Interfaces}
 use Rattle.fib_urpf.specs.Interfaces.{has}
 use Rattle.fib_urpf.specs.Sets.{set_of, has_by, kept_in}

@@ -4,10 +4,10 @@ use Rattle.std.specs.Set.{is_member}
 use Rattle.fib_addr.specs.Prefixes.{Prefix, same_prefix}
 use Rattle.fib_resolve.specs.Tables.{IsSound}
 use Rattle.fib_resolve.specs.declared.types.Tables.{Tables}
-use Rattle.fib_changes.specs.Ranks.{Falls}
-use Rattle.fib_queue.specs.Queues.{rank_in}
-use Rattle.fib_queue.specs.declared.order.Queued.{Queued}
-use Rattle.fib_woken.specs.Waking.{AreRanked}
+use Rattle.fib_resolve_changes.specs.Ranks.{Falls}
+use Rattle.fib_stack_queue.specs.Queues.{rank_in}
+use Rattle.fib_stack_queue.specs.declared.order.Queued.{Queued}
+use Rattle.fib_stack_waking.specs.Waking.{AreRanked}
 use Rattle.fib_urpf.specs.declared.interfaces.Interfaces.{Interfaces}
 use Rattle.fib_urpf.specs.Sets.{kept_in, set_of}
 use Rattle.fib_urpf.specs.States.{Stands, State}

@@ -1,13 +1,13 @@
 // What is queued is listed, and keyed anew.
 ghost use Rattle.std.specs.Prelude.{◌≡◌, ◌⊎◌, ◌+◌, ◌≤◌, ℕ, IfOk, Some, false, is_some, length, map};
 ghost use Rattle.fib_addr.specs.Prefixes.{Prefix as PrefixValue};
-ghost use Rattle.fib_entries.specs.Known.{prefix_of, rank_of};
-ghost use Rattle.fib_queue.specs.Queues.{rank_in};
-ghost use Rattle.fib_woken.specs.Waking.{are_among};
+ghost use Rattle.fib_entries_rows.specs.Known.{prefix_of, rank_of};
+ghost use Rattle.fib_stack_queue.specs.Queues.{rank_in};
+ghost use Rattle.fib_stack_waking.specs.Waking.{are_among};
 
 use fib_addr::Prefix;
 use fib_entries::Entries;
-use fib_queue::{Queue, Queued};
+use fib_stack_queue::{Queue, Queued};
 use std::alloc::{AllocError, Global};
 
 /// All that is queued, in its order.

@@ -6,10 +6,10 @@ use Rattle.std.proofs.lemmas.Option.{cond_some, none-some, option_and_then_some,
 use Rattle.clap.specs.Words.{Row, Text, first_of}
 use Rattle.fib_addr.specs.Texts.{number_of}
 use Rattle.fib_words.specs.declared.types.Asked.{Asked}
-use Rattle.fib_settings.specs.declared.sizes.Settings.{Settings}
+use Rattle.fib_core.specs.declared.settings.Settings.{Settings}
 use Rattle.fib_words.specs.Parts.{number_or, objects_or}
 use Rattle.fib_words.specs.Words.{asked, asked_by, settings_of, source_of, is_taken, asked_in, origin_in, Origin, AcceptedAreInRange}
-use Rattle.fib_settings.specs.Ranges.{InRange}
+use Rattle.fib_core.specs.Ranges.{InRange}
 
 number_of-le : (width greatest : ℕ) (text : Text) (n : ℕ) → number_of width greatest text ≡ Some n → n ≤ greatest
 unfolding number_of

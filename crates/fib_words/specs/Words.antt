@@ -2,8 +2,8 @@
 use Rattle.std.specs.Prelude.{ℕ, ◌≡◌, List, Bool, Option, Some, None, if◌then◌else◌, codes, option_map, is_some}
 use Rattle.fib_addr.specs.Texts.{◌>>=◌, number_of}
 use Rattle.clap.specs.Words.{App, Row, Text, first_of, matches_of, with_rule}
-use Rattle.fib_settings.specs.Ranges.{InRange}
-use Rattle.fib_settings.specs.declared.sizes.Settings.{Settings}
+use Rattle.fib_core.specs.Ranges.{InRange}
+use Rattle.fib_core.specs.declared.settings.Settings.{Settings}
 use Rattle.fib_words.specs.Parts.{bare_command, is_taken_by, name_rule, number_or, objects_or, option_rule}
 use Rattle.fib_words.specs.declared.types.Asked.{Asked}
 use Rattle.fib_words.specs.declared.types.Source.{Source}

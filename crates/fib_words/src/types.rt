@@ -1,6 +1,6 @@
 // What the words ask for.
 
-use fib_settings::Settings;
+use fib_core::Settings;
 
 /// Where the lines and the packets of a run come from.
 #[derive(Clone, Copy, Debug, PartialEq, Eq)]

@@ -7,7 +7,7 @@ use crate::parts::{given, number_or, objects_or};
 use crate::{Asked, Source};
 use clap::ArgMatches;
 use fib_addr::{BadText, read_number};
-use fib_settings::Settings;
+use fib_core::Settings;
 
 #[tactic(auto, unfolding(crate::specs::Words::settings_of))]
 fn settings(matches: &ArgMatches<'_>) -> Result<Settings, BadText>

@@ -1,7 +1,7 @@
 // Words to what they ask for.
 ghost use Rattle.std.specs.Prelude.{◌≡◌, map, string_bytes, IfOk, IfSome, option_map, is_some};
 ghost use Rattle.fib_words.specs.Words.{asked, asked_in, accepts};
-ghost use Rattle.fib_settings.specs.Ranges.{InRange};
+ghost use Rattle.fib_core.specs.Ranges.{InRange};
 
 use crate::Asked;
 use crate::command::fib_command;

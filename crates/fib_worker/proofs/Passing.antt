@@ -1,5 +1,5 @@
 -- A pass goes on: each load is the next of the walk that it serves.
-use Rattle.std.proofs.Common.{◌≡◌, ℕ, suc, ◌+◌, ◌*◌, ◌%◌, ◌≤◌, true, [], ◌∷◌, length, sym, ap, ◌∙◌, subst}
+use Rattle.std.proofs.Common.{◌≡◌, ℕ, suc, ◌+◌, ◌*◌, ◌%◌, ◌≤◌, true, [], ◌∷◌, length, refl, sym, ap, ◌∙◌, subst}
 use Rattle.fib_addr.specs.Prefixes.{nibble}
 use Rattle.fib_core.specs.declared.word.Word.{Word}
 use Rattle.fib_core.specs.Words.{IsRoomy, encoded, decoded, is_edge, goes, target}
@@ -7,12 +7,12 @@ use Rattle.fib_core.specs.Walk.{object_of, Place, ply, balance, adjacency, ended
 use Rattle.fib_core.specs.Trails.{stands, visited, arrive_if, place, IsGoing, Follows, IsProper, IsSoundTrail}
 use Rattle.fib_core.proofs.Numbers.{decoded_encoded, goes_of}
 use Rattle.fib_core.proofs.Stands.{ply_moves, balance_moves}
-use Rattle.fib_lawful.specs.State.{Worker, hopped}
-use Rattle.fib_hops.specs.declared.stage.Stage.{Stage}
-use Rattle.fib_hops.specs.declared.stage.Stage.TheVariants as stages
-use Rattle.fib_hops.specs.Stages.{StandsAt}
-use Rattle.fib_board.specs.Crews.{Seated}
-use Rattle.fib_cells.specs.Seats.{seat_loaded}
+use Rattle.fib_core_lawful.specs.State.{Worker, hopped}
+use Rattle.fib_core.specs.declared.stage.Stage.{Stage}
+use Rattle.fib_core.specs.declared.stage.Stage.TheVariants as stages
+use Rattle.fib_core.specs.Stages.{StandsAt}
+use Rattle.fib_core_board.specs.Crews.{Seated}
+use Rattle.fib_cells.specs.Seats.{IsReading, seat_loaded}
 use Rattle.fib_worker.specs.Passes.{HasHopped, loads_at}
 use Rattle.fib_worker.specs.inner.Runs.{Nears}
 
@@ -65,6 +65,39 @@ module _ (a h : ℕ) where
       → Follows a h v.trail → IsSoundTrail v.objects v.trail → IsLoaded v (16 * stands v.trail + left % 16) W w → HasHopped a h v w
   balance_hopped o n left v w W is at f s l =
       one v w (16 * stands v.trail + left % 16) W (ap loads_at is) l (balance_follows o n left v w W is at f s l)
+
+  -- what was read of an adjacency, word by word
+  pub reading_first : (o : ℕ) (v : Worker) → place v.trail ≡ adjacency o [] → Follows a h v.trail → IsReading v 0
+  reading_first o v is f = record { addr = a; hash = h; object = o; read = []; follows = f; at = is; count = refl }
+
+  pub reading_second : (o : ℕ) (v w : Worker) (i : Word) → place v.trail ≡ adjacency o [] → Follows a h v.trail → IsSoundTrail v.objects v.trail
+      → IsLoaded v (16 * stands v.trail + 0) i w → IsReading w 1
+  reading_second o v w i is f s l = record {
+    addr = a;
+    hash = h;
+    object = o;
+    read = i ∷ [];
+    follows = loaded_follows v w (16 * stands v.trail + 0) i (adjacency o []) is tt (ap (λ n. 16 * n + 0) (here v.objects v (adjacency o []) is tt f s)) f l;
+    at = loaded_place v w (16 * stands v.trail + 0) i (adjacency o []) is l;
+    count = refl;
+  }
+
+  pub reading_third : (o : ℕ) (u v w : Worker) (i g : Word) → place u.trail ≡ adjacency o [] → Follows a h u.trail → IsSoundTrail u.objects u.trail
+      → IsLoaded u (16 * stands u.trail + 0) i v → IsSoundTrail v.objects v.trail → IsLoaded v (16 * stands v.trail + 1) g w → IsReading w 2
+  reading_third o u v w i g at f t k s l =
+      let is : place v.trail ≡ adjacency o (i ∷ []) = loaded_place u v (16 * stands u.trail + 0) i (adjacency o []) at k in
+      let then : Follows a h v.trail = loaded_follows u v (16 * stands u.trail + 0) i (adjacency o []) at tt
+      (ap (λ n. 16 * n + 0) (here u.objects u (adjacency o []) at tt f t)) f k in
+      record {
+        addr = a;
+        hash = h;
+        object = o;
+        read = i ∷ g ∷ [];
+        follows = loaded_follows v w (16 * stands v.trail + 1) g (adjacency o (i ∷ [])) is tt
+            (ap (λ n. 16 * n + 1) (here v.objects v (adjacency o (i ∷ [])) is tt then s)) then l;
+        at = loaded_place v w (16 * stands v.trail + 1) g (adjacency o (i ∷ [])) is l;
+        count = refl;
+      }
 
   -- the three words of an adjacency
   pub record Reading (o : ℕ) (v v1 v2 v3 : Worker) (i g m : Word) : Type 0 where

@@ -1,7 +1,7 @@
 -- What holds of a pass as it begins, goes on and ends.
-use Rattle.std.proofs.Common.{◌≡◌, ℕ, suc, ◌+◌, ◌-◌, ◌^◌, ◌<◌, ◌≤◌, true, List, [], ◌∷◌, ◌++◌, length, refl, sym, ap, ◌∙◌, subst, arith}
+use Rattle.std.proofs.Common.{◌≡◌, ℕ, suc, ◌+◌, ◌-◌, ◌^◌, ◌<◌, ◌≤◌, ◌⊎◌, inl, inr, ⊎_elim, true, List, [], ◌∷◌, ◌++◌, length, refl, sym, ap, ◌∙◌, subst, arith}
 use Rattle.fib_resolve.specs.declared.types.End.{End}
-use Rattle.fib_results.specs.declared.record.Version.{Version}
+use Rattle.fib_core_results.specs.declared.record.Version.{Version}
 use Rattle.fib_core.specs.Words.{decoded, is_edge}
 use Rattle.fib_core.specs.declared.word.Word.{Word}
 use Rattle.fib_core.specs.Walk.{Place, ply, balance, adjacency, ended, next, from_ply, from_balance, root}
@@ -9,14 +9,14 @@ use Rattle.fib_core.specs.Trails.{Load, visited, place, IsGoing, Follows, IsSoun
 use Rattle.fib_core.proofs.Numbers.{goes_of}
 use Rattle.fib_core.proofs.Stands.{balance_moves, goes_on, ply_moves}
 use Rattle.fib_core.proofs.Endings.{at_most}
-use Rattle.fib_lawful.specs.State.{Worker, lo_at}
-use Rattle.fib_hops.specs.declared.stage.Stage.{Stage}
-use Rattle.fib_hops.specs.declared.stage.Stage.TheVariants as stages
-use Rattle.fib_hops.specs.Stages.{StandsAt}
-use Rattle.fib_board.specs.Crews.{Seated}
+use Rattle.fib_core_lawful.specs.State.{Worker, lo_at}
+use Rattle.fib_core.specs.declared.stage.Stage.{Stage}
+use Rattle.fib_core.specs.declared.stage.Stage.TheVariants as stages
+use Rattle.fib_core.specs.Stages.{StandsAt}
+use Rattle.fib_core_board.specs.Crews.{Seated}
 use Rattle.fib_cells.specs.Seats.{seat_learned, seat_started}
 use Rattle.fib_worker.specs.Passes.{FoundEdge, HasHopped, IsHop, Passing, hopped_by, loads_at}
-use Rattle.fib_worker.specs.inner.Runs.{IsOn, IsRunning, IsOnItsWay, IsAtItsEnd, WithTrail, Nears}
+use Rattle.fib_worker.specs.inner.Runs.{IsOn, IsUnderWay, IsRunning, rest_in, IsOnItsWay, IsAtItsEnd, WithTrail, Nears}
 
 pub on_unless : (s : Stage) → ((e : End) → s ≡ stages.Ended e → ⊥) → IsOn s
 on_unless (stages.Ended e) h = h e refl
@@ -60,6 +60,7 @@ hop_keeps a h v w s r p =
       objects = ap (λ (u : Worker). u.objects) p.known;
       number = ap (λ (u : Worker). u.number) p.known;
       pass = ap (λ (u : Worker). u.pass) p.known;
+      version_loads = ap (λ (u : Worker). u.version_loads) p.known;
       knows = ap (λ (u : Worker). u.knows) p.known;
       past = ap (λ (u : Worker). u.past) p.known;
       claims = ap (λ (u : Worker). u.claims) p.known;
@@ -110,6 +111,47 @@ on_edge h v w s (l ∷ ls) some known on at =
     subst (λ (u : Worker). FoundEdge u.trail) (sym known)
     (goes_of l.1 (decoded l.1) refl
     ∙ found h (place (ls ++ v.trail)) (decoded l.1) s on (subst (λ (u : Worker). StandsAt h (place u.trail) s) known at))
+
+-- a hop of a walk that is under way
+pub running_on : (a h : ℕ) (v : Worker) (s : Stage) → IsUnderWay a h v s → IsOn s → IsRunning a h v s
+running_on a h v s u on = record { follows = u.follows; at = u.at; on = on; sound = u.sound }
+
+rest_on : (v : Worker) (s : Stage) → IsOn s → rest_in v s ≡ suc (v.objects - length (visited v.trail))
+rest_on v (stages.Ended e) on = absurd on
+rest_on v (stages.Ply o d) on = refl
+rest_on v (stages.Balance o left) on = refl
+rest_on v (stages.Adjacency o) on = refl
+
+on_or_ended : (s : Stage) → IsOn s ⊎ ((v : Worker) → rest_in v s ≡ 0)
+on_or_ended (stages.Ended e) = inr (λ v. refl)
+on_or_ended (stages.Ply o d) = inl tt
+on_or_ended (stages.Balance o left) = inl tt
+on_or_ended (stages.Adjacency o) = inl tt
+
+pub rest_falls : (a h : ℕ) (v w : Worker) (s t : Stage) → IsUnderWay a h v s → IsOn s → HasHopped a h v w → IsSoundTrail w.objects w.trail → Nears v w t
+    → rest_in w t < rest_in v s
+rest_falls a h v w s t u on p sound near = ⊎_elim
+    (λ (more : IsOn t).
+    let longer = one_more v w t more near in
+    let most = few_visited w sound in
+    let all : w.objects ≡ v.objects = ap (λ (x : Worker). x.objects) p.known in
+    let old = rest_on v s on in
+    let new = rest_on w t more in
+    omega arith)
+    (λ (none : (x : Worker) → rest_in x t ≡ 0). let z = none w in let old = rest_on v s on in omega arith)
+    (on_or_ended t)
+
+pub trail_trans : (u v w : Worker) → WithTrail u v → WithTrail v w → WithTrail u w
+trail_trans u v w p q = record {
+  objects = q.objects ∙ p.objects;
+  number = q.number ∙ p.number;
+  pass = q.pass ∙ p.pass;
+  version_loads = q.version_loads ∙ p.version_loads;
+  knows = q.knows ∙ p.knows;
+  past = q.past ∙ p.past;
+  claims = q.claims ∙ p.claims;
+  lo = q.lo ∙ p.lo;
+}
 
 module _ (a h : ℕ) (v w : Worker) (s t : Stage) (lo : Version) (hops : ℕ) (p : IsOnItsWay a h v s lo hops)
     (hop : HasHopped a h v w) (at : StandsAt h (place w.trail) t) (sound : IsSoundTrail w.objects w.trail) (near : Nears v w t) where
@@ -171,7 +213,7 @@ begins_with a h first started learned lo s is then sound few la lh at =
     none = ap (λ (x : Seated). x.worker.trail) then ∙ ap (λ (x : Seated). x.worker.trail) is
 
 pub is_hop : (old : Passing) (v w : Seated) (a h : ℕ) (lo : Version) (n : ℕ) → record { seat = v; addr = a; hash = h; lo = lo; hops = n } ≡ old
-    → w.id ≡ v.id → HasHopped a h v.worker w.worker → IsHop old (record { seat = w; addr = a; hash = h; lo = lo; hops = n + 1 })
-is_hop old v w a h lo n is id p =
+    → w.id ≡ v.id → HasHopped a h v.worker w.worker → IsSoundTrail w.worker.objects w.worker.trail → IsHop old (record { seat = w; addr = a; hash = h; lo = lo; hops = n + 1 })
+is_hop old v w a h lo n is id p sound =
     subst (λ (o : Passing). IsHop o (record { seat = w; addr = a; hash = h; lo = lo; hops = n + 1 })) is
-    (record { id = id; hopped = p; addr = refl; hash = refl; lo = refl; hops = refl })
+    (record { id = id; hopped = p; apart = sound.apart; below = sound.below; addr = refl; hash = refl; lo = refl; hops = refl })

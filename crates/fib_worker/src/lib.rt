@@ -11,6 +11,7 @@
 mod hops;
 mod pass;
 mod step;
+mod walk;
 mod worker;
 
 pub use pass::{Done, Finished, Pass};

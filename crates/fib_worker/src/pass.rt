@@ -5,8 +5,7 @@ ghost use Rattle.fib_worker.specs.Passes.{HasEnded};
 use crate::worker::Worker;
 use fib_addr::Addr;
 use fib_cells::WalkingSeat;
-use fib_core::{Record, Version};
-use fib_hops::Stage;
+use fib_core::{Record, Stage, Version};
 use fib_resolve::End;
 use std::marker::Model;
 

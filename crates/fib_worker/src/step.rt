@@ -1,10 +1,9 @@
-// Hops, one by one and to the end.
+// Hops, one by one.
 ghost use Rattle.fib_worker.specs.Steps.{HopsTo};
-ghost use Rattle.fib_worker.specs.inner.Runs.{HasRun};
 
 use crate::hops::hop_on;
 use crate::pass::{Done, Pass};
-use fib_hops::Stage;
+use fib_core::Stage;
 
 /// What a hop makes of a pass.
 pub enum Step<'a> {
@@ -47,34 +46,6 @@ impl<'a> Pass<'a> {
                 lo,
                 hops,
             }),
-        }
-    }
-
-    // Hops to the end. It needs no limit: no object is visited twice.
-    pub(crate) fn run(self) -> Done<'a>
-        ensures { HasRun self.entry result }
-    {
-        let Pass {
-            mut seat,
-            mut stage,
-            addr,
-            hash,
-            lo,
-            mut hops,
-        } = self;
-        loop {
-            stage = hop_on(&mut seat, stage, addr, hash);
-            hops += 1;
-            if let Stage::Ended(end) = stage {
-                return Done {
-                    seat,
-                    end,
-                    addr,
-                    hash,
-                    lo,
-                    hops,
-                };
-            }
         }
     }
 }

@@ -1,15 +1,15 @@
 // A worker at rest.
 ghost use Rattle.std.specs.Prelude.{◌<◌, ◌≡◌};
-ghost use Rattle.fib_lawful.specs.State.{left_of};
-ghost use Rattle.fib_rule.specs.May.{MayDraw};
+ghost use Rattle.fib_core_lawful.specs.State.{left_of};
+ghost use Rattle.fib_core_rule.specs.May.{MayDraw};
 ghost use Rattle.fib_cells.specs.Seats.{claims_left_of, seat_claimed};
 ghost use Rattle.fib_worker.specs.Passes.{HasBegun, HasForwarded};
 
 use crate::pass::{Finished, Pass};
+use crate::walk::walk;
 use fib_addr::Addr;
 use fib_cells::WorkerSeat;
-use fib_core::Version;
-use fib_hops::Stage;
+use fib_core::{Record, Stage, Version};
 use std::marker::Model;
 
 /// A worker at rest, which forwards packets.
@@ -19,7 +19,7 @@ pub struct Worker<'a> {
 }
 
 impl<'a> Model for Worker<'a> {
-    ghost use Rattle.fib_board.specs.Crews.{Seated};
+    ghost use Rattle.fib_core_board.specs.Crews.{Seated};
 
     ghost Value = { Seated };
 
@@ -110,6 +110,21 @@ impl<'a> Worker<'a> {
         requires { 0 < left_of self.worker.pass }
         ensures { HasForwarded addr hash self.entry result.worker result.result }
     {
-        self.begin(addr, hash).run().end()
+        let Worker { seat } = self;
+        let mut seat = seat.start();
+        let known = seat.version();
+        let _bits = bits_of(addr);
+        let end = walk(&mut seat, Stage::first(), addr, hash);
+        let hi = seat.version();
+        Finished {
+            worker: Worker::new(seat.stop()),
+            result: Record {
+                addr,
+                hash,
+                lo: known,
+                hi,
+                end,
+            },
+        }
     }
 }

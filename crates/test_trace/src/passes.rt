@@ -1,18 +1,18 @@
 // One packet over live cells, traced before a change and after it with the same trail.
 ghost use Rattle.std.specs.Prelude.{◌≡◌, ◌≤◌, IfSome};
 ghost use Rattle.fib_resolve.specs.Reachable.{IsWritten};
-ghost use Rattle.fib_live.specs.Crewed.{IsManned};
+ghost use Rattle.trial_live.specs.Crewed.{IsManned};
 
 use fib_addr::Addr;
 use fib_cells::{Cells, LiveBoard, WorkerSeat};
 use fib_control::Control;
 use fib_core::{Record, Version, Word};
-use fib_live::alone::{fresh, set_up};
-use fib_live::live::{edit_of, restack, settle_home};
 use fib_resolve::{Edit, End};
 use fib_trace::{Load, Trail, trace};
 use std::alloc::Global;
 use std::test::Fail;
+use trial_live::alone::{fresh, set_up};
+use trial_live::live::{edit_of, restack, settle_home};
 
 /// Within 50.0.0.0/8, which is led by way of 10.0.0.7 on eth0.
 const REMOTE: Addr = Addr(0x3201_0101);

@@ -1,12 +1,12 @@
 // Tables with their entries, and what is kept for checks of them.
 ghost use Rattle.std.specs.Prelude.{◌≡◌, [], IfOk, OnOk, false, true};
 ghost use Rattle.fib_resolve.specs.Reachable.{IsWritten};
-ghost use Rattle.test_urpf.specs.Rigs.{IsKept};
+ghost use Rattle.test_urpf.specs.Rigs.{IsRigged};
 
 use fib_commands::{Line, read_line};
 use fib_config::Config;
 use fib_entries::Entries;
-use fib_following::{ChangeError, change_tables};
+use fib_entries_following::{ChangeError, change_tables};
 use fib_resolve::Edit;
 use fib_urpf::Urpf;
 use std::alloc::{AllocError, Global};
@@ -31,7 +31,7 @@ impl Drop for Rig {
 
 /// The tables as they begin, with all entries queued.
 pub fn begin(alloc: Global) -> Result<Rig, AllocError>
-    ensures { IfOk result IsKept }
+    ensures { IfOk result IsRigged }
 {
     let config = Config::new(alloc, 8192)?;
     let entries = Entries::new(alloc)?;
@@ -45,9 +45,9 @@ pub fn begin(alloc: Global) -> Result<Rig, AllocError>
 
 // Makes a change, unless it is refused.
 fn change(rig: &mut Rig, edit: &Edit) -> Result<bool, AllocError>
-    requires kept { IsKept rig.old }
+    requires kept { IsRigged rig.old }
     requires written { IsWritten edit.now }
-    ensures { OnOk result (IsKept rig.new) }
+    ensures { OnOk result (IsRigged rig.new) }
 {
     match change_tables(&mut rig.config, &mut rig.entries, edit, 8192) {
         Ok(followed) => {
@@ -62,8 +62,8 @@ fn change(rig: &mut Rig, edit: &Edit) -> Result<bool, AllocError>
 
 /// Makes the change that a line says; false where it says none, or the change is refused.
 pub fn make(alloc: Global, rig: &mut Rig, line: &str) -> Result<bool, AllocError>
-    requires { IsKept rig.old }
-    ensures { OnOk result (IsKept rig.new) }
+    requires { IsRigged rig.old }
+    ensures { OnOk result (IsRigged rig.new) }
 {
     match read_line(alloc, line.as_bytes()) {
         Ok(Line::Change(edit)) => change(rig, &edit),
@@ -73,8 +73,8 @@ pub fn make(alloc: Global, rig: &mut Rig, line: &str) -> Result<bool, AllocError
 
 // One turn; false where nothing is queued.
 fn turn(rig: &mut Rig) -> Result<bool, AllocError>
-    requires { IsKept rig.old }
-    ensures kept { OnOk result (IsKept rig.new) }
+    requires { IsRigged rig.old }
+    ensures kept { OnOk result (IsRigged rig.new) }
     ensures quiet { IfOk result (λ more. more ≡ false → rig.new.urpf.queue ≡ []) }
 {
     match rig.urpf.turn(rig.config.tables(), &rig.entries)? {
@@ -85,8 +85,8 @@ fn turn(rig: &mut Rig) -> Result<bool, AllocError>
 
 /// At most so many turns.
 pub fn turns(rig: &mut Rig, most: u32) -> Result<(), AllocError>
-    requires { IsKept rig.old }
-    ensures { OnOk result (IsKept rig.new) }
+    requires { IsRigged rig.old }
+    ensures { OnOk result (IsRigged rig.new) }
 {
     for _turn in 0..most {
         let _more = turn(rig)?;
@@ -96,8 +96,8 @@ pub fn turns(rig: &mut Rig, most: u32) -> Result<(), AllocError>
 
 /// Turns until nothing is queued; false after 10,000.
 pub fn settle(rig: &mut Rig) -> Result<bool, AllocError>
-    requires { IsKept rig.old }
-    ensures kept { OnOk result (IsKept rig.new) }
+    requires { IsRigged rig.old }
+    ensures kept { OnOk result (IsRigged rig.new) }
     ensures quiet { IfOk result (λ done. done ≡ true → rig.new.urpf.queue ≡ []) }
 {
     for _turn in 0..10_000 {

@@ -1,6 +1,6 @@
 // Turns left undone, changes, and checks against the definition.
 ghost use Rattle.std.specs.Prelude.{◌≡◌, [], OnOk};
-ghost use Rattle.test_urpf.specs.Rigs.{IsKept};
+ghost use Rattle.test_urpf.specs.Rigs.{IsRigged};
 
 use crate::plain::may_come;
 use crate::rig::{Rig, begin, make, settle, turns};
@@ -71,8 +71,8 @@ fn all_agree(alloc: Global, rig: &Rig) -> Result<bool, AllocError>
 
 // Whether all checks answer the definition, once nothing is queued.
 fn agrees(alloc: Global, rig: &mut Rig) -> Result<bool, AllocError>
-    requires { IsKept rig.old }
-    ensures { OnOk result (IsKept rig.new) }
+    requires { IsRigged rig.old }
+    ensures { OnOk result (IsRigged rig.new) }
 {
     if !settle(rig)? {
         return Ok(false);
@@ -82,8 +82,8 @@ fn agrees(alloc: Global, rig: &mut Rig) -> Result<bool, AllocError>
 
 // Makes so many changes, with some turns after each, and compares after each fifth.
 fn drive(alloc: Global, rig: &mut Rig, changes: u32, seed: u32) -> Result<bool, AllocError>
-    requires { IsKept rig.old }
-    ensures { OnOk result (IsKept rig.new) }
+    requires { IsRigged rig.old }
+    ensures { OnOk result (IsRigged rig.new) }
 {
     let mut state = seed;
     for number in 0..changes {

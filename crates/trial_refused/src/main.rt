@@ -2,8 +2,8 @@
 //! is printed, and is the same whichever that was. `tests/refused.py` refuses each allocation in turn.
 #![tactic(auto)]
 
-use fib_trials::refused::held_with_a_refusal;
 use std::process::ExitCode;
+use trial_plain::refused::held_with_a_refusal;
 
 /// The status where memory is wanted to print.
 const MEMORY: u8 = 6;

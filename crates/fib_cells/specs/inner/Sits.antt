@@ -1,20 +1,21 @@
 -- How a seat's fields, its table and its view belong together.
-use Rattle.std.specs.Prelude.{◌≡◌, ℕ, ◌+◌, ◌-◌, ◌*◌, ◌%◌, ◌^◌, ◌<◌, ◌≤◌, List, Bool, length, slice_index, if◌then◌else◌}
+use Rattle.std.specs.Prelude.{◌≡◌, ℕ, ◌+◌, ◌-◌, ◌*◌, ◌%◌, ◌^◌, ◌<◌, ◌≤◌, List, Bool, false, length, slice_index, if◌then◌else◌}
 use Rattle.atomic_table.specs.Table.{Me}
 use Rattle.fib_resolve.specs.declared.types.Tables.{Tables}
-use Rattle.fib_results.specs.declared.record.Version.{Version}
+use Rattle.fib_core_results.specs.declared.record.Version.{Version}
 use Rattle.fib_core.specs.declared.word.Word.{Word}
 use Rattle.fib_core.specs.Words.{is_edge, value_of}
 use Rattle.fib_core.specs.Trails.{IsSoundTrail, stands}
-use Rattle.fib_lawful.specs.State.{View}
-use Rattle.fib_board.specs.Told.{IsWithinLimits}
+use Rattle.fib_core_lawful.specs.Layout.{words_for}
+use Rattle.fib_core_lawful.specs.State.{View}
+use Rattle.fib_core_board.specs.Told.{IsWithinLimits}
 use Rattle.fib_cells.specs.inner.Told.{control_of, worker_of, IsControl, IsWorker, Tells}
 
 -- what a worker's seat keeps whether it walks or not: of a table with so many words its number, its pass word, the version that it knows, and
 -- how many claims it may still draw
 pub record IsSat (words : ℕ) (me : Me Tables View) (number pass : ℕ) (knows : Version) (left : ℕ) : Type 0 where
   pub sat : IsWorker me
-  pub size : words ≡ 16 + 16 * (worker_of me.0).objects
+  pub size : words ≡ words_for (worker_of me.0).objects
   pub few : (worker_of me.0).objects ≤ 131072
   pub named : (worker_of me.0).number ≡ number
   pub small : number < 8
@@ -25,6 +26,7 @@ pub record IsSat (words : ℕ) (me : Me Tables View) (number pass : ℕ) (knows 
 pub record IsResting (words : ℕ) (me : Me Tables View) (number pass : ℕ) (knows : Version) (left : ℕ) : Type 0 where
   pub seat : IsSat words me number pass knows left
   pub even : pass % 2 ≡ 0
+  pub rests : (worker_of me.0).walks ≡ false
 
 -- at the object where it stands
 pub record IsWalking (words : ℕ) (me : Me Tables View) (number pass : ℕ) (knows : Version) (left at : ℕ) : Type 0 where
@@ -37,7 +39,7 @@ pub record IsWalking (words : ℕ) (me : Me Tables View) (number pass : ℕ) (kn
 -- the control plane's fields: its copy of the cells, the version, who is out, the pass words at rest, and how many claims came home
 pub record IsLive (words objects workers : ℕ) (me : Me Tables View) (copy : List ℕ) (version : Version) (out : List Bool) (rests : List ℕ) (gathered : ℕ) : Type 0 where
   pub sat : IsControl me
-  pub size : words ≡ 16 + 16 * objects
+  pub size : words ≡ words_for objects
   pub limits : IsWithinLimits objects workers
   pub all : (control_of me.0).objects ≡ objects
   pub crew : (control_of me.0).workers ≡ workers

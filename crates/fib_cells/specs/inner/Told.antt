@@ -4,24 +4,27 @@ use mathlib.Core.Option.{some, none}
 use Rattle.atomic_table.specs.Table.{Step, Me}
 use Rattle.fib_resolve.specs.Tables.{fresh}
 use Rattle.fib_resolve.specs.declared.types.Tables.{Tables}
-use Rattle.fib_results.specs.declared.record.Version.{Version}
-use Rattle.fib_results.specs.Trails.{version_at}
-use Rattle.fib_results.specs.Versions.{unpacked}
+use Rattle.fib_core_results.specs.declared.record.Version.{Version}
+use Rattle.fib_core_results.specs.Trails.{version_at}
+use Rattle.fib_core_results.specs.Versions.{unpacked}
 use Rattle.fib_core.specs.Words.{IsWord}
 use Rattle.fib_core.specs.Trails.{IsSoundTrail}
-use Rattle.fib_lawful.specs.State.{Control, Worker, View, control, worker, note, spent, first_control}
-use Rattle.fib_lawful.specs.State.{started, learned, hopped, stopped, claimed, told}
-use Rattle.fib_lawful.specs.State.{put, looked, with_log, begun, settled, picking, sent, new_worker, taken_home}
-use Rattle.fib_lawful.specs.Lawful.{IsTold}
-use Rattle.fib_lawful.specs.Claims.{IsSpare}
-use Rattle.fib_board.specs.Boards.{Pass, board_of}
-use Rattle.fib_board.specs.Told.{IsBoard, IsWithinLimits}
+use Rattle.fib_core_lawful.specs.Layout.{cell_of, worker_at}
+use Rattle.fib_core_lawful.specs.State.{Control, Worker, View, control, worker, note, spent, first_control}
+use Rattle.fib_core_lawful.specs.State.{started, learned, hopped, stopped, claimed, told}
+use Rattle.fib_core_lawful.specs.State.{put, looked, with_log, begun, settled, picking, sent, new_worker, taken_home}
+use Rattle.fib_core_lawful.specs.Lawful.{IsTold}
+use Rattle.fib_core_lawful.specs.Claims.{IsSpare}
+use Rattle.fib_core_board.specs.Boards.{Pass, board_of}
+use Rattle.fib_core_board.specs.Told.{IsBoard, IsWithinLimits}
 
 abbrev pub no_worker : Worker
 no_worker = record {
   objects = 0;
   number = 0;
   pass = 0;
+  walks = false;
+  version_loads = 0;
   knows = version_at 0;
   lo = version_at 0;
   trail = [];
@@ -72,8 +75,8 @@ Learns s v n w = (w ≡ (worker (learned (worker_of v.0) n), [])) × IsTold (unp
 
 abbrev pub Hops : Telling
 Hops s v n w =
-    (w ≡ (worker (hopped (worker_of v.0) (s.word - 16) n), [])) × IsWord n
-    × IsSoundTrail (worker_of v.0).objects ((s.word - 16, n) ∷ (worker_of v.0).trail)
+    (w ≡ (worker (hopped (worker_of v.0) (cell_of s.word) n), [])) × IsWord n
+    × IsSoundTrail (worker_of v.0).objects ((cell_of s.word, n) ∷ (worker_of v.0).trail)
 
 abbrev pub Stops : Telling
 Stops s v n w = w ≡ (worker (stopped (worker_of v.0) n), [])
@@ -92,7 +95,7 @@ abbrev pub Becomes : Me Tables View → Control → Type 0
 Becomes w c = (w ≡ (control c, [])) × Tells c
 
 abbrev pub Stores : Telling
-Stores s v n w = Becomes w (put (control_of v.0) (s.word - 16) n)
+Stores s v n w = Becomes w (put (control_of v.0) (cell_of s.word) n)
 
 -- the tables that were said
 abbrev pub said_or : mathlib.Core.Option.Option Tables → Tables
@@ -108,12 +111,12 @@ Settles s v n w = Becomes w (with_log (control_of v.0) (settled (control_of v.0)
 -- of a number that isn't out, what is found is what it rested at
 abbrev pub Looks : Telling
 Looks s v n w =
-    Becomes w (looked (control_of v.0) (s.word - 1) n)
-    × (s.word - 1 < 8 → slice_index_or (control_of v.0).desk.out (s.word - 1) false ≡ false
-    → n ≡ slice_index (control_of v.0).desk.rests (s.word - 1))
+    Becomes w (looked (control_of v.0) (worker_at s.word) n)
+    × (worker_at s.word < 8 → slice_index_or (control_of v.0).desk.out (worker_at s.word) false ≡ false
+    → n ≡ slice_index (control_of v.0).desk.rests (worker_at s.word))
 
 abbrev pub Picks : Telling
-Picks s v n w = w ≡ (control (picking (control_of v.0) (s.word - 1)), [])
+Picks s v n w = w ≡ (control (picking (control_of v.0) (worker_at s.word)), [])
 
 -- and how much room there is for claims
 abbrev pub Recalls : Telling

@@ -9,7 +9,7 @@ use Rattle.fib_resolve.specs.Sizes.{plies_of, kind_adjacency, same_adjacency}
 use Rattle.fib_resolve.specs.declared.pairs.Adjacency.{Adjacency}
 use Rattle.fib_resolve.specs.declared.types.Edit.{Edit}
 use Rattle.fib_resolve.specs.declared.types.Edit.TheVariants as edits
-use Rattle.fib_changes.specs.Sources.{all_hops}
+use Rattle.fib_resolve_changes.specs.Sources.{all_hops}
 use Rattle.fib_resolve.specs.declared.types.Address.{Address}
 use Rattle.fib_resolve.specs.declared.types.Neighbor.{Neighbor}
 use Rattle.fib_resolve.specs.declared.types.Route.{Route}

@@ -3,9 +3,9 @@ use Rattle.std.specs.Prelude.{ℕ, ◌^◌, ◌<◌, ◌≤◌}
 use Rattle.fib_core.specs.Trails.{IsMac}
 use Rattle.fib_core.specs.Walk.{mac_in, word_at}
 use Rattle.fib_core.specs.Words.{value_of}
-use Rattle.fib_board.specs.Boards.{Board}
-use Rattle.fib_hops.specs.declared.stage.Stage.{Stage}
-use Rattle.fib_hops.specs.declared.stage.Stage.TheVariants as stages
+use Rattle.fib_core_board.specs.Boards.{Board}
+use Rattle.fib_core.specs.declared.stage.Stage.{Stage}
+use Rattle.fib_core.specs.declared.stage.Stage.TheVariants as stages
 
 pub record IsAdjacencyIn (b : Board) (o : ℕ) : Type 0 where
   pub inside : o < b.objects

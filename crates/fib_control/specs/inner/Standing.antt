@@ -2,7 +2,7 @@
 use Rattle.std.specs.Prelude.{◌≡◌, ℕ, ◌+◌, ◌^◌, ◌-◌, ◌<◌, ◌≤◌, List, [], Some, slice_get}
 use Rattle.fib_reach.specs.Walks.{AllDiffer}
 use Rattle.fib_resolve.specs.Sizes.{size}
-use Rattle.fib_entries.specs.Known.{StandsFor}
+use Rattle.fib_entries_rows.specs.Known.{StandsFor}
 use Rattle.fib_stack.specs.Joined.{Joined}
 use Rattle.fib_stack.specs.Orders.{InOrder}
 use Rattle.fib_stack.specs.Room.{HasRoomLeft}

@@ -3,12 +3,12 @@ use Rattle.std.specs.Prelude.{◌≡◌, ℕ, ◌+◌, ◌*◌, ◌<◌, ◌≤�
 use Rattle.fib_addr.specs.Prefixes.{Prefix}
 use Rattle.fib_core.specs.declared.word.Word.TheVariants as words
 use Rattle.fib_pool.specs.declared.object.AdjacencyRecord.{AdjacencyRecord}
-use Rattle.fib_joined.specs.Promise.{Promise}
-use Rattle.fib_joined.specs.View.{IsBalance, View}
+use Rattle.fib_plane_view.specs.Promise.{Promise}
+use Rattle.fib_plane_view.specs.View.{IsBalance, View}
 use Rattle.fib_ply.specs.Tables.{Table, object_in}
-use Rattle.fib_serving.specs.Stack.{is_some}
-use Rattle.fib_quiet.specs.Early.{IsTried}
-use Rattle.fib_woken.specs.Waking.{is_among}
+use Rattle.fib_core_promise.specs.Stack.{is_some}
+use Rattle.fib_control_quiet.specs.Early.{IsTried}
+use Rattle.fib_stack_waking.specs.Waking.{is_among}
 
 pub record IsStarted (p : Promise) (t : Table) (u : View) (named : List Prefix) : Type 0 where
   pub tried : IsTried p t u

@@ -1,7 +1,7 @@
 -- Turns, one after the other.
 use Rattle.std.specs.Prelude.{◌≡◌, false}
 use Rattle.fib_addr.specs.Prefixes.{Prefix}
-use Rattle.fib_woken.specs.Waking.{is_among}
+use Rattle.fib_stack_waking.specs.Waking.{is_among}
 use Rattle.fib_control.specs.Controls.{Control, state_now}
 use Rattle.fib_control.specs.Turning.{HaveTurned}
 

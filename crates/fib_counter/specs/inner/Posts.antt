@@ -1,11 +1,11 @@
 -- Workers at posts, each with a seat that counts the ends of its results.
 use Rattle.std.specs.Prelude.{ℕ, ◌≡◌, ◌++◌, [], ◌∷◌, true, Bool, List, nat_lt, map, filter}
-use Rattle.fib_results.specs.declared.record.Record.{Record}
+use Rattle.fib_core_results.specs.declared.record.Record.{Record}
 use Rattle.fib_capture.specs.declared.packet.Packet.{Packet}
-use Rattle.fib_crew.specs.Results.{results_of}
-use Rattle.fib_crew.specs.declared.claims.Frame.{Frame}
-use Rattle.fib_homing.specs.Stations.{HasDone, IsReady}
-use Rattle.fib_homing.specs.declared.station.Station.{Station}
+use Rattle.fib_worker_crew.specs.Results.{results_of}
+use Rattle.fib_worker_crew.specs.declared.claims.Frame.{Frame}
+use Rattle.fib_rounds_homing.specs.Stations.{HasDone, IsReady}
+use Rattle.fib_rounds_homing.specs.declared.station.Station.{Station}
 use Rattle.fib_counts.specs.Counts.{word_of}
 use Rattle.fib_counter.specs.declared.posts.Post.{Post}
 

@@ -1,9 +1,9 @@
 -- A control plane whose lines were all run, before its workers leave for the first time.
 use Rattle.std.specs.Prelude.{ℕ, ◌≡◌, ◌<◌, ◌+◌, ◌-◌, ◌^◌, [], Some, length, slice_get, slice_index}
-use Rattle.fib_lawful.specs.State.{left_of}
+use Rattle.fib_core_lawful.specs.State.{left_of}
 use Rattle.fib_control.specs.Controls.{Control, tables_in}
-use Rattle.fib_homing.specs.Homes.{NoneOut}
-use Rattle.fib_turns.specs.Routers.{applied_in, history_in}
+use Rattle.fib_rounds_homing.specs.Homes.{NoneOut}
+use Rattle.fib_rounds_turns.specs.Routers.{applied_in, history_in}
 
 pub record IsSettledRun (workers : ℕ) (c : Control) : Type 0 where
   pub all : c.plane.board.workers ≡ workers

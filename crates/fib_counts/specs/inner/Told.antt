@@ -1,7 +1,7 @@
 -- What else the rule holds, what each step tells its seat, and how a seat's fields and its view belong together.
 use Rattle.std.specs.Prelude.{◌≡◌, ℕ, ◌+◌, ◌-◌, ◌*◌, ◌^◌, ◌<◌, List, [], length}
 use Rattle.atomic_table.specs.Table.{Step, Me}
-use Rattle.fib_lawful.specs.Claims.{times}
+use Rattle.fib_core_lawful.specs.Claims.{times}
 use Rattle.fib_counts.specs.Counts.{View, keeper, seat, spent, Keep, Tally, counted, total, outs, first_keep, added, sent, new_tally, taken_home, IsCounted}
 
 abbrev pub is_seat : View → ℕ

@@ -1,20 +1,20 @@
 -- A route that comes above the other lists of its prefix. No contract of a public call rests on this.
 use Rattle.std.specs.Prelude.{◌≡◌, ◌⊎◌, ◌<◌, ◌^◌, ℕ, List, ◌∷◌, None, Some, slice_get, slice_set}
 use Rattle.fib_addr.specs.Prefixes.{Prefix, IsPrefix}
-use Rattle.fib_interned.specs.Interned.{AreInterned, Takes, users_of}
+use Rattle.fib_base_interned.specs.Interned.{AreInterned, Takes, users_of}
 use Rattle.fib_resolve.specs.Keys.{source_rank}
 use Rattle.fib_resolve.specs.declared.types.FibSource.{FibSource}
 use Rattle.fib_resolve.specs.declared.types.Path.{Path}
 use Rattle.fib_resolve.specs.declared.types.Tables.{Tables}
-use Rattle.fib_entries.specs.Known.{PathKept, content_of}
-use Rattle.fib_entries.specs.inner.Coming.{with_pairs}
-use Rattle.fib_entries.specs.inner.Course.{IsCourse}
-use Rattle.fib_entries.specs.inner.Led.{IsReaching}
-use Rattle.fib_entries.specs.inner.Reaching.{HasReached}
+use Rattle.fib_entries_rows.specs.Known.{PathKept, content_of}
+use Rattle.fib_entries_rows.specs.inner.Coming.{with_pairs}
+use Rattle.fib_entries_rows.specs.inner.Course.{IsCourse}
+use Rattle.fib_entries_rows.specs.inner.Led.{IsReaching}
+use Rattle.fib_entries_rows.specs.inner.Reaching.{HasReached}
 use Rattle.fib_entries.specs.declared.above.Above.{Above}
-use Rattle.fib_entries.specs.declared.changes.Followed.{Followed}
-use Rattle.fib_entries.specs.declared.reaching.Course.{Course}
-use Rattle.fib_entries.specs.Rows.{Row}
+use Rattle.fib_entries_rows.specs.declared.changes.Followed.{Followed}
+use Rattle.fib_entries_rows.specs.declared.reaching.Course.{Course}
+use Rattle.fib_entries_rows.specs.Rows.{Row}
 
 -- the row at that place is the prefix's, which is shorter than a host; its best list has that number, comes of a worse source than that, and
 -- another pair has it too

@@ -6,7 +6,7 @@ use Rattle.std.specs.Set.{is_member}
 use Rattle.fib_reach.specs.Walks.{AllDiffer, Reaches, Next}
 use Rattle.fib_addr.specs.Prefixes.{Prefix, IsPrefix, contains, same_prefix}
 use Rattle.fib_cover.specs.Covers.{IsLongestMatch}
-use Rattle.fib_interned.specs.Interned.{AreInterned, Takes, users_of}
+use Rattle.fib_base_interned.specs.Interned.{AreInterned, Takes, users_of}
 use Rattle.fib_resolve.specs.Keys.{source_rank}
 use Rattle.fib_resolve.specs.Loops.{targets}
 use Rattle.fib_resolve.specs.Pairs.{entries, chosen, attached_of, plain}
@@ -21,16 +21,16 @@ use Rattle.fib_resolve.specs.declared.types.Path.{Path}
 use Rattle.fib_resolve.specs.declared.types.PathKind.TheVariants as kinds
 use Rattle.fib_resolve.specs.declared.types.Route.{Route}
 use Rattle.fib_resolve.specs.declared.types.Tables.{Tables}
-use Rattle.fib_entries.specs.Known.{PathKept, content_of, prefix_of, row_of}
+use Rattle.fib_entries_rows.specs.Known.{PathKept, content_of, prefix_of, row_of}
 use Rattle.fib_entries.specs.inner.Above.{IsPlanned}
-use Rattle.fib_entries.specs.inner.Hosting.{IsLoose}
-use Rattle.fib_entries.specs.inner.Plies.{IsGap}
-use Rattle.fib_entries.specs.inner.Reaching.{HasReached}
+use Rattle.fib_entries_rows.specs.inner.Hosting.{IsLoose}
+use Rattle.fib_entries_rows.specs.inner.Plies.{IsGap}
+use Rattle.fib_entries_rows.specs.inner.Reaching.{HasReached}
 use Rattle.fib_entries.specs.declared.adopting.Gap.{Gap}
 use Rattle.fib_entries.specs.declared.adopting.Kin.{Kin}
-use Rattle.fib_entries.specs.declared.changes.Followed.{Followed}
-use Rattle.fib_entries.specs.declared.reaching.Course.{Course}
-use Rattle.fib_entries.specs.Rows.{Row}
+use Rattle.fib_entries_rows.specs.declared.changes.Followed.{Followed}
+use Rattle.fib_entries_rows.specs.declared.reaching.Course.{Course}
+use Rattle.fib_entries_rows.specs.Rows.{Row}
 
 -- the prefix is no entry and could get a route; the cover is the longest entry that contains it, attaches no host, and lies on no cycle
 pub record IsOpen (U : Tables) (p c : Prefix) (source : FibSource) : Type 0 where

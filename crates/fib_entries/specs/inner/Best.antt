@@ -1,18 +1,18 @@
 -- How the best list of a prefix is replaced, as found out before anything is written. No contract of a public call rests on this.
 use Rattle.std.specs.Prelude.{◌≡◌, ◌≢◌, ◌≤◌, ◌<◌, ◌+◌, ◌-◌, ◌^◌, ℕ, List, Some, slice_get}
 use Rattle.fib_addr.specs.Prefixes.{Prefix}
-use Rattle.fib_interned.specs.Interned.{AreInterned}
+use Rattle.fib_base_interned.specs.Interned.{AreInterned}
 use Rattle.fib_paths.specs.PathLists.{IsUsedLess}
 use Rattle.fib_resolve.specs.Edits.{paths_at, with_routes}
 use Rattle.fib_resolve.specs.declared.types.FibSource.{FibSource}
 use Rattle.fib_resolve.specs.declared.types.Path.{Path}
 use Rattle.fib_resolve.specs.declared.types.Route.{Route}
 use Rattle.fib_resolve.specs.declared.types.Tables.{Tables}
-use Rattle.fib_entries.specs.Known.{PathKept, content_of}
-use Rattle.fib_entries.specs.inner.Course.{IsCourse, made_of}
-use Rattle.fib_entries.specs.inner.Led.{IsReaching}
+use Rattle.fib_entries_rows.specs.Known.{PathKept, content_of}
+use Rattle.fib_entries_rows.specs.inner.Course.{IsCourse, made_of}
+use Rattle.fib_entries_rows.specs.inner.Led.{IsReaching}
 use Rattle.fib_entries.specs.declared.best_list.Plan.{Plan}
-use Rattle.fib_entries.specs.Rows.{Row}
+use Rattle.fib_entries_rows.specs.Rows.{Row}
 
 -- the prefix's row is at that spot, and what comes with the list is that, in all tables that have the list and are like these but for routes; there
 -- is room for the list, and so many objects at most

@@ -9,9 +9,9 @@ use Rattle.fib_resolve.specs.declared.types.Need.{Need}
 use Rattle.fib_resolve.specs.declared.types.Path.{Path}
 use Rattle.fib_resolve.specs.declared.types.PathKind.{PathKind}
 use Rattle.fib_resolve.specs.declared.types.PathKind.TheVariants as kinds
-use Rattle.fib_entries.specs.Known.{PathKept, content_of}
+use Rattle.fib_entries_rows.specs.Known.{PathKept, content_of}
 use Rattle.fib_entries.specs.inner.Near.{near_list}
-use Rattle.fib_entries.specs.Rows.{Row}
+use Rattle.fib_entries_rows.specs.Rows.{Row}
 
 -- the pairs of a next hop's host with that list: the one that routes make, and before it that of the neighbor, where it is one
 abbrev pub hop_pairs : Bool → ℕ → List (FibSource × ℕ)

@@ -7,9 +7,9 @@ use Rattle.fib_resolve.specs.declared.types.FibSource.{FibSource}
 use Rattle.fib_resolve.specs.declared.types.FibSource.TheVariants as sources
 use Rattle.fib_resolve.specs.declared.types.Path.{Path}
 use Rattle.fib_resolve.specs.declared.types.PathKind.TheVariants as kinds
-use Rattle.fib_entries.specs.Known.{PathKept, content_of, prefix_of}
-use Rattle.fib_entries.specs.inner.Plies.{IsGap}
-use Rattle.fib_entries.specs.Rows.{Row}
+use Rattle.fib_entries_rows.specs.Known.{PathKept, content_of, prefix_of}
+use Rattle.fib_entries_rows.specs.inner.Plies.{IsGap}
+use Rattle.fib_entries_rows.specs.Rows.{Row}
 
 -- the list of a neighbor's host: one path to it
 abbrev pub near_list : ℕ → ℕ → List Path

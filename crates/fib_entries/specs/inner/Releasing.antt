@@ -5,17 +5,17 @@ use Rattle.std.specs.Set.{is_member}
 use Rattle.fib_reach.specs.Walks.{AllDiffer}
 use Rattle.fib_addr.specs.Prefixes.{Prefix, same_prefix}
 use Rattle.fib_cover.specs.Covers.{IsLongestMatch}
-use Rattle.fib_interned.specs.Interned.{AreInterned, Gives}
+use Rattle.fib_base_interned.specs.Interned.{AreInterned, Gives}
 use Rattle.fib_resolve.specs.Keys.{source_rank}
 use Rattle.fib_resolve.specs.declared.aims.Aim.{Aim}
 use Rattle.fib_resolve.specs.declared.aims.Aim.TheVariants as aims
 use Rattle.fib_resolve.specs.declared.types.FibSource.{FibSource}
-use Rattle.fib_entries.specs.Known.{Known, PathKept, prefix_of, rank_of}
+use Rattle.fib_entries_rows.specs.Known.{Known, PathKept, prefix_of, rank_of}
 use Rattle.fib_entries.specs.inner.Adopting.{aimed_in, with_dependants}
-use Rattle.fib_entries.specs.inner.Hosting.{IsLoose}
-use Rattle.fib_entries.specs.inner.Plies.{entry_at, entry_before, own_size}
+use Rattle.fib_entries_rows.specs.inner.Hosting.{IsLoose}
+use Rattle.fib_entries_rows.specs.inner.Plies.{entry_at, entry_before, own_size}
 use Rattle.fib_entries.specs.declared.releasing.Between.{Between}
-use Rattle.fib_entries.specs.Rows.{Row}
+use Rattle.fib_entries_rows.specs.Rows.{Row}
 
 -- packets of the path end there
 abbrev pub is_ending : Aim → Bool

@@ -2,7 +2,7 @@
 use Rattle.std.specs.Prelude.{◌≡◌, ℕ, List, Some, Vec}
 use Rattle.std.specs.Global.{Global}
 use Rattle.fib_resolve.specs.declared.types.Path.{Path}
-use Rattle.fib_interned.specs.Interned.{Kept, kept_of}
+use Rattle.fib_base_interned.specs.Interned.{Kept, kept_of}
 
 abbrev pub listed : Kept (Vec Path Global) → Kept (List Path)
 listed k = record { id = k.id; content = k.content.items; users = k.users }

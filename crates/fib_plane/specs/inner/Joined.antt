@@ -1,6 +1,6 @@
 -- A board, its union, its pool and the adjacency records, at the calls and in their midst.
 use Rattle.std.specs.Prelude.{◌≡◌, ◌≢◌, ℕ, ◌+◌, ◌*◌, ◌<◌, ◌≤◌, List, [], Option, Some, None, Contains, length, slice_index}
-use Rattle.fib_interned.specs.Interned.{Kept}
+use Rattle.fib_base_interned.specs.Interned.{Kept}
 use Rattle.fib_reach.specs.Walks.{IsAcyclic}
 use Rattle.fib_union.specs.Unions as edges
 use Rattle.fib_union.specs.Unions.{owner, Edge, into, times}
@@ -8,8 +8,8 @@ use Rattle.fib_core.specs.declared.word.Word.TheVariants as words
 use Rattle.fib_pool.specs.declared.object.Object.{Object}
 use Rattle.fib_pool.specs.declared.object.AdjacencyRecord.{AdjacencyRecord}
 use Rattle.fib_pool.specs.Objects.{at, count_of, IsLive, IsDying}
-use Rattle.fib_board.specs.Boards.{Board, union_of, word_in}
-use Rattle.fib_board.specs.May.{Allows, Serves}
+use Rattle.fib_core_board.specs.Boards.{Board, union_of, word_in}
+use Rattle.fib_core_board.specs.May.{Allows, Serves}
 use Rattle.fib_plane.specs.Planes.{IsHeld}
 use Rattle.fib_plane.specs.Sound.{IsCounted, AreRecords}
 

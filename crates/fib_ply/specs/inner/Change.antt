@@ -2,22 +2,14 @@
 use Rattle.std.specs.Prelude.{◌≡◌, ℕ, zero, suc, ◌+◌, ◌*◌, ◌-◌, ◌/◌, ◌%◌, ◌^◌, ◌<◌, ◌≤◌, ◌⊎◌, Bool, true, false, cond, List, [], ◌∷◌, length, Some, None, ◌==◌, ◌&&◌, ◌||◌, not, nat_lt, if◌then◌else◌}
 use Rattle.fib_core.specs.declared.word.Word.{Word}
 use Rattle.fib_core.specs.declared.word.Word.TheVariants.{Drop, ToPly, ToBalance, Plain, Receive, Glean, ToAdjacency}
-use Rattle.fib_reach.specs.Walks.{Leads, AllDiffer}
-use Rattle.fib_steady.specs.Names.{IsBelow}
-use Rattle.fib_joined.specs.Promise.{Promise}
-use Rattle.fib_joined.specs.View.{View, Goes, Kinds, Edge, IsBalance, leads}
+use Rattle.fib_reach.specs.Walks.{Leads}
+use Rattle.fib_core_steady.specs.Names.{IsBelow}
+use Rattle.fib_plane_view.specs.Promise.{Promise}
+use Rattle.fib_plane_view.specs.View.{View, Goes, Edge, leads}
 use Rattle.fib_ply.specs.Prefixes.{Look, IsAnswer, Needs}
 use Rattle.fib_ply.specs.inner.View.{IsSent}
-use Rattle.fib_ply.specs.inner.Served.{Paths, IsServed, Watch, Wanted, IsKept}
-use Rattle.fib_ply.specs.inner.Trie.{Fits}
-
--- addresses below pos are answered as after the change, the others as before it
-abbrev pub Mixed : Look → Look → ℕ → ℕ → ℕ → Type 0
-Mixed old new pos a o = (a < pos → IsAnswer new a o) × (pos ≤ a → IsAnswer old a o)
-
--- this ply is there
-abbrev pub Has : (ℕ → ℕ → Bool) → ℕ → ℕ → Type 0
-Has there d w = there d w ≡ true
+use Rattle.fib_ply.specs.Served.{Paths, IsServed, Watch, Wanted}
+use Rattle.fib_ply.specs.Plies.{IsAt, IsMine, IsTable}
 
 -- one ply more
 abbrev pub plus : (ℕ → ℕ → Bool) → ℕ → ℕ → ℕ → ℕ → Bool
@@ -36,38 +28,6 @@ IsCalm u x (Plain v) = Unit {0}
 IsCalm u x Receive = Unit {0}
 IsCalm u x (Glean v) = Unit {0}
 IsCalm u x (ToAdjacency v) = Leads (Edge u) v x → ⊥
-
--- every prefix's object is a balance, which drops all before the first change; 0.0.0.0/0 is there
-pub record IsSound (wants : Watch) (look : Look) (u : View) : Type 0 where
-  pub balance : (l c o : ℕ) → look l c ≡ Some o → IsBalance u o
-  pub whole : (o : ℕ) × (look 0 0 ≡ Some o)
-  pub still : wants.promise.applied ≡ 0 → (l c o t : ℕ) → look l c ≡ Some o → t < 16 → u.cell o t ≡ Drop
-
-abbrev pub IsOne : List ℕ → ℕ → Type 0
-IsOne [] x = ⊥
-IsOne (y ∷ ys) x = (y ≡ x) ⊎ IsOne ys x
-
--- the list has each ply of the table, once
-pub record IsListed (n : Paths) : Type 0 where
-  pub each : (x : ℕ) → n.is_in x ≡ true → IsOne n.all x
-  pub only : (x : ℕ) → IsOne n.all x → n.is_in x ≡ true
-  pub apart : AllDiffer n.all
-
--- each ply that is held is in the table, below the root
-abbrev pub IsMine : Paths → View → Type 0
-IsMine n u = (x : ℕ) → u.is_ply x ≡ true → u.is_held x ≡ true → (n.is_in x ≡ true) × (0 < n.depth x)
-
--- the change from old to new has come to pos
-pub record IsAt (wants : Watch) (there : ℕ → ℕ → Bool) (old new : Look) (pos : ℕ) (n : Paths) (u : View) : Type 0 where
-  pub fits : Fits (Mixed old new pos) (Has there) n u
-  pub wider : (d w : ℕ) → Needs new (d + 1) w → there (d + 1) w ≡ true
-  pub served : IsServed (Wanted wants) n u
-  pub kinds : Kinds u
-  pub promised : (a p : ℕ) → a < 2 ^ 32 → Wanted wants a p → IsAnswer old a p × IsAnswer new a p
-  pub was : IsSound wants old u
-  pub sound : IsSound wants new u
-  pub kept : IsKept wants u
-  pub list : IsListed n
 
 -- how many cells of these plies pass a test
 unfoldable pub slots : (ℕ → Bool) → ℕ → ℕ
@@ -128,7 +88,8 @@ CanFill p u c o =
 abbrev pub Aside : View → View → ℕ → ℕ → Type 0
 Aside u v c o =
     (wants : Watch) (there : ℕ → ℕ → Bool) (old new : Look) (pos : ℕ) (n : Paths)
-    → IsAt wants there old new pos n u → IsFresh n u c → (wants.promise.applied ≡ 0 → (t : ℕ) → t < 16 → u.cell o t ≡ Drop) → IsAt wants there old new pos n v × IsFresh n v c × SameIn n u v
+    → IsAt wants there old new pos n u → IsFresh n u c → (wants.promise.applied ≡ 0 → (t : ℕ) → t < 16 → u.cell o t ≡ Drop)
+    → IsAt wants there old new pos n v × IsFresh n v c × SameIn n u v
 
 -- the ply on the path of an address
 abbrev pub IsOnPath : Paths → ℕ → ℕ → ℕ → Type 0
@@ -180,10 +141,12 @@ WereBare u a depth count =
 
 -- a change is under way
 abbrev pub IsUnderWay : Promise → View → Type 0
-IsUnderWay p u = (wants : Watch) × (there : ℕ → ℕ → Bool) × (old : Look) × (new : Look) × (pos : ℕ) × (n : Paths) × IsAt wants there old new pos n u × (wants.promise ≡ p)
+IsUnderWay p u = (wants : Watch) × (there : ℕ → ℕ → Bool) × (old : Look) × (new : Look) × (pos : ℕ) × (n : Paths)
+    × IsAt wants there old new pos n u × (wants.promise ≡ p)
 
 abbrev pub IsUnderWayAt : Promise → View → ℕ → ℕ → ℕ → ℕ → Type 0
-IsUnderWayAt p u a ply depth slot = (wants : Watch) × (there : ℕ → ℕ → Bool) × (old : Look) × (new : Look) × (pos : ℕ) × (n : Paths) × IsAt wants there old new pos n u × IsCellOf n u a ply depth slot × (wants.promise ≡ p)
+IsUnderWayAt p u a ply depth slot = (wants : Watch) × (there : ℕ → ℕ → Bool) × (old : Look) × (new : Look) × (pos : ℕ) × (n : Paths)
+    × IsAt wants there old new pos n u × IsCellOf n u a ply depth slot × (wants.promise ≡ p)
 
 -- the set with one prefix more, and with one less
 abbrev pub added : Look → ℕ → ℕ → ℕ → Look
@@ -199,14 +162,6 @@ IsPromised wants old new = (a p : ℕ) → a < 2 ^ 32 → Wanted wants a p → I
 -- two sets differ at one prefix at most
 abbrev pub Agree : Look → Look → ℕ → ℕ → Type 0
 Agree old new len top = (l c : ℕ) → (l ≡ len → c ≡ top → ⊥) → new l c ≡ old l c
-
--- the table stands for this set of prefixes
-pub record IsTable (wants : Watch) (look : Look) (there : ℕ → ℕ → Bool) (n : Paths) (u : View) : Type 0 where
-  pub at : IsAt wants there look look 0 n u
-  pub exact : (e w : ℕ) → there (e + 1) w ≡ true → Needs look (e + 1) w
-
-abbrev pub StandsFor : Watch → Look → View → Type 0
-StandsFor wants look u = (there : ℕ → ℕ → Bool) × (n : Paths) × IsTable wants look there n u
 
 -- one ply less
 abbrev pub minus : (ℕ → ℕ → Bool) → ℕ → ℕ → ℕ → ℕ → Bool

@@ -1,7 +1,7 @@
 -- What the prefix table's calls of a plane do, as far as it looks.
 use Rattle.std.specs.Prelude.{◌≡◌, ◌≢◌, ℕ, ◌+◌, ◌≤◌, ◌⊎◌, true}
 use Rattle.fib_core.specs.declared.word.Word.{Word}
-use Rattle.fib_joined.specs.View.{View, Goes, HasIn, IsLive, SameRecords, Stores, leads}
+use Rattle.fib_plane_view.specs.View.{View, Goes, HasIn, IsLive, SameRecords, Stores, leads}
 
 -- a store that closes no cycle
 pub record IsSent (u v : View) (x s : ℕ) (w : Word) : Type 0 where

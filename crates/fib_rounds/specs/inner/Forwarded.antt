@@ -1,13 +1,13 @@
 -- A round whose lines were run and whose workers are home.
 use Rattle.std.specs.Prelude.{ℕ, ◌≡◌, ◌<◌, ◌≤◌, ◌+◌, ◌-◌, ◌*◌, ◌^◌, List, Option, length, drop, slice_index}
 use Rattle.fib_capture.specs.declared.packet.Packet.{Packet}
-use Rattle.fib_lawful.specs.State.{left_of}
+use Rattle.fib_core_lawful.specs.State.{left_of}
 use Rattle.fib_control.specs.Controls.{Control}
-use Rattle.fib_crew.specs.Frames.{frames}
-use Rattle.fib_crew.specs.Packets.{span}
-use Rattle.fib_crew.specs.Results.{Kept}
-use Rattle.fib_homing.specs.Homes.{IsHome, NoneOut}
-use Rattle.fib_turns.specs.Routers.{Progress, applied_in, router_of}
+use Rattle.fib_worker_crew.specs.Frames.{frames}
+use Rattle.fib_worker_crew.specs.Packets.{span}
+use Rattle.fib_worker_crew.specs.Results.{Kept}
+use Rattle.fib_rounds_homing.specs.Homes.{IsHome, NoneOut}
+use Rattle.fib_rounds_turns.specs.Routers.{Progress, applied_in, router_of}
 use Rattle.fib_rounds.specs.declared.lines.Stop.{Stop}
 use Rattle.fib_rounds.specs.declared.opening.Opening.{Opening}
 use Rattle.fib_rounds.specs.Stages.{IsHistory}

@@ -1,7 +1,7 @@
 -- Puts in place of Drop: edges only come.
 use Rattle.std.specs.Prelude.{◌≡◌, ℕ, ◌+◌, ◌≤◌}
 use Rattle.fib_reach.specs.Walks.{Leads}
-use Rattle.fib_joined.specs.View.{View, Edge, IsLive, SameRecords}
+use Rattle.fib_plane_view.specs.View.{View, Edge, IsLive, SameRecords}
 
 -- what is live keeps the walks that begin at it, and what the control plane holds stays
 pub record Grew (u v : View) : Type 0 where

@@ -3,7 +3,7 @@ use Rattle.std.specs.Prelude.{◌≡◌, ℕ}
 use Rattle.fib_core.specs.declared.word.Word.{Word}
 use Rattle.fib_core.specs.Words.{IsRoomy}
 use Rattle.fib_core.specs.Trails.{IsSoundTrail}
-use Rattle.fib_board.specs.Crews.{Seated}
+use Rattle.fib_core_board.specs.Crews.{Seated}
 use Rattle.fib_cells.specs.Seats.{seat_loaded}
 use Rattle.fib_trace.specs.Traces.{Trace, coded}
 

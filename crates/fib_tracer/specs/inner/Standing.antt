@@ -1,11 +1,11 @@
 -- The worker that traces, before it begins and once it is done.
 use Rattle.std.specs.Prelude.{◌≡◌, ℕ, ◌<◌, ◌≤◌, ◌-◌, ◌^◌, [], List, Option, Some, None, true, length, slice_index}
 use Rattle.fib_capture.specs.declared.packet.Packet.{Packet}
-use Rattle.fib_lawful.specs.State.{left_of}
-use Rattle.fib_board.specs.Crews.{Seated}
+use Rattle.fib_core_lawful.specs.State.{left_of}
+use Rattle.fib_core_board.specs.Crews.{Seated}
 use Rattle.fib_control.specs.Controls.{Control}
-use Rattle.fib_homing.specs.Homes.{NoneOut}
-use Rattle.fib_turns.specs.Routers.{applied_in}
+use Rattle.fib_rounds_homing.specs.Homes.{NoneOut}
+use Rattle.fib_rounds_turns.specs.Routers.{applied_in}
 use Rattle.fib_tracer.specs.declared.beside.Tracer.{Tracer}
 use Rattle.fib_tracer.specs.declared.log.Log.{Log}
 use Rattle.fib_tracer.specs.inner.Tracing.{HasTracedAll, IsSameSeat}

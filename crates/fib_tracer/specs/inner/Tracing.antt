@@ -1,12 +1,12 @@
 -- What tracing packets makes of a seat and of what is kept.
 use Rattle.std.specs.Prelude.{◌≡◌, ℕ, ◌≤◌, ◌<◌, ◌+◌, ◌^◌, ◌++◌, List, length, map}
-use Rattle.fib_results.specs.declared.record.Version.{Version}
-use Rattle.fib_results.specs.Trails.{AtLeast}
+use Rattle.fib_core_results.specs.declared.record.Version.{Version}
+use Rattle.fib_core_results.specs.Trails.{AtLeast}
 use Rattle.fib_capture.specs.declared.packet.Packet.{Packet}
 use Rattle.fib_core.specs.Trails.{Trail, Follows, result_of}
-use Rattle.fib_lawful.specs.State.{left_of}
-use Rattle.fib_board.specs.Crews.{Seated}
-use Rattle.fib_crew.specs.Packets.{Matched}
+use Rattle.fib_core_lawful.specs.State.{left_of}
+use Rattle.fib_core_board.specs.Crews.{Seated}
+use Rattle.fib_worker_crew.specs.Packets.{Matched}
 use Rattle.fib_trace.specs.Traces.{coded}
 use Rattle.fib_tracer.specs.declared.log.Traced.{Traced}
 

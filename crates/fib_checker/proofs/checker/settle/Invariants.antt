@@ -1,4 +1,4 @@
-use Rattle.fib_entries.specs.Known.{rank_of}
+use Rattle.fib_entries_rows.specs.Known.{rank_of}
 use Rattle.fib_urpf.specs.Kept.{IsFor}
 use Rattle.fib_checker.proofs.checker.settle.Given as goal
 

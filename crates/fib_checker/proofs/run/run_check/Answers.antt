@@ -1,5 +1,5 @@
 use Rattle.std.proofs.Common.{◌++◌, ap, ◌∙◌}
-use Rattle.fib_entries.specs.Known.{rank_of}
+use Rattle.fib_entries_rows.specs.Known.{rank_of}
 use Rattle.fib_checker.proofs.Checking.{check_said}
 use Rattle.fib_checker.proofs.run.run_check.Goals as goal
 

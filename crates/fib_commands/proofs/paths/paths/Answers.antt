@@ -1,6 +1,6 @@
 use Rattle.std.proofs.Common.{arith, sym, ◌∙◌, ap, ◌≡◌, ◌-◌, ℕ}
 use Rattle.std.proofs.lemmas.Result.{err_from_is_err_and}
-use Rattle.fib_list.proofs.Lists.{each-append}
+use Rattle.fib_base_list.proofs.Lists.{each-append}
 use Rattle.fib_resolve.specs.Reachable.{IsWrittenPath}
 use Rattle.fib_commands.specs.Paths.{paths_of}
 use Rattle.fib_commands.proofs.PathLemmas.{with_front, paths_end, paths_over, paths_step, lacks_all}

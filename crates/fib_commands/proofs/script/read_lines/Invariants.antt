@@ -1,5 +1,5 @@
 use Rattle.std.proofs.Common.{◌≡◌, ◌≤◌, ◌++◌, length}
-use Rattle.fib_lines.specs.Lines.{lines_of}
+use Rattle.fib_base_lines.specs.Lines.{lines_of}
 use Rattle.fib_commands.proofs.script.read_lines.Given as goal
 
 abbrev pub decreases-lines : goal.decreases-lines

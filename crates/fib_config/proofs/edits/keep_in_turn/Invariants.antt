@@ -1,7 +1,7 @@
 use Rattle.std.proofs.Common.{◌≡◌, drop}
 use Rattle.fib_resolve.specs.Tables.{IsSound}
 use Rattle.fib_resolve.specs.Refusals.{edited_from, edited_in_turn}
-use Rattle.fib_changes.specs.Differ.{Differ}
+use Rattle.fib_resolve_changes.specs.Differ.{Differ}
 use Rattle.fib_config.specs.Undone.{undone_all}
 use Rattle.fib_config.specs.inner.Digest.{IsDigest}
 use Rattle.fib_config.proofs.edits.keep_in_turn.Given as goal

@@ -1,7 +1,7 @@
 use Rattle.std.proofs.Common.{ℕ, List, ap, ◌∙◌, subst, sym}
 use Rattle.fib_resolve.specs.Refusals.{edited_in_turn}
-use Rattle.fib_changes.specs.Differ.{Differ}
-use Rattle.fib_changes.specs.declared.change.Change.{Change}
+use Rattle.fib_resolve_changes.specs.Differ.{Differ}
+use Rattle.fib_resolve_changes.specs.declared.change.Change.{Change}
 use Rattle.fib_config.specs.Config.{TellsFirstRefused}
 use Rattle.fib_control.proofs.Telling.{turns_fit, wants_more}
 use Rattle.fib_control.proofs.batches.change_all.Goals as goal

@@ -1,21 +1,20 @@
 use Rattle.std.proofs.Common.{ap, ◌∙◌, ◌+◌, ◌≡◌, ◌≤◌, List, arith}
-use Rattle.fib_joined.specs.View.{View}
+use Rattle.fib_plane_view.specs.View.{View}
 use Rattle.fib_ply.specs.Rows.{held}
 use Rattle.fib_ply.specs.declared.rows.Row.{Row}
-use Rattle.fib_serving.specs.Matches.{added}
-use Rattle.fib_quiet.proofs.Early.{tried_taken}
+use Rattle.fib_core_promise.specs.Matches.{added}
+use Rattle.fib_control_quiet.proofs.Early.{tried_taken}
 use Rattle.fib_control.proofs.Started.{same_free, started_more, went}
 use Rattle.fib_control.proofs.beginning.add_new.Goals as goal
 
 pub balance-object-requires : goal.balance-object-requires
 balance-object-requires g c = let r = c.requires.started.1.roomy in let s = c.requires.started.3 in omega (arith, r, s)
 
-pub room_for_one-requires-clause-tried : goal.room_for_one-requires-clause-tried
-room_for_one-requires-clause-tried g c = tried_taken (g.P.Objects.promise c.args.on.now) c.args.table.now (g.P.Objects.view c.args.on.now) c.requires.started.1.tried (g.P.Objects.promise c.balance-object.new.on) (g.P.Objects.view c.balance-object.new.on) c.balance-object.result
-    (g.met.P.Objects.sound c.balance-object.new.on) c.balance-object.ensures.promise c.balance-object.ensures.taken
-
-pub room_for_one-requires-clause-few : goal.room_for_one-requires-clause-few
-room_for_one-requires-clause-few g c = let f = c.requires.started.1.few in let s = c.requires.started.3 in omega (arith, f, s)
+pub room_for_one-requires : goal.room_for_one-requires
+room_for_one-requires g c = record {
+  tried = tried_taken (g.P.Objects.promise c.args.on.now) c.args.table.now (g.P.Objects.view c.args.on.now) c.requires.started.1.tried (g.P.Objects.promise c.balance-object.new.on) (g.P.Objects.view c.balance-object.new.on) c.balance-object.result
+      (g.met.P.Objects.sound c.balance-object.new.on) c.balance-object.ensures.promise c.balance-object.ensures.taken;
+}
 
 pub add-requires-clause-free : goal.add-requires-clause-free
 add-requires-clause-free g c =

@@ -1,5 +1,5 @@
 use Rattle.std.proofs.Common.{arith, refl, ◌∙◌}
-use Rattle.fib_quiet.proofs.Early.{bare_empty, blank_of, dropping_taken, empty_taken}
+use Rattle.fib_control_quiet.proofs.Early.{bare_empty, blank_of, dropping_taken, empty_taken}
 use Rattle.fib_control.proofs.Started.{started_first, went}
 use Rattle.fib_control.proofs.beginning.begin.Goals as goal
 

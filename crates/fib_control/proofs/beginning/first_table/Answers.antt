@@ -1,7 +1,7 @@
 use Rattle.std.proofs.Common.{◌∷◌, ◌∙◌, ◌<◌, ap, map, take, length, List, arith, refl, subst, sym}
 use Rattle.fib_addr.specs.Longest.{everything}
 use Rattle.fib_addr.specs.Prefixes.{Prefix}
-use Rattle.fib_entries.specs.Known.{prefix_of}
+use Rattle.fib_entries_rows.specs.Known.{prefix_of}
 use Rattle.fib_control.specs.inner.Starting.{IsStarted}
 use Rattle.fib_control.proofs.Few.{few_named}
 use Rattle.fib_control.proofs.Started.{take_next}

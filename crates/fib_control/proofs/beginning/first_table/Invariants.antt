@@ -1,6 +1,6 @@
 use Rattle.std.proofs.Common.{◌≡◌, ◌∷◌, map, take}
 use Rattle.fib_addr.specs.Longest.{everything}
-use Rattle.fib_entries.specs.Known.{prefix_of}
+use Rattle.fib_entries_rows.specs.Known.{prefix_of}
 use Rattle.fib_control.specs.inner.Starting.{IsStarted}
 use Rattle.fib_control.proofs.beginning.first_table.Given as goal
 

@@ -1,12 +1,12 @@
 use Rattle.std.proofs.Common.{ap, ◌≡◌, ◌∙◌, ◌||◌, ◌≤◌, ℕ, None, arith, min, subst, sym, List}
 use Rattle.fib_resolve.specs.Refusals.{refused}
 use Rattle.fib_resolve.specs.Sizes.{size}
-use Rattle.fib_serving.specs.Stack.{is_some}
-use Rattle.fib_queue.specs.Queues.{rank_in}
-use Rattle.fib_queue.specs.declared.order.Queued.{Queued}
-use Rattle.fib_woken.specs.Waking.{is_among}
-use Rattle.fib_woken.proofs.Woken.{among_touched}
-use Rattle.fib_following.specs.Following.{TellsChange}
+use Rattle.fib_core_promise.specs.Stack.{is_some}
+use Rattle.fib_stack_queue.specs.Queues.{rank_in}
+use Rattle.fib_stack_queue.specs.declared.order.Queued.{Queued}
+use Rattle.fib_stack_waking.specs.Waking.{is_among}
+use Rattle.fib_stack_waking.proofs.Woken.{among_touched}
+use Rattle.fib_entries_following.specs.Following.{TellsChange}
 use Rattle.fib_control.proofs.Few.{moved_few, touched_few}
 use Rattle.fib_control.proofs.Telling.{accepted}
 use Rattle.fib_control.proofs.following.change.Goals as goal

@@ -1,10 +1,10 @@
 use Rattle.std.proofs.Common.{ap, ◌∙◌, ◌||◌, arith, subst, sym, List}
-use Rattle.fib_serving.specs.Stack.{is_some}
-use Rattle.fib_queue.specs.Queues.{rank_in}
-use Rattle.fib_queue.specs.declared.order.Queued.{Queued}
-use Rattle.fib_woken.specs.Waking.{is_among}
+use Rattle.fib_core_promise.specs.Stack.{is_some}
+use Rattle.fib_stack_queue.specs.Queues.{rank_in}
+use Rattle.fib_stack_queue.specs.declared.order.Queued.{Queued}
+use Rattle.fib_stack_waking.specs.Waking.{is_among}
 use Rattle.fib_control.proofs.Few.{moved_few, touched_few}
-use Rattle.fib_woken.proofs.Woken.{among_touched}
+use Rattle.fib_stack_waking.proofs.Woken.{among_touched}
 use Rattle.fib_control.proofs.following.follow_all.Goals as goal
 
 pub queue_all-requires : goal.queue_all-requires

@@ -1,8 +1,8 @@
 use Rattle.std.proofs.Common.{⊎_elim, ◌≡◌, ℕ, Some, List, subst, sym}
-use Rattle.fib_queue.specs.Queues.{rank_in}
-use Rattle.fib_entries.specs.Known.{rank_of}
-use Rattle.fib_entries.specs.Changes.{AreMoved}
-use Rattle.fib_entries.specs.declared.changes.Moved.{Moved}
+use Rattle.fib_stack_queue.specs.Queues.{rank_in}
+use Rattle.fib_entries_rows.specs.Known.{rank_of}
+use Rattle.fib_entries_rows.specs.Changes.{AreMoved}
+use Rattle.fib_entries_rows.specs.declared.changes.Moved.{Moved}
 use Rattle.fib_control.proofs.Queued.{ranked_anew}
 use Rattle.fib_control.proofs.queueing.queue_all.Goals as goal
 

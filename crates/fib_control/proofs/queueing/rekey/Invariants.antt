@@ -1,9 +1,9 @@
 use Rattle.std.proofs.Common.{◌≡◌, ◌≤◌, ◌+◌, ℕ, false, length, take}
 use Rattle.std.specs.Prelude.{Some, ◌⊎◌}
 use Rattle.fib_addr.specs.Prefixes.{Prefix}
-use Rattle.fib_entries.specs.Known.{rank_of}
-use Rattle.fib_queue.specs.Queues.{rank_in}
-use Rattle.fib_serving.specs.Stack.{is_some}
+use Rattle.fib_entries_rows.specs.Known.{rank_of}
+use Rattle.fib_stack_queue.specs.Queues.{rank_in}
+use Rattle.fib_core_promise.specs.Stack.{is_some}
 use Rattle.fib_control.specs.Controls.{is_moved}
 use Rattle.fib_control.proofs.queueing.rekey.Given as goal
 

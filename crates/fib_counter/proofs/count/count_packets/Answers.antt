@@ -2,13 +2,13 @@ use Rattle.std.proofs.Common.{◌≡◌, ◌≤◌, ◌+◌, ◌++◌, [], arith
 use Rattle.std.specs.Prelude.{All, map, Some, slice_get}
 use Rattle.std.specs.List.{AllByRecursion}
 use Rattle.std.proofs.lemmas.List.{length-map}
-use Rattle.fib_lawful.specs.Claims.{times}
-use Rattle.fib_board.specs.Boards.{Board}
+use Rattle.fib_core_lawful.specs.Claims.{times}
+use Rattle.fib_core_board.specs.Boards.{Board}
 use Rattle.fib_control.specs.Controls.{tables_in}
-use Rattle.fib_crew.specs.Claims.{IsDrawnOnce}
-use Rattle.fib_crew.specs.Frames.{frames}
-use Rattle.fib_crew.specs.Packets.{span}
-use Rattle.fib_homing.specs.Stations.{AreBack, IsCrew, IsReady, pasts_of}
+use Rattle.fib_worker_crew.specs.Claims.{IsDrawnOnce}
+use Rattle.fib_worker_crew.specs.Frames.{frames}
+use Rattle.fib_worker_crew.specs.Packets.{span}
+use Rattle.fib_rounds_homing.specs.Stations.{AreBack, IsCrew, IsReady, pasts_of}
 use Rattle.fib_rounds.proofs.Forwarding.{count_is, written_back}
 use Rattle.fib_counter.specs.CountOutput.{class_count}
 use Rattle.fib_counter.specs.inner.Posts.{HasCounted, IsFreshPost, IsReadyPost, counted_by, station_of}

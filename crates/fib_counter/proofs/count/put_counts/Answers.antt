@@ -1,5 +1,5 @@
 use Rattle.std.proofs.Common.{ap, ◌∙◌}
-use Rattle.fib_lawful.specs.Claims.{times}
+use Rattle.fib_core_lawful.specs.Claims.{times}
 use Rattle.fib_config.specs.Config.{Setup}
 use Rattle.fib_control.specs.Controls.{tables_in}
 use Rattle.fib_counter.specs.CountOutput.{class_count}

@@ -1,5 +1,5 @@
 use Rattle.std.proofs.Common.{◌≡◌, ◌++◌, drop}
-use Rattle.fib_crew.specs.Results.{results_of}
+use Rattle.fib_worker_crew.specs.Results.{results_of}
 use Rattle.fib_counter.specs.inner.Posts.{words_of}
 use Rattle.fib_counter.proofs.counting.count_results.Given as goal
 

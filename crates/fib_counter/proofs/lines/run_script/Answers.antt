@@ -1,6 +1,6 @@
 use Rattle.std.proofs.Common.{arith, rules, refl, ap, ◌≡◌, ◌+◌, ◌++◌, sym, ◌∙◌}
 use Rattle.std.specs.Prelude.{slice_get, Some, codes}
-use Rattle.fib_turns.specs.Routers.{router_of}
+use Rattle.fib_rounds_turns.specs.Routers.{router_of}
 use Rattle.fib_rounds.proofs.Lining.{history_by}
 use Rattle.fib_rounds.proofs.Turning.{change_turn_steps}
 use Rattle.fib_counter.specs.CountOutput.{count_turn}

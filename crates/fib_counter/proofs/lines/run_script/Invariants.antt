@@ -1,6 +1,6 @@
 use Rattle.std.proofs.Common.{◌≡◌, ◌≤◌, ◌+◌, ◌-◌, ◌++◌, length, drop}
 use Rattle.std.specs.Prelude.{None}
-use Rattle.fib_turns.specs.Routers.{KeepsCrew, applied_in, router_of}
+use Rattle.fib_rounds_turns.specs.Routers.{KeepsCrew, applied_in, router_of}
 use Rattle.fib_rounds.specs.Stages.{IsHistory}
 use Rattle.fib_rounds.specs.Rounds.{stage_of}
 use Rattle.fib_counter.specs.CountOutput.{lines_turn}

@@ -1,5 +1,5 @@
 use Rattle.std.proofs.Common.{arith, refl, ap, ◌∙◌, suc, ◌++◌}
-use Rattle.fib_lawful.specs.Claims.{times}
+use Rattle.fib_core_lawful.specs.Claims.{times}
 use Rattle.fib_counter.specs.CountOutput.{all_totals}
 use Rattle.fib_counter.proofs.Printing.{totals_begin, totals_end, totals_more}
 use Rattle.fib_counter.proofs.totals.put_totals.Goals as goal

@@ -1,5 +1,5 @@
 use Rattle.std.proofs.Common.{◌≡◌, ◌+◌, ◌++◌, ℕ}
-use Rattle.fib_lawful.specs.Claims.{times}
+use Rattle.fib_core_lawful.specs.Claims.{times}
 use Rattle.fib_counter.specs.CountOutput.{all_totals, totals_text}
 use Rattle.fib_counter.proofs.totals.put_totals.Given as goal
 

@@ -1,8 +1,8 @@
 use Rattle.std.proofs.Common.{◌≡◌, ◌<◌, List, ◌∷◌, Some, length, slice_get, sym, ap, ◌∙◌, subst}
 use Rattle.std.specs.Prelude.{slice_set}
-use Rattle.fib_entries.specs.Rows.{Row}
-use Rattle.fib_entries.specs.inner.Coming.{with_pairs}
-use Rattle.fib_entries.proofs.Linking.{at_inside, set_length}
+use Rattle.fib_entries_rows.specs.Rows.{Row}
+use Rattle.fib_entries_rows.specs.inner.Coming.{with_pairs}
+use Rattle.fib_entries_rows.proofs.Linking.{at_inside, set_length}
 use Rattle.fib_entries.proofs.Overtaking.{come_few, come_gone, come_late, come_ordered, come_over, come_pairs, come_relooped, come_there, come_unseen, over_at, over_back}
 use Rattle.fib_entries.proofs.above.come_above.Goals as goal
 

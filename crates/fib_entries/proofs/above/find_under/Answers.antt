@@ -1,10 +1,10 @@
 use Rattle.std.proofs.Common.{List, refl, sym, ◌∙◌, subst, ℕ}
 use Rattle.std.specs.Prelude.{Contains}
 use Rattle.std.proofs.lemmas.Option.{slice_get_read}
-use Rattle.fib_changes.proofs.Edits.{in_front}
-use Rattle.fib_interned.proofs.Finding.{contains_at}
+use Rattle.fib_resolve_changes.proofs.Edits.{in_front}
+use Rattle.fib_base_interned.proofs.Finding.{contains_at}
 use Rattle.fib_resolve.specs.declared.types.FibSource.{FibSource}
-use Rattle.fib_entries.proofs.Standing.{row_there}
+use Rattle.fib_entries_rows.proofs.Standing.{row_there}
 use Rattle.fib_entries.proofs.above.find_under.Goals as goal
 
 pub is_shared-requires : goal.is_shared-requires

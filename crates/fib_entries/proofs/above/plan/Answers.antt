@@ -1,13 +1,13 @@
 use Rattle.std.proofs.Common.{◌≡◌, List, Option, sym, ◌∙◌, subst}
 use Rattle.std.specs.Prelude.{IfSome}
-use Rattle.fib_interned.proofs.Finding.{none_some}
+use Rattle.fib_base_interned.proofs.Finding.{none_some}
 use Rattle.fib_resolve.specs.Edits.{paths_at, with_routes}
 use Rattle.fib_resolve.specs.declared.types.Path.{Path}
 use Rattle.fib_resolve.specs.declared.types.Route.{Route}
-use Rattle.fib_entries.specs.inner.Course.{IsCourse}
-use Rattle.fib_entries.specs.inner.Led.{IsReaching}
-use Rattle.fib_entries.specs.declared.reaching.Course.{Course}
-use Rattle.fib_entries.specs.declared.reaching.Spot.{Spot}
+use Rattle.fib_entries_rows.specs.inner.Course.{IsCourse}
+use Rattle.fib_entries_rows.specs.inner.Led.{IsReaching}
+use Rattle.fib_entries_rows.specs.declared.reaching.Course.{Course}
+use Rattle.fib_entries_rows.specs.declared.reaching.Spot.{Spot}
 use Rattle.fib_entries.proofs.Overtaking.{planned_by}
 use Rattle.fib_entries.proofs.above.plan.Goals as goal
 

@@ -1,13 +1,13 @@
 use Rattle.std.proofs.Common.{◌≡◌, ◌<◌, ℕ, Some, slice_get, List, ◌∷◌, length, map, sym, ap, ◌∙◌, subst}
 use Rattle.std.specs.Prelude.{Contains, slice_set}
 use Rattle.fib_cover.specs.Covers.{IsAscending}
-use Rattle.fib_entries.specs.Known.{prefix_of, rank_of}
-use Rattle.fib_entries.specs.Rows.{Row}
+use Rattle.fib_entries_rows.specs.Known.{prefix_of, rank_of}
+use Rattle.fib_entries_rows.specs.Rows.{Row}
 use Rattle.fib_entries.specs.inner.Above.{IsPlanned, doubled}
-use Rattle.fib_entries.specs.inner.Building.{AreHeld}
-use Rattle.fib_entries.specs.inner.Coming.{with_pairs}
-use Rattle.fib_entries.specs.inner.Fields.{AreAmong, has_several}
-use Rattle.fib_entries.proofs.Linking.{at_inside, set_length}
+use Rattle.fib_entries_rows.specs.inner.Building.{AreHeld}
+use Rattle.fib_entries_rows.specs.inner.Coming.{with_pairs}
+use Rattle.fib_entries_rows.specs.inner.Fields.{AreAmong, has_several}
+use Rattle.fib_entries_rows.proofs.Linking.{at_inside, set_length}
 use Rattle.fib_entries.proofs.Overtaking.{over_at, over_back, over_held, over_named_there, over_ordered, over_rank, over_several}
 use Rattle.fib_entries.proofs.above.plan_above.Goals as goal
 

@@ -2,15 +2,15 @@ use Rattle.std.proofs.Common.{◌≡◌, ◌<◌, List, Option, length, map, sym
 use Rattle.std.specs.Prelude.{Contains, IfNone, IfSome}
 use Rattle.fib_cover.specs.Covers.{IsAscending}
 use Rattle.fib_addr.specs.Prefixes.{Prefix}
-use Rattle.fib_entries.specs.Known.{prefix_of, rank_of}
-use Rattle.fib_entries.specs.Rows.{Row}
-use Rattle.fib_entries.specs.declared.changes.Followed.{Followed}
+use Rattle.fib_entries_rows.specs.Known.{prefix_of, rank_of}
+use Rattle.fib_entries_rows.specs.Rows.{Row}
+use Rattle.fib_entries_rows.specs.declared.changes.Followed.{Followed}
 use Rattle.fib_entries.specs.inner.Adopting.{IsTurnedOver, drop_list, opened}
-use Rattle.fib_entries.specs.inner.Building.{AreHeld}
-use Rattle.fib_entries.specs.inner.Fields.{AreAmong, has_several}
-use Rattle.fib_interned.specs.Interned.{kept_of}
+use Rattle.fib_entries_rows.specs.inner.Building.{AreHeld}
+use Rattle.fib_entries_rows.specs.inner.Fields.{AreAmong, has_several}
+use Rattle.fib_base_interned.specs.Interned.{kept_of}
 use Rattle.fib_entries.proofs.Adopted.{opened_held, opened_several}
-use Rattle.fib_entries.proofs.Naming.{some_content}
+use Rattle.fib_entries_rows.proofs.Naming.{some_content}
 use Rattle.fib_entries.proofs.Opening.{inside_opened, named_opened, ordered_opened, own_opened, zero_opened}
 use Rattle.fib_entries.proofs.adopting.come_between.Goals as goal
 

@@ -1,9 +1,9 @@
 use Rattle.std.proofs.Common.{Some, sym, ◌∙◌, subst}
 use Rattle.fib_addr.specs.Prefixes.{Prefix}
 use Rattle.fib_cover.specs.Covers.{IsLongestMatch}
-use Rattle.fib_entries.specs.Known.{prefix_of}
-use Rattle.fib_entries.proofs.Looking.{at_place}
-use Rattle.fib_entries.proofs.Standing.{row_there}
+use Rattle.fib_entries_rows.specs.Known.{prefix_of}
+use Rattle.fib_entries_rows.proofs.Looking.{at_place}
+use Rattle.fib_entries_rows.proofs.Standing.{row_there}
 use Rattle.fib_entries.proofs.adopting.cover_place.Goals as goal
 
 pub returns-clause-cover : goal.returns-clause-cover

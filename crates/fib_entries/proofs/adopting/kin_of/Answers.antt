@@ -3,8 +3,8 @@ use Rattle.std.specs.Prelude.{Contains}
 use Rattle.std.specs.List.{list_all}
 use Rattle.std.proofs.lemmas.Option.{slice_get_read}
 use Rattle.fib_addr.specs.Prefixes.{Prefix, contains}
-use Rattle.fib_interned.proofs.Finding.{some_is}
-use Rattle.fib_entries.specs.Rows.{Row}
+use Rattle.fib_base_interned.proofs.Finding.{some_is}
+use Rattle.fib_entries_rows.specs.Rows.{Row}
 use Rattle.fib_entries.specs.inner.Adopting.{is_covered}
 use Rattle.fib_entries.proofs.adopting.kin_of.Goals as goal
 

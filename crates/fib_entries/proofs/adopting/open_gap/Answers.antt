@@ -2,13 +2,13 @@ use Rattle.std.proofs.Common.{arith, ◌≡◌, List, Some, length, refl, slice_
 use Rattle.std.specs.Prelude.{map}
 use Rattle.std.proofs.lemmas.List.Edits.{length-insert}
 use Rattle.std.proofs.lemmas.Option.{slice_get_read}
-use Rattle.fib_interned.proofs.Finding.{some_is}
-use Rattle.fib_entries.specs.Known.{prefix_of}
-use Rattle.fib_entries.specs.Rows.{Row}
+use Rattle.fib_base_interned.proofs.Finding.{some_is}
+use Rattle.fib_entries_rows.specs.Known.{prefix_of}
+use Rattle.fib_entries_rows.specs.Rows.{Row}
 use Rattle.fib_entries.specs.inner.Adopting.{aimed_in}
-use Rattle.fib_entries.specs.inner.Plies.{IsGap}
+use Rattle.fib_entries_rows.specs.inner.Plies.{IsGap}
 use Rattle.fib_addr.specs.Prefixes.{Prefix}
-use Rattle.fib_entries.proofs.Looking.{at_place}
+use Rattle.fib_entries_rows.proofs.Looking.{at_place}
 use Rattle.fib_entries.proofs.Opening.{exchanged_ordered, inserted_low, opened_by}
 use Rattle.fib_entries.proofs.adopting.open_gap.Goals as goal
 

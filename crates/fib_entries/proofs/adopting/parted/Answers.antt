@@ -1,6 +1,6 @@
 use Rattle.std.proofs.Common.{arith, ◌≡◌, [], length, refl, sym, subst, inl, inr}
 use Rattle.std.proofs.lemmas.Option.{slice_get_read}
-use Rattle.fib_list.proofs.Lists.{Contains-nil}
+use Rattle.fib_base_list.proofs.Lists.{Contains-nil}
 use Rattle.fib_addr.specs.Prefixes.{contains}
 use Rattle.fib_entries.proofs.Kinship.{PutsFirst, puts_none, puts_step, puts_whole}
 use Rattle.fib_entries.proofs.adopting.parted.Goals as goal

@@ -2,7 +2,7 @@ use Rattle.std.proofs.Common.{◌≡◌, ◌⊎◌, ◌↔◌, List, inl, inr, s
 use Rattle.std.specs.Prelude.{Contains}
 use Rattle.std.proofs.lemmas.Result.{IfOk-weaker}
 use Rattle.fib_addr.specs.Prefixes.{Prefix}
-use Rattle.fib_list.proofs.Lists.{Contains-nil}
+use Rattle.fib_base_list.proofs.Lists.{Contains-nil}
 use Rattle.fib_entries.proofs.adopting.told.Goals as goal
 
 pub returns-clause-members : goal.returns-clause-members

@@ -3,7 +3,7 @@ use Rattle.std.specs.Prelude.{Contains, IfSome}
 use Rattle.fib_addr.specs.Prefixes.{Prefix}
 use Rattle.fib_reach.specs.Walks.{AllDiffer}
 use Rattle.fib_entries.specs.inner.Above.{IsPlanned}
-use Rattle.fib_entries.specs.declared.reaching.Course.{Course}
+use Rattle.fib_entries_rows.specs.declared.reaching.Course.{Course}
 use Rattle.fib_entries.proofs.Turnover.{turn_few, turn_pairs, turn_there, turned_over}
 use Rattle.fib_entries.proofs.adopting.turn_opened.Goals as goal
 

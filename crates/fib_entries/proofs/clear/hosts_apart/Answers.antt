@@ -2,10 +2,10 @@ use Rattle.std.proofs.Common.{arith, List, [], ◌∷◌, take, inl, inr, sym, s
 use Rattle.std.specs.Prelude.{Contains}
 use Rattle.std.proofs.lemmas.List.Elements.{Contains-append_cases}
 use Rattle.fib_addr.specs.Prefixes.{Prefix}
-use Rattle.fib_list.proofs.Lists.{Contains-nil}
-use Rattle.fib_entries.specs.inner.Clear.{IsApart}
-use Rattle.fib_entries.proofs.Anew.{take_more, take_all}
-use Rattle.fib_entries.proofs.Leafing.{only_one}
+use Rattle.fib_base_list.proofs.Lists.{Contains-nil}
+use Rattle.fib_entries_rows.specs.inner.Clear.{IsApart}
+use Rattle.fib_entries_rows.proofs.Anew.{take_more, take_all}
+use Rattle.fib_entries_rows.proofs.Leafing.{only_one}
 use Rattle.fib_entries.proofs.clear.hosts_apart.Goals as goal
 
 pub loop-host-init : goal.loop-host-init

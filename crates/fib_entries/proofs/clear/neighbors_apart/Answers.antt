@@ -1,11 +1,11 @@
 use Rattle.std.proofs.Common.{arith, ◌<◌, ◌^◌, List, [], ◌∷◌, take, inl, inr, sym, subst}
 use Rattle.std.specs.Prelude.{Contains}
 use Rattle.std.proofs.lemmas.List.Elements.{Contains-append_cases}
-use Rattle.fib_list.proofs.Lists.{Contains-nil}
+use Rattle.fib_base_list.proofs.Lists.{Contains-nil}
 use Rattle.fib_resolve.specs.declared.types.Neighbor.{Neighbor}
-use Rattle.fib_entries.specs.inner.Clear.{IsApart}
-use Rattle.fib_entries.proofs.Anew.{take_more, take_all}
-use Rattle.fib_entries.proofs.Leafing.{only_one}
+use Rattle.fib_entries_rows.specs.inner.Clear.{IsApart}
+use Rattle.fib_entries_rows.proofs.Anew.{take_more, take_all}
+use Rattle.fib_entries_rows.proofs.Leafing.{only_one}
 use Rattle.fib_entries.proofs.clear.neighbors_apart.Goals as goal
 
 pub loop-n-init : goal.loop-n-init

@@ -1,7 +1,7 @@
 use Rattle.std.proofs.Common.{◌<◌, ◌^◌, take}
 use Rattle.std.specs.Prelude.{Contains}
 use Rattle.fib_resolve.specs.declared.types.Neighbor.{Neighbor}
-use Rattle.fib_entries.specs.inner.Clear.{IsApart, IsNarrower}
+use Rattle.fib_entries_rows.specs.inner.Clear.{IsApart, IsNarrower}
 use Rattle.fib_entries.proofs.clear.neighbors_apart.Given as goal
 
 abbrev pub invariant-loop-n : goal.invariant-loop-n

@@ -1,8 +1,8 @@
 use Rattle.std.proofs.Common.{map}
-use Rattle.fib_entries.specs.Known.{prefix_of}
-use Rattle.fib_entries.specs.inner.Compare.{is_new, moved_new}
+use Rattle.fib_entries_rows.specs.Known.{prefix_of}
+use Rattle.fib_entries_rows.specs.inner.Compare.{is_new, moved_new}
 use Rattle.fib_entries.proofs.Moving.{more_moved}
-use Rattle.fib_entries.proofs.Touches.{more_after}
+use Rattle.fib_entries_rows.proofs.Touches.{more_after}
 use Rattle.fib_entries.proofs.follow.add_all_new.Goals as goal
 
 pub loop-place-preserved : goal.loop-place-preserved

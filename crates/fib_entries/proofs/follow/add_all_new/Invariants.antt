@@ -1,7 +1,7 @@
 use Rattle.std.proofs.Common.{◌≡◌, ◌++◌, filter, flat_map, map, take}
 use Rattle.fib_resolve.specs.declared.types.Tables.{Tables}
-use Rattle.fib_entries.specs.Known.{StandsFor, prefix_of}
-use Rattle.fib_entries.specs.inner.Compare.{is_new, moved_new}
+use Rattle.fib_entries_rows.specs.Known.{StandsFor, prefix_of}
+use Rattle.fib_entries_rows.specs.inner.Compare.{is_new, moved_new}
 use Rattle.fib_entries.proofs.follow.add_all_new.Given as goal
 
 abbrev pub invariant-loop-place : goal.invariant-loop-place

@@ -2,10 +2,10 @@ use Rattle.std.proofs.Common.{◌≡◌, true, Bool, ◌++◌, ◌∷◌, [], �
 use Rattle.std.specs.Prelude.{is_none}
 use Rattle.fib_loops.proofs.Frames.{on_ok_two}
 use Rattle.fib_resolve.specs.Touched.{is_touched}
-use Rattle.fib_entries.specs.Known.{row_of}
-use Rattle.fib_entries.specs.Rows.{Row}
-use Rattle.fib_entries.specs.inner.Compare.{is_new}
-use Rattle.fib_entries.proofs.Comparing.{not_before}
+use Rattle.fib_entries_rows.specs.Known.{row_of}
+use Rattle.fib_entries_rows.specs.Rows.{Row}
+use Rattle.fib_entries_rows.specs.inner.Compare.{is_new}
+use Rattle.fib_entries_rows.proofs.Comparing.{not_before}
 use Rattle.fib_entries.proofs.follow.add_new.Goals as goal
 
 pub returns-in-None-clause-touched : goal.returns-in-None-clause-touched

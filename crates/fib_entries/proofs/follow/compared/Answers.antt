@@ -1,11 +1,11 @@
 use Rattle.std.proofs.Common.{map, sym, ap, ◌∙◌, subst, List, ◌++◌, filter, flat_map}
 use Rattle.fib_addr.specs.Prefixes.{Prefix}
-use Rattle.fib_entries.specs.Changes.{AreMoved, AreTouched}
-use Rattle.fib_entries.specs.Known.{prefix_of}
-use Rattle.fib_entries.specs.declared.changes.Moved.{Moved}
-use Rattle.fib_entries.specs.inner.Compare.{is_new, moved_new}
+use Rattle.fib_entries_rows.specs.Changes.{AreMoved, AreTouched}
+use Rattle.fib_entries_rows.specs.Known.{prefix_of}
+use Rattle.fib_entries_rows.specs.declared.changes.Moved.{Moved}
+use Rattle.fib_entries_rows.specs.inner.Compare.{is_new, moved_new}
 use Rattle.fib_entries.proofs.Moving.{are_moved}
-use Rattle.fib_entries.proofs.Touches.{list_touched}
+use Rattle.fib_entries_rows.proofs.Touches.{list_touched}
 use Rattle.fib_entries.proofs.follow.compared.Goals as goal
 
 pub returns-clause-touched : goal.returns-clause-touched

@@ -1,9 +1,9 @@
 use Rattle.std.proofs.Common.{map, []}
 use Rattle.fib_resolve.specs.Touched.{is_touched}
-use Rattle.fib_entries.specs.Known.{prefix_of}
-use Rattle.fib_entries.specs.inner.Compare.{moved_one}
+use Rattle.fib_entries_rows.specs.Known.{prefix_of}
+use Rattle.fib_entries_rows.specs.inner.Compare.{moved_one}
 use Rattle.fib_entries.proofs.Moving.{more_moved}
-use Rattle.fib_entries.proofs.Touches.{more_before}
+use Rattle.fib_entries_rows.proofs.Touches.{more_before}
 use Rattle.fib_entries.proofs.follow.compared_before.Goals as goal
 
 pub loop-place-preserved : goal.loop-place-preserved

@@ -1,8 +1,8 @@
 use Rattle.std.proofs.Common.{◌≡◌, filter, flat_map, map, take}
 use Rattle.fib_resolve.specs.Touched.{is_touched}
 use Rattle.fib_resolve.specs.declared.types.Tables.{Tables}
-use Rattle.fib_entries.specs.Known.{StandsFor, prefix_of}
-use Rattle.fib_entries.specs.inner.Compare.{moved_one}
+use Rattle.fib_entries_rows.specs.Known.{StandsFor, prefix_of}
+use Rattle.fib_entries_rows.specs.inner.Compare.{moved_one}
 use Rattle.fib_entries.proofs.follow.compared_before.Given as goal
 
 abbrev pub invariant-loop-place : goal.invariant-loop-place

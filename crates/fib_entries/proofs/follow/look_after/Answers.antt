@@ -1,9 +1,9 @@
 use Rattle.std.proofs.Common.{sym, ap, ◌∙◌, subst, ◌↔◌}
 use Rattle.std.specs.Prelude.{IsTrue}
-use Rattle.fib_entries.specs.Known.{row_of}
-use Rattle.fib_entries.specs.Rows.{Row}
-use Rattle.fib_entries.specs.inner.Compare.{AreAlike}
-use Rattle.fib_entries.proofs.Comparing.{both_rows, only_before}
+use Rattle.fib_entries_rows.specs.Known.{row_of}
+use Rattle.fib_entries_rows.specs.Rows.{Row}
+use Rattle.fib_entries_rows.specs.inner.Compare.{AreAlike}
+use Rattle.fib_entries_rows.proofs.Comparing.{both_rows, only_before}
 use Rattle.fib_entries.proofs.follow.look_after.Goals as goal
 
 pub returns-in-Some-clause-touched : goal.returns-in-Some-clause-touched

@@ -1,13 +1,13 @@
 use Rattle.std.proofs.Common.{List, ◌∷◌, [], ℕ, Some, refl, sym, ap, ◌∙◌, subst}
 use Rattle.std.specs.Prelude.{Contains}
 use Rattle.std.proofs.lemmas.Option.{slice_get_read}
-use Rattle.fib_changes.proofs.Edits.{in_front}
-use Rattle.fib_interned.proofs.Finding.{contains_at}
+use Rattle.fib_resolve_changes.proofs.Edits.{in_front}
+use Rattle.fib_base_interned.proofs.Finding.{contains_at}
 use Rattle.fib_resolve.specs.declared.types.FibSource.{FibSource}
 use Rattle.fib_resolve.specs.declared.types.FibSource.TheVariants as sources
 use Rattle.fib_resolve.specs.declared.types.Path.{Path}
-use Rattle.fib_entries.proofs.Standing.{row_there}
-use Rattle.fib_entries.proofs.Taking.{list_is}
+use Rattle.fib_entries_rows.proofs.Standing.{row_there}
+use Rattle.fib_entries_rows.proofs.Taking.{list_is}
 use Rattle.fib_entries.proofs.near.near_row.Goals as goal
 
 pub content-requires : goal.content-requires

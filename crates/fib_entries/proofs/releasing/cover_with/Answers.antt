@@ -1,10 +1,10 @@
 use Rattle.std.proofs.Common.{sym, ◌∙◌, ap}
 use Rattle.std.specs.Prelude.{option_and_then, slice_get}
-use Rattle.fib_entries.proofs.Climbing.{leads_none}
-use Rattle.fib_entries.proofs.Looking.{at_place}
-use Rattle.fib_entries.specs.Known.{prefix_of}
+use Rattle.fib_entries_rows.proofs.Climbing.{leads_none}
+use Rattle.fib_entries_rows.proofs.Looking.{at_place}
+use Rattle.fib_entries_rows.specs.Known.{prefix_of}
 use Rattle.fib_entries.proofs.ReleaseRows.{cover_none, cover_row}
-use Rattle.fib_entries.proofs.Standing.{row_there}
+use Rattle.fib_entries_rows.proofs.Standing.{row_there}
 use Rattle.fib_entries.proofs.releasing.cover_with.Goals as goal
 
 pub returns-in-Some : goal.returns-in-Some

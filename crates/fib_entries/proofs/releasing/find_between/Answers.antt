@@ -2,10 +2,10 @@ use Rattle.std.proofs.Common.{◌≡◌, ℕ, true, List, length, nat_lt, refl, 
 use Rattle.std.specs.List.{list_all}
 use Rattle.std.proofs.lemmas.Option.{slice_get_read}
 use Rattle.fib_addr.specs.Prefixes.{Prefix}
-use Rattle.fib_interned.proofs.Finding.{contains_at, some_is}
-use Rattle.fib_entries.specs.Known.{rank_of}
-use Rattle.fib_entries.specs.Rows.{Row}
-use Rattle.fib_entries.proofs.Standing.{row_there}
+use Rattle.fib_base_interned.proofs.Finding.{contains_at, some_is}
+use Rattle.fib_entries_rows.specs.Known.{rank_of}
+use Rattle.fib_entries_rows.specs.Rows.{Row}
+use Rattle.fib_entries_rows.proofs.Standing.{row_there}
 use Rattle.fib_entries.proofs.releasing.find_between.Goals as goal
 
 pub is_end-requires : goal.is_end-requires

@@ -1,13 +1,13 @@
 use Rattle.std.proofs.Common.{◌≡◌, map, sym, ◌∙◌, ap, subst}
 use Rattle.std.proofs.lemmas.Option.{slice_get-get_or}
 use Rattle.fib_cover.specs.Covers.{IsAscending}
-use Rattle.fib_interned.proofs.Finding.{some_is}
-use Rattle.fib_entries.specs.Known.{prefix_of}
+use Rattle.fib_base_interned.proofs.Finding.{some_is}
+use Rattle.fib_entries_rows.specs.Known.{prefix_of}
 use Rattle.fib_entries.specs.inner.Adopting.{aimed_in}
 use Rattle.fib_entries.specs.inner.Releasing.{covering}
-use Rattle.fib_entries.specs.Rows.{Row}
+use Rattle.fib_entries_rows.specs.Rows.{Row}
 use Rattle.fib_entries.proofs.Aimings.{aimed_names}
-use Rattle.fib_entries.proofs.Looking.{at_place}
+use Rattle.fib_entries_rows.proofs.Looking.{at_place}
 use Rattle.fib_entries.proofs.ReleaseRows.{removed_rows}
 use Rattle.fib_entries.proofs.releasing.free.Goals as goal
 

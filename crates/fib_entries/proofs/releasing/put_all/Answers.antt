@@ -1,4 +1,4 @@
-use Rattle.fib_entries.proofs.Anew.{take_more}
+use Rattle.fib_entries_rows.proofs.Anew.{take_more}
 use Rattle.fib_entries.proofs.ReleaseRows.{put_more, put_whole}
 use Rattle.fib_entries.proofs.releasing.put_all.Goals as goal
 

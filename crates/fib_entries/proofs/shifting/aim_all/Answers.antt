@@ -1,7 +1,7 @@
 use Rattle.std.proofs.Common.{map, sym, ◌∙◌, ap, subst}
 use Rattle.fib_cover.specs.Covers.{IsAscending}
-use Rattle.fib_entries.specs.Known.{prefix_of}
-use Rattle.fib_entries.proofs.Anew.{take_more}
+use Rattle.fib_entries_rows.specs.Known.{prefix_of}
+use Rattle.fib_entries_rows.proofs.Anew.{take_more}
 use Rattle.fib_entries.proofs.Aimings.{aimed_more, aimed_names, aimed_none}
 use Rattle.fib_entries.proofs.shifting.aim_all.Goals as goal
 

@@ -1,9 +1,9 @@
 use Rattle.std.proofs.Common.{length, refl, sym, ◌∙◌, ap}
 use Rattle.std.specs.Prelude.{slice_set}
 use Rattle.std.proofs.lemmas.Option.{slice_get_read}
-use Rattle.fib_entries.proofs.Climbing.{leads_none}
+use Rattle.fib_entries_rows.proofs.Climbing.{leads_none}
 use Rattle.fib_entries.proofs.Aimings.{none_aimed, row_aimed}
-use Rattle.fib_entries.proofs.Standing.{row_there}
+use Rattle.fib_entries_rows.proofs.Standing.{row_there}
 use Rattle.fib_entries.proofs.shifting.aim_at.Goals as goal
 
 pub returns-in-Some : goal.returns-in-Some

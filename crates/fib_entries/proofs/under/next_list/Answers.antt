@@ -1,6 +1,6 @@
 use Rattle.std.proofs.Common.{refl, sym, ◌∙◌}
 use Rattle.std.proofs.lemmas.Option.{slice_get_read}
-use Rattle.fib_entries.proofs.Standing.{row_there}
+use Rattle.fib_entries_rows.proofs.Standing.{row_there}
 use Rattle.fib_entries.proofs.under.next_list.Goals as goal
 
 pub returns : goal.returns

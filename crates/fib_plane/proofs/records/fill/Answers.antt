@@ -4,7 +4,7 @@ use Rattle.fib_core.specs.declared.word.Word.TheVariants as words
 use Rattle.fib_core.specs.Words.{IsRoomy}
 use Rattle.fib_core.specs.StandsFor.{mac_word}
 use Rattle.fib_pool.specs.declared.object.AdjacencyRecord.{AdjacencyRecord}
-use Rattle.fib_board.specs.Boards.{Board, board_stored}
+use Rattle.fib_core_board.specs.Boards.{Board, board_stored}
 use Rattle.fib_plane.proofs.records.fill.Goals as goal
 
 pub returns-clause-board : goal.returns-clause-board

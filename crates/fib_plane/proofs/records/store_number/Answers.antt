@@ -2,7 +2,7 @@ use Rattle.std.proofs.Common.{◌≡◌, ◌∙◌, ◌+◌, ◌*◌, ap, subst,
 use Rattle.std.proofs.lemmas.Bool.{false≢true}
 use Rattle.fib_union.specs.Unions.{Union, must_retire, into}
 use Rattle.fib_core.specs.declared.word.Word.TheVariants as words
-use Rattle.fib_board.specs.Boards.{Board, union_of}
+use Rattle.fib_core_board.specs.Boards.{Board, union_of}
 use Rattle.fib_plane.proofs.Boarding.{word_other}
 use Rattle.fib_plane.proofs.Filling.{number_may, number_idle, into_same, set_spares}
 use Rattle.fib_plane.proofs.records.store_number.Goals as goal

@@ -3,11 +3,11 @@ use Rattle.fib_reach.specs.Walks.{IsAcyclic}
 use Rattle.fib_union.specs.Unions.{Edge, Union, owner, stored, left_at_once, must_retire}
 use Rattle.fib_pool.specs.declared.object.Object.{Object}
 use Rattle.fib_pool.specs.Objects.{IsLive}
-use Rattle.fib_board.specs.Boards.{Board, edge_of, board_stored, union_of}
+use Rattle.fib_core_board.specs.Boards.{Board, edge_of, board_stored, union_of}
 use Rattle.fib_plane.specs.Planes.{IsHeld, uncounted, counted_more}
-use Rattle.fib_board.specs.May.{Serves}
+use Rattle.fib_core_board.specs.May.{Serves}
 use Rattle.fib_plane.specs.inner.Joined.{AreDying}
-use Rattle.fib_board.proofs.Serving.{serves_held}
+use Rattle.fib_core_board.proofs.Serving.{serves_held}
 use Rattle.fib_plane.proofs.Storing.{count_small, left_live, stored_joined, more_dying, stored_acyclic, swept_acyclic, owner_is, hold_stored}
 use Rattle.fib_plane.proofs.replace.replace.Goals as goal
 

@@ -1,7 +1,7 @@
 use Rattle.std.proofs.Common.{arith, ◌≡◌, false, ℕ, ◌++◌, ◌∷◌, [], ◌∙◌, ap, subst}
 use Rattle.std.specs.Prelude.{slice_index_or}
 use Rattle.std.proofs.lemmas.List.{length_push}
-use Rattle.fib_board.specs.Boards.{Board}
+use Rattle.fib_core_board.specs.Boards.{Board}
 use Rattle.fib_plane.proofs.Scanning.{look_loose, look_counts, scans_workers, scans_more, scans_out, rests_more}
 use Rattle.fib_plane.proofs.scan.look_all.Goals as goal
 

@@ -1,6 +1,6 @@
 use Rattle.std.proofs.Common.{◌≡◌, ◌≤◌, ◌+◌, ℕ, List, length}
 use Rattle.fib_union.specs.Unions.{into}
-use Rattle.fib_board.specs.Boards.{board_scans, union_of}
+use Rattle.fib_core_board.specs.Boards.{board_scans, union_of}
 use Rattle.fib_plane.specs.Planes.{AreAtRest}
 use Rattle.fib_plane.specs.inner.Joined.{IsLoose}
 use Rattle.fib_union.specs.Unions.{times}

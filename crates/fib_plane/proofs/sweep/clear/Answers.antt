@@ -1,5 +1,5 @@
 use Rattle.std.proofs.Common.{arith, ◌∙◌}
-use Rattle.fib_board.proofs.Serving.{serves_held}
+use Rattle.fib_core_board.proofs.Serving.{serves_held}
 use Rattle.fib_plane.proofs.Sweeping.{swept_then, swept_allows, swept_size, back_swept, back_joined, back_dying, more_drop}
 use Rattle.fib_plane.specs.Planes.{IsHeld}
 use Rattle.fib_plane.proofs.Holding.{held_stays}

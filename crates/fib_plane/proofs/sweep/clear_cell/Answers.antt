@@ -2,16 +2,16 @@ use Rattle.std.proofs.Common.{arith, ◌≡◌, ◌+◌, ◌*◌, ◌∙◌, ◌
 use Rattle.std.proofs.lemmas.Bool.{false≢true}
 use Rattle.fib_union.specs.Unions.{Union, left_at_once, must_retire}
 use Rattle.fib_core.specs.declared.word.Word.TheVariants as words
-use Rattle.fib_board.specs.Boards.{word_in}
+use Rattle.fib_core_board.specs.Boards.{word_in}
 use Rattle.fib_plane.proofs.Boarding.{word_other}
 use Rattle.fib_plane.proofs.Clearing.{changed, cleared_drop, dying_in, may_clear, clears_at_once, clear_left, step_joined, step_swept, target_live, dying_few}
 use Rattle.fib_union.specs.Unions.{owner}
 use Rattle.fib_plane.specs.Planes.{IsHeld, leads_from, uncounted}
-use Rattle.fib_board.specs.Boards.{Board, board_stored}
+use Rattle.fib_core_board.specs.Boards.{Board, board_stored}
 use Rattle.fib_plane.proofs.Clearing.{not_root, no_edge}
 use Rattle.fib_plane.proofs.Holding.{held_stays, dying_not_held}
-use Rattle.fib_board.specs.May.{Serves}
-use Rattle.fib_board.proofs.Serving.{serves_clear, serves_cleared, serves_held}
+use Rattle.fib_core_board.specs.May.{Serves}
+use Rattle.fib_core_board.proofs.Serving.{serves_clear, serves_cleared, serves_held}
 use Rattle.fib_plane.proofs.sweep.clear_cell.Goals as goal
 
 pub load-requires-clause-object : goal.load-requires-clause-object

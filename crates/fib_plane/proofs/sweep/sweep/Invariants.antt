@@ -1,6 +1,6 @@
 use Rattle.std.proofs.Common.{◌≤◌, ◌-◌, length, vec_capacity}
 use Rattle.fib_pool.specs.Objects.{free_in}
-use Rattle.fib_board.specs.May.{Serves, Allows}
+use Rattle.fib_core_board.specs.May.{Serves, Allows}
 use Rattle.fib_plane.specs.Planes.{IsHeld, IsSwept}
 use Rattle.fib_plane.specs.inner.Joined.{IsJoined, AreDying}
 use Rattle.fib_plane.proofs.sweep.sweep.Given as goal

@@ -1,8 +1,9 @@
 use Rattle.std.proofs.Common.{refl, subst, ℕ, ◌+◌, ◌∙◌, sym, inl, inr, arith}
-use Rattle.fib_joined.specs.Promise.{Promise}
-use Rattle.fib_joined.specs.View.{IsLive}
-use Rattle.fib_joined.proofs.Frames.{beside_none, beside_then}
-use Rattle.fib_ply.specs.inner.Blank.{IsBlank}
+use Rattle.fib_plane_view.specs.Promise.{Promise}
+use Rattle.fib_plane_view.specs.View.{IsLive}
+use Rattle.fib_plane_view.proofs.Frames.{beside_none, beside_then}
+use Rattle.fib_ply.proofs.Undropped.{none_self, none_then}
+use Rattle.fib_ply.specs.Blank.{IsBlank}
 use Rattle.fib_ply.proofs.Blanks.{blank_calm, blank_may, blank_on}
 use Rattle.fib_ply.proofs.beginning.begin.Goals as goal
 
@@ -25,7 +26,7 @@ pub put-requires-clause-calm : goal.put-requires-clause-calm
 put-requires-clause-calm g c = blank_calm (g.P.Objects.promise c.loop-slot.on) (g.P.Objects.view c.loop-slot.on) c.args.object c.loop-slot.slot c.loop-slot.invariant.blank
 
 pub loop-slot-init : goal.loop-slot-init
-loop-slot-init g c = record { blank = c.requires.blank; promise = refl; free = omega arith; beside = beside_none _ }
+loop-slot-init g c = record { blank = c.requires.blank; promise = refl; free = omega arith; beside = beside_none _; none_dropped = none_self _ }
 
 pub loop-slot-preserved : goal.loop-slot-preserved
 loop-slot-preserved g c = record {
@@ -34,4 +35,5 @@ loop-slot-preserved g c = record {
   promise = c.put.ensures.promise ∙ c.loop-slot.invariant.promise;
   free = (let i = c.loop-slot.invariant.free in let f = c.put.ensures.put.free in omega (arith, i, f));
   beside = beside_then _ _ _ c.loop-slot.invariant.beside c.put.ensures.beside;
+  none_dropped = none_then _ _ _ c.loop-slot.invariant.none_dropped c.put.ensures.none_dropped;
 }

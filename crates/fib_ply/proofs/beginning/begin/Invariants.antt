@@ -1,6 +1,7 @@
 use Rattle.std.proofs.Common.{◌≡◌, ◌≤◌}
-use Rattle.fib_joined.specs.Frames.{Beside}
-use Rattle.fib_ply.specs.inner.Blank.{IsBlank}
+use Rattle.fib_plane_view.specs.Frames.{Beside}
+use Rattle.fib_ply.specs.Calls.{DropsNone}
+use Rattle.fib_ply.specs.Blank.{IsBlank}
 use Rattle.fib_ply.proofs.beginning.begin.Given as goal
 
 abbrev pub invariant-loop-slot : goal.invariant-loop-slot
@@ -9,4 +10,5 @@ invariant-loop-slot g l = record {
   promise : g.P.Objects.promise l.on ≡ g.P.Objects.promise l.initial.on;
   free : (g.P.Objects.view l.initial.on).free ≤ (g.P.Objects.view l.on).free;
   beside : Beside (g.P.Objects.view l.initial.on) (g.P.Objects.view l.on);
+  none_dropped : DropsNone (g.P.Objects.view l.initial.on) (g.P.Objects.view l.on);
 }

@@ -1,9 +1,10 @@
 use Rattle.std.proofs.Common.{refl, subst, ap, ◌≡◌, ℕ, ◌∙◌, sym, inl, inr, below_more, arith}
 use Rattle.fib_core.specs.declared.word.Word.{Word}
 use Rattle.fib_core.specs.declared.word.Word.TheVariants.{ToBalance}
-use Rattle.fib_joined.specs.Promise.{Promise, MayPut}
-use Rattle.fib_joined.specs.View.{IsLive, leads}
-use Rattle.fib_joined.proofs.Frames.{beside_none, beside_then}
+use Rattle.fib_plane_view.specs.Promise.{Promise, MayPut}
+use Rattle.fib_plane_view.specs.View.{IsLive, leads}
+use Rattle.fib_plane_view.proofs.Frames.{beside_none, beside_then}
+use Rattle.fib_ply.proofs.Undropped.{none_self, none_then}
 use Rattle.fib_ply.proofs.Sprouts.{aside_may, aside_calm, aside_on, frame_put, frame_none, no_more_sent}
 use Rattle.fib_ply.proofs.growing.fill.Goals as goal
 
@@ -29,7 +30,7 @@ pub put-requires-clause-calm : goal.put-requires-clause-calm
 put-requires-clause-calm g c = let q = c.loop-slot.invariant.ready in aside_calm q.0 q.1 q.2 q.3 q.4 q.5 (g.P.Objects.view c.loop-slot.on) c.args.ply c.loop-slot.slot c.args.object q.6 q.7 c.loop-slot-test.true c.loop-slot.invariant.balance (λ z. q.9 (ap (λ (r : Promise). r.applied) (sym q.8) ∙ z))
 
 pub loop-slot-init : goal.loop-slot-init
-loop-slot-init g c = record { ready = c.requires.ready; balance = c.requires.balance; beside = beside_none _; aside = λ wants there old new pos n at fresh quiet. (at, fresh, λ y t is. refl); filled = λ t lt. absurd (omega arith); empty = λ t le lt. c.requires.empty t lt; free = omega arith; spare = omega arith; stores = record { more = omega arith; few = omega arith }; frame = frame_none _; plies = λ x is h. (is, h); promise = refl }
+loop-slot-init g c = record { ready = c.requires.ready; balance = c.requires.balance; beside = beside_none _; none_dropped = none_self _; aside = λ wants there old new pos n at fresh quiet. (at, fresh, λ y t is. refl); filled = λ t lt. absurd (omega arith); empty = λ t le lt. c.requires.empty t lt; free = omega arith; spare = omega arith; stores = record { more = omega arith; few = omega arith }; frame = frame_none _; plies = λ x is h. (is, h); promise = refl }
 
 pub loop-slot-preserved : goal.loop-slot-preserved
 loop-slot-preserved g c =
@@ -45,6 +46,7 @@ loop-slot-preserved g c =
       ready = let h = aside_on q.0 q.1 q.2 q.3 q.4 q.5 u c.args.ply c.loop-slot.slot c.args.object q.6 q.7 lt i.balance still v put c.put.ensures.beside kv in
           (q.0, q.1, q.2, q.3, q.4, q.5, h.0, h.1, q.8 ∙ sym c.put.ensures.promise, λ z t l. c.put.ensures.beside.cells c.args.object t i.balance ∙ q.9 (sym (ap (λ (r : Promise). r.applied) c.put.ensures.promise) ∙ z) t l);
       beside = beside_then _ _ _ i.beside c.put.ensures.beside;
+      none_dropped = none_then _ _ _ i.none_dropped c.put.ensures.none_dropped;
       balance = c.put.ensures.beside.balances c.args.object i.balance;
       aside = λ wants there old new pos n at fresh quiet.
           (let p = i.aside wants there old new pos n at fresh quiet in
@@ -61,4 +63,4 @@ loop-slot-preserved g c =
     }
 
 pub returns : goal.returns
-returns g c = let i = c.loop-slot.invariant in record { aside = i.aside; filled = λ t lt. i.filled t (omega (arith, c.loop-slot-test.false, lt)); free = i.free; spare = i.spare; stores = record { more = i.stores.more; few = omega (arith, i.stores.few, c.loop-slot.auto) }; frame = i.frame; plies = i.plies; beside = i.beside; promise = i.promise }
+returns g c = let i = c.loop-slot.invariant in record { aside = i.aside; filled = λ t lt. i.filled t (omega (arith, c.loop-slot-test.false, lt)); free = i.free; spare = i.spare; stores = record { more = i.stores.more; few = omega (arith, i.stores.few, c.loop-slot.auto) }; frame = i.frame; plies = i.plies; beside = i.beside; none_dropped = i.none_dropped; promise = i.promise }

@@ -1,5 +1,6 @@
 use Rattle.std.proofs.Common.{refl, ◌∙◌, arith}
-use Rattle.fib_joined.proofs.Frames.{beside_none, beside_then}
+use Rattle.fib_plane_view.proofs.Frames.{beside_none, beside_then}
+use Rattle.fib_ply.proofs.Undropped.{none_self, none_then}
 use Rattle.fib_ply.proofs.Sprouts.{frame_none, frame_then}
 use Rattle.fib_ply.proofs.Grown.{bare_all, bare_more, bare_none, found_at, grows_none, grows_more, ready_more, grows_all}
 use Rattle.fib_ply.proofs.growing.grow.Goals as goal
@@ -15,6 +16,7 @@ loop-at-init g c = record {
   frame = frame_none _;
   promise = refl;
   beside = beside_none _;
+  none_dropped = none_self _;
 }
 
 pub loop-at-preserved : goal.loop-at-preserved
@@ -30,7 +32,8 @@ loop-at-preserved g c =
       frame = frame_then _ _ _ i.frame c.sprout-at.ensures.frame;
       promise = c.sprout-at.ensures.promise ∙ i.promise;
       beside = beside_then _ _ _ i.beside c.sprout-at.ensures.beside;
+      none_dropped = none_then _ _ _ i.none_dropped c.sprout-at.ensures.none_dropped;
     }
 
 pub returns : goal.returns
-returns g c = let i = c.loop-at.invariant in record { few = i.room.4; free = i.free; bare = bare_all _ c.args.addr c.args.depth _ _ c.loop-at-test.false i.within i.bare; frame = i.frame; promise = i.promise; beside = i.beside; grows = grows_all _ _ c.args.addr c.args.depth _ _ _ _ c.loop-at-test.false i.grows }
+returns g c = let i = c.loop-at.invariant in record { few = i.room.4; free = i.free; bare = bare_all _ c.args.addr c.args.depth _ _ c.loop-at-test.false i.within i.bare; frame = i.frame; promise = i.promise; beside = i.beside; none_dropped = i.none_dropped; grows = grows_all _ _ c.args.addr c.args.depth _ _ _ _ c.loop-at-test.false i.grows }

@@ -1,5 +1,6 @@
 use Rattle.std.proofs.Common.{◌≡◌, ◌+◌, ◌-◌, ◌<◌, ◌≤◌}
-use Rattle.fib_joined.specs.Frames.{Beside}
+use Rattle.fib_plane_view.specs.Frames.{Beside}
+use Rattle.fib_ply.specs.Calls.{DropsNone}
 use Rattle.fib_ply.specs.inner.View.{Frame}
 use Rattle.fib_ply.specs.inner.Change.{IsUnderWayAt, GrowsTo, WereBare}
 use Rattle.fib_ply.proofs.growing.grow.Given as goal
@@ -13,6 +14,7 @@ invariant-loop-at g l = record {
   bare : WereBare (g.P.Objects.view l.initial.on) l.addr l.at.depth l.plies;
   within : 0 < l.plies → l.at.depth ≤ l.depth;
   beside : Beside (g.P.Objects.view l.initial.on) (g.P.Objects.view l.on);
+  none_dropped : DropsNone (g.P.Objects.view l.initial.on) (g.P.Objects.view l.on);
   frame : Frame (g.P.Objects.view l.initial.on) (g.P.Objects.view l.on);
   promise : g.P.Objects.promise l.on ≡ g.P.Objects.promise l.initial.on;
 }

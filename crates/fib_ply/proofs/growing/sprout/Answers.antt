@@ -1,8 +1,9 @@
 use Rattle.std.proofs.Common.{subst, inl, inr, ℕ, sym, ◌∙◌, arith}
 use Rattle.fib_core.specs.declared.word.Word.TheVariants.{ToPly}
-use Rattle.fib_joined.specs.Promise.{Promise, MayPut}
-use Rattle.fib_joined.specs.View.{IsLive}
-use Rattle.fib_joined.proofs.Frames.{beside_then}
+use Rattle.fib_plane_view.specs.Promise.{Promise, MayPut}
+use Rattle.fib_plane_view.specs.View.{IsLive}
+use Rattle.fib_plane_view.proofs.Frames.{beside_then}
+use Rattle.fib_ply.proofs.Undropped.{none_then}
 use Rattle.fib_ply.proofs.Sprouts.{can_fill, object_kind, sprout_may, sprout_ply, sprout_target, sprout_kind, sprout_calm, sprout_on, frame_put, frame_taken, frame_then}
 use Rattle.fib_ply.proofs.growing.sprout.Goals as goal
 
@@ -87,6 +88,10 @@ put-requires-clause-spare g c =
 pub returns-clause-beside : goal.returns-clause-beside
 returns-clause-beside g c =
     beside_then _ _ _ (beside_then _ _ _ c.in-Some.ensures.beside c.fill.ensures.beside) c.put.ensures.beside
+
+pub returns-clause-none_dropped : goal.returns-clause-none_dropped
+returns-clause-none_dropped g c =
+    none_then _ _ _ (none_then _ _ _ c.in-Some.ensures.none_dropped c.fill.ensures.none_dropped) c.put.ensures.none_dropped
 
 pub returns-clause-frame : goal.returns-clause-frame
 returns-clause-frame g c =

@@ -1,5 +1,5 @@
 use Rattle.fib_ply.specs.inner.Change.{IsOnPath, IsLed}
-use Rattle.fib_ply.specs.inner.Served.{Paths}
+use Rattle.fib_ply.specs.Served.{Paths}
 use Rattle.fib_ply.specs.inner.Trie.{IsTrie}
 use Rattle.fib_ply.proofs.places.find.Given as goal
 

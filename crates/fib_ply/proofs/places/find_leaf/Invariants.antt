@@ -1,7 +1,7 @@
 use Rattle.std.proofs.Common.{◌≡◌, ℕ, ◌+◌, ◌-◌, ◌*◌, ◌/◌, ◌%◌, ◌^◌}
 use Rattle.fib_core.specs.declared.word.Word.TheVariants.{ToPly}
 use Rattle.fib_ply.specs.inner.Change.{IsOnPath, IsLed}
-use Rattle.fib_ply.specs.inner.Served.{Paths}
+use Rattle.fib_ply.specs.Served.{Paths}
 use Rattle.fib_ply.specs.inner.Trie.{IsTrie}
 use Rattle.fib_ply.proofs.places.find_leaf.Given as goal
 

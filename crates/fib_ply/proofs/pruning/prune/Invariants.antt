@@ -1,5 +1,6 @@
 use Rattle.std.specs.Prelude.{◌≡◌, ◌+◌, ◌≤◌}
-use Rattle.fib_joined.specs.Frames.{Beside}
+use Rattle.fib_plane_view.specs.Frames.{Beside}
+use Rattle.fib_ply.specs.Calls.{DropsNone}
 use Rattle.fib_ply.specs.inner.Change.{CanPruneAt, PrunesTo}
 use Rattle.fib_ply.proofs.pruning.prune.Given as goal
 
@@ -11,6 +12,7 @@ invariant-loop-leaf g l = record {
   free : (g.P.Objects.view l.initial.on).free ≤ (g.P.Objects.view l.on).free;
   promise : g.P.Objects.promise l.on ≡ g.P.Objects.promise l.initial.on;
   beside : Beside (g.P.Objects.view l.initial.on) (g.P.Objects.view l.on);
+  none_dropped : DropsNone (g.P.Objects.view l.initial.on) (g.P.Objects.view l.on);
 }
 
 abbrev pub decreases-loop-leaf : goal.decreases-loop-leaf

@@ -1,8 +1,9 @@
 use Rattle.std.proofs.Common.{subst, ℕ, ◌*◌, ◌-◌, ◌/◌, ◌%◌, ◌^◌, inl, inr, sym, ◌∙◌}
 use Rattle.fib_core.specs.declared.word.Word.TheVariants.{ToBalance}
-use Rattle.fib_joined.specs.Promise.{Promise, MayPut, MayLetGo}
-use Rattle.fib_joined.specs.View.{IsLive}
-use Rattle.fib_joined.proofs.Frames.{beside_then}
+use Rattle.fib_plane_view.specs.Promise.{Promise, MayPut, MayLetGo}
+use Rattle.fib_plane_view.specs.View.{IsLive}
+use Rattle.fib_plane_view.proofs.Frames.{beside_then}
+use Rattle.fib_ply.proofs.Undropped.{none_then}
 use Rattle.fib_ply.proofs.Prunes.{best_here, block_here, unlink_may, unlink_kind, unlink_calm, unlink_held, unlink_ply, unlink_target, unlink_kept, unlink_let_go, unlink_spare, unlink_trie, unlinked, unlink_freed, ending, unlink_higher}
 use Rattle.fib_ply.proofs.pruning.unlink.Goals as goal
 
@@ -106,6 +107,10 @@ find_leaf-requires g c =
 pub returns-clause-beside : goal.returns-clause-beside
 returns-clause-beside g c =
     beside_then _ _ _ c.put.ensures.beside c.let_go.ensures.beside
+
+pub returns-clause-none_dropped : goal.returns-clause-none_dropped
+returns-clause-none_dropped g c =
+    none_then _ _ _ c.put.ensures.none_dropped c.let_go.ensures.none_dropped
 
 pub returns-clause-next : goal.returns-clause-next
 returns-clause-next g c = λ wants there n pruned ended.

@@ -1,6 +1,6 @@
 use Rattle.std.proofs.Common.{ℕ, ◌+◌, ◌*◌, inl, inr, sym, ◌∙◌, subst}
-use Rattle.fib_joined.specs.Promise.{Promise, MayPut}
-use Rattle.fib_joined.specs.View.{IsLive}
+use Rattle.fib_plane_view.specs.Promise.{Promise, MayPut}
+use Rattle.fib_plane_view.specs.View.{IsLive}
 use Rattle.fib_core.specs.declared.word.Word.TheVariants.{ToBalance}
 use Rattle.fib_ply.proofs.Pushes.{cell_at, push_may, push_spare, kind_is, calm_is, moved_on, spent_on, pos_small, pos_below, best_some, block_small}
 use Rattle.fib_ply.proofs.pushing.push.Goals as goal

@@ -1,8 +1,10 @@
 use Rattle.std.proofs.Common.{Bool, ◌-◌, ◌≡◌, ◌≤◌, ℕ}
-use Rattle.fib_joined.specs.Frames.{Beside}
+use Rattle.fib_plane_view.specs.Frames.{Beside}
+use Rattle.fib_ply.specs.Calls.{DropsNone}
 use Rattle.fib_ply.specs.Prefixes.{Look}
-use Rattle.fib_ply.specs.inner.Served.{Paths, Watch}
-use Rattle.fib_ply.specs.inner.Change.{IsAt, IsSpent}
+use Rattle.fib_ply.specs.Served.{Paths, Watch}
+use Rattle.fib_ply.specs.Plies.{IsAt}
+use Rattle.fib_ply.specs.inner.Change.{IsSpent}
 use Rattle.fib_ply.proofs.pushing.refresh.Given as goal
 
 abbrev pub invariant-loop-pos : goal.invariant-loop-pos
@@ -12,6 +14,7 @@ invariant-loop-pos g l = record {
   free : (g.P.Objects.view l.initial.on).free ≤ (g.P.Objects.view l.on).free;
   promise : g.P.Objects.promise l.on ≡ g.P.Objects.promise l.initial.on;
   beside : Beside (g.P.Objects.view l.initial.on) (g.P.Objects.view l.on);
+  none_dropped : DropsNone (g.P.Objects.view l.initial.on) (g.P.Objects.view l.on);
 }
 
 abbrev pub decreases-loop-pos : goal.decreases-loop-pos

@@ -1,6 +1,7 @@
 use Rattle.std.proofs.Common.{◌≡◌, ℕ, ◌+◌, ◌*◌, ◌/◌, ◌^◌, ◌-◌, ◌%◌, ◌≤◌, true, ap, sym, subst, ◌∙◌, arith}
-use Rattle.fib_joined.specs.Promise.{Promise}
-use Rattle.fib_joined.proofs.Frames.{beside_then}
+use Rattle.fib_plane_view.specs.Promise.{Promise}
+use Rattle.fib_plane_view.proofs.Frames.{beside_then}
+use Rattle.fib_ply.proofs.Undropped.{none_then}
 use Rattle.fib_ply.specs.Prefixes.{Look, Needs}
 use Rattle.fib_ply.specs.inner.Change.{IsPromised}
 use Rattle.fib_ply.proofs.Adds.{add_starts, add_ends, first_fits, from_fits, to_fits, last_below}
@@ -49,6 +50,10 @@ returns-clause-promise g c =
 pub returns-clause-beside : goal.returns-clause-beside
 returns-clause-beside g c =
     beside_then _ _ _ c.grow-plies.ensures.beside c.refresh.ensures.beside
+
+pub returns-clause-none_dropped : goal.returns-clause-none_dropped
+returns-clause-none_dropped g c =
+    none_then _ _ _ c.grow-plies.ensures.none_dropped c.refresh.ensures.none_dropped
 
 pub returns-clause-free : goal.returns-clause-free
 returns-clause-free g c = omega (arith, c.grow-plies.ensures.free, c.refresh.ensures.free)

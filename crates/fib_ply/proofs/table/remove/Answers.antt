@@ -1,5 +1,6 @@
 use Rattle.std.proofs.Common.{◌+◌, ◌*◌, ◌^◌, ◌-◌, ◌%◌, ap, sym, subst, ◌∙◌}
-use Rattle.fib_joined.proofs.Frames.{beside_then}
+use Rattle.fib_plane_view.proofs.Frames.{beside_then}
+use Rattle.fib_ply.proofs.Undropped.{none_then}
 use Rattle.fib_ply.specs.Prefixes.{Look}
 use Rattle.fib_ply.specs.inner.Change.{IsPromised}
 use Rattle.fib_ply.proofs.Adds.{from_fits, to_fits, last_below}
@@ -44,3 +45,7 @@ returns-clause-promise g c =
 pub returns-clause-beside : goal.returns-clause-beside
 returns-clause-beside g c =
     beside_then _ _ _ c.refresh.ensures.beside c.prune.ensures.beside
+
+pub returns-clause-none_dropped : goal.returns-clause-none_dropped
+returns-clause-none_dropped g c =
+    none_then _ _ _ c.refresh.ensures.none_dropped c.prune.ensures.none_dropped

@@ -1,7 +1,7 @@
 use Rattle.std.proofs.Common.{arith, ◌≡◌, ◌+◌, ℕ, sym, ◌∙◌, ap, drop}
 use Rattle.std.specs.Prelude.{slice_index_or}
-use Rattle.fib_results.specs.declared.record.Record.{Record}
-use Rattle.fib_crew.specs.Results.{results_of}
+use Rattle.fib_core_results.specs.declared.record.Record.{Record}
+use Rattle.fib_worker_crew.specs.Results.{results_of}
 use Rattle.fib_rounds.specs.declared.summary.Summary.{Summary}
 use Rattle.fib_rounds.specs.Counts.{IsSmall}
 use Rattle.fib_rounds.specs.Summaries.{with_end, with_ends}

@@ -1,7 +1,7 @@
 use Rattle.std.proofs.Common.{arith, rules, refl, ap, ◌≡◌, ◌+◌, ◌++◌, sym, ◌∙◌, subst, drop}
 use Rattle.std.specs.Prelude.{slice_get, Some, is_some, true, None}
-use Rattle.fib_turns.specs.Routers.{router_of}
-use Rattle.fib_turns.specs.Turns.{asks, turn_of}
+use Rattle.fib_rounds_turns.specs.Routers.{router_of}
+use Rattle.fib_rounds_turns.specs.Turns.{asks, turn_of}
 use Rattle.fib_rounds.specs.Rounds.{GoesOn, StopsAt, stage_of}
 use Rattle.fib_rounds.proofs.Lining.{on_none, on_more, stage_line, history_line, asked_is_same, asked_stage, stops_here, asks_none, lines_asked}
 use Rattle.fib_rounds.proofs.lines.run_lines.Goals as goal

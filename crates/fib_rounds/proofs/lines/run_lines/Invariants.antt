@@ -1,5 +1,5 @@
 use Rattle.std.proofs.Common.{◌≡◌, ◌-◌, ◌≤◌, length}
-use Rattle.fib_turns.specs.Routers.{KeepsCrew, applied_in}
+use Rattle.fib_rounds_turns.specs.Routers.{KeepsCrew, applied_in}
 use Rattle.fib_rounds.specs.Stages.{IsHistory}
 use Rattle.fib_rounds.specs.Rounds.{GoesOn, stage_of}
 use Rattle.fib_rounds.proofs.lines.run_lines.Given as goal

@@ -2,8 +2,8 @@ use Rattle.std.proofs.Common.{◌≡◌, ◌++◌, [], rules, arith, ap, sym, �
 use Rattle.std.specs.Prelude.{Some}
 use Rattle.std.proofs.lemmas.List.{append-nil, take_rest}
 use Rattle.fib_print.specs.Packets.{packet_text, not_ipv4_text, bad_header_text}
-use Rattle.fib_crew.specs.Results.{results_of}
-use Rattle.fib_crew.specs.Packets.{span}
+use Rattle.fib_worker_crew.specs.Results.{results_of}
+use Rattle.fib_worker_crew.specs.Packets.{span}
 use Rattle.fib_rounds.specs.Packets.{packets_text}
 use Rattle.fib_rounds.proofs.Spans.{text_none, text_at_not_ipv4, text_at_bad_header, text_at_flow, text_at_missing, short_none, append_step, first_rest}
 use Rattle.fib_rounds.proofs.put.put_span.Goals as goal

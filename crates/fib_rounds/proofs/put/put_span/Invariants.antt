@@ -1,6 +1,6 @@
 use Rattle.std.proofs.Common.{◌≡◌, ◌++◌}
-use Rattle.fib_crew.specs.Results.{results_of}
-use Rattle.fib_crew.specs.Packets.{span}
+use Rattle.fib_worker_crew.specs.Results.{results_of}
+use Rattle.fib_worker_crew.specs.Packets.{span}
 use Rattle.fib_rounds.specs.Packets.{packets_text}
 use Rattle.fib_rounds.proofs.put.put_span.Given as goal
 

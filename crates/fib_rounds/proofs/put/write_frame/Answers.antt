@@ -1,8 +1,8 @@
 use Rattle.std.proofs.Common.{◌≡◌, ◌++◌, ◌∙◌, [], ap, subst}
 use Rattle.std.proofs.lemmas.List.{append-nil}
 use Rattle.fib_outside.specs.Outside.{Appends}
-use Rattle.fib_crew.specs.Packets.{span}
-use Rattle.fib_crew.specs.Results.{results_of}
+use Rattle.fib_worker_crew.specs.Packets.{span}
+use Rattle.fib_worker_crew.specs.Results.{results_of}
 use Rattle.fib_rounds.specs.Packets.{packets_text}
 use Rattle.fib_rounds.proofs.Writing.{on_err, stopped}
 use Rattle.fib_rounds.proofs.put.write_frame.Goals as goal

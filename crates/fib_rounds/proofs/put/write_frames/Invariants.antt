@@ -1,8 +1,8 @@
 use Rattle.std.proofs.Common.{◌≡◌, ◌≤◌, ◌++◌, ℕ, List, drop}
 use Rattle.fib_outside.specs.Outside.{Appends}
-use Rattle.fib_homing.specs.Places.{joined, parts_of}
-use Rattle.fib_crew.specs.Packets.{span}
-use Rattle.fib_crew.specs.Results.{numbered}
+use Rattle.fib_rounds_homing.specs.Places.{joined, parts_of}
+use Rattle.fib_worker_crew.specs.Packets.{span}
+use Rattle.fib_worker_crew.specs.Results.{numbered}
 use Rattle.fib_rounds.specs.Packets.{packets_text}
 use Rattle.fib_rounds.specs.Writes.{AreLaid}
 use Rattle.fib_rounds.proofs.Handing.{Taken}

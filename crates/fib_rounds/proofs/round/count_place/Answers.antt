@@ -1,6 +1,6 @@
 use Rattle.std.proofs.Common.{◌+◌, sym, ◌∙◌, ap, subst, length}
-use Rattle.fib_crew.specs.Results.{results_of}
-use Rattle.fib_homing.specs.Places.{results_at}
+use Rattle.fib_worker_crew.specs.Results.{results_of}
+use Rattle.fib_rounds_homing.specs.Places.{results_at}
 use Rattle.fib_rounds.specs.Counts.{IsSmall}
 use Rattle.fib_rounds.specs.Summaries.{with_ends}
 use Rattle.fib_rounds.proofs.Counting.{with_no_ends}

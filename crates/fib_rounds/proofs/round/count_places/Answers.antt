@@ -1,7 +1,7 @@
 use Rattle.std.proofs.Common.{arith, ◌+◌, sym, ◌∙◌, ap, drop, length}
 use Rattle.std.proofs.lemmas.List.{length-append}
 use Rattle.fib_rounds.specs.Summaries.{with_ends}
-use Rattle.fib_homing.specs.Places.{joined, parts_of, results_at}
+use Rattle.fib_rounds_homing.specs.Places.{joined, parts_of, results_at}
 use Rattle.fib_rounds.proofs.Counting.{smaller, with_ends_append, with_no_ends}
 use Rattle.fib_rounds.proofs.Laid.{places_head, places_end}
 use Rattle.fib_rounds.proofs.round.count_places.Goals as goal

@@ -1,5 +1,5 @@
 use Rattle.std.proofs.Common.{◌≡◌, ◌+◌, ℕ, length, drop}
-use Rattle.fib_homing.specs.Places.{joined, parts_of}
+use Rattle.fib_rounds_homing.specs.Places.{joined, parts_of}
 use Rattle.fib_rounds.specs.Counts.{IsSmall}
 use Rattle.fib_rounds.specs.Summaries.{with_ends}
 use Rattle.fib_rounds.proofs.round.count_places.Given as goal

@@ -1,5 +1,5 @@
 use Rattle.std.proofs.Common.{arith, ◌+◌, length}
-use Rattle.fib_homing.specs.Places.{joined, parts_of}
+use Rattle.fib_rounds_homing.specs.Places.{joined, parts_of}
 use Rattle.fib_rounds.proofs.Counting.{smaller, counted_small}
 use Rattle.fib_rounds.proofs.round.count_round.Goals as goal
 

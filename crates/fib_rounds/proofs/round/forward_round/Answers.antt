@@ -1,8 +1,8 @@
 use Rattle.std.proofs.Common.{◌≡◌, arith, rules, ap, sym, subst, ◌∙◌, length, true}
 use Rattle.std.specs.Prelude.{All}
-use Rattle.fib_board.specs.Boards.{Board}
-use Rattle.fib_crew.specs.Packets.{span}
-use Rattle.fib_homing.specs.Stations.{AreBack, IsReady}
+use Rattle.fib_core_board.specs.Boards.{Board}
+use Rattle.fib_worker_crew.specs.Packets.{span}
+use Rattle.fib_rounds_homing.specs.Stations.{AreBack, IsReady}
 use Rattle.fib_rounds.specs.inner.Forwarded.{HasForwardedRound}
 use Rattle.fib_rounds.proofs.Forwarding.{board_setup, count_is, enough_left, forwarded, knows_opened, written_back}
 use Rattle.fib_rounds.proofs.round.forward_round.Goals as goal

@@ -1,14 +1,14 @@
 use Rattle.std.proofs.Common.{◌≡◌, ◌-◌, ◌++◌, arith, refl, subst, ap, ap₂, ◌∙◌, sym, length}
 use Rattle.std.specs.Prelude.{◌==◌}
 use Rattle.fib_config.specs.Config.{Setup}
-use Rattle.fib_crew.specs.Packets.{span}
-use Rattle.fib_homing.specs.Places.{joined, parts_of}
+use Rattle.fib_worker_crew.specs.Packets.{span}
+use Rattle.fib_rounds_homing.specs.Places.{joined, parts_of}
 use Rattle.fib_rounds.specs.Stages.{IsHistory, Stage}
 use Rattle.fib_rounds.specs.Summaries.{with_results}
 use Rattle.fib_rounds.specs.Packets.{packets_text, IsAnswer}
 use Rattle.fib_rounds.specs.Rounds.{GoesOn, stage_of}
 use Rattle.fib_rounds.proofs.Spans.{matched_few}
-use Rattle.fib_crew.proofs.Spans.{length_span}
+use Rattle.fib_worker_crew.proofs.Spans.{length_span}
 use Rattle.fib_rounds.proofs.Rounding.{all_answered, closed_is, closed_next, has_counted, has_run, next_first, next_lines, next_rests, stage_stays}
 use Rattle.fib_rounds.proofs.round.run_round.Goals as goal
 

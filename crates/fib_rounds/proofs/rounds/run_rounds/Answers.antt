@@ -1,11 +1,11 @@
 use Rattle.std.proofs.Common.{◌++◌, ◌/◌, [], arith, refl, sym, ap, ap₂, ◌∙◌, subst}
 use Rattle.std.proofs.lemmas.List.{append-nil}
 use Rattle.fib_outside.specs.Outside.{Appends}
-use Rattle.fib_crew.specs.Packets.{span}
-use Rattle.fib_crew.specs.Results.{numbered}
-use Rattle.fib_taps.specs.Taps.{Takes, TakesSome}
-use Rattle.fib_homing.specs.Places.{joined, parts_of}
-use Rattle.fib_turns.specs.Routers.{applied_in}
+use Rattle.fib_worker_crew.specs.Packets.{span}
+use Rattle.fib_worker_crew.specs.Results.{numbered}
+use Rattle.fib_rounds_taps.specs.Taps.{Takes, TakesSome}
+use Rattle.fib_rounds_homing.specs.Places.{joined, parts_of}
+use Rattle.fib_rounds_turns.specs.Routers.{applied_in}
 use Rattle.fib_rounds.specs.Counts.{IsSmall}
 use Rattle.fib_rounds.specs.Packets.{packets_text, last_text}
 use Rattle.fib_rounds.specs.Rounds.{closed_by, stage_of}

@@ -1,7 +1,7 @@
 use Rattle.std.proofs.Common.{◌≡◌, ◌≤◌, ◌+◌, ◌-◌, ◌/◌, ℕ, length, Option, Some, None}
 use Rattle.std.specs.Prelude.{IfSome}
-use Rattle.fib_homing.specs.Homes.{NoneOut}
-use Rattle.fib_turns.specs.Routers.{applied_in}
+use Rattle.fib_rounds_homing.specs.Homes.{NoneOut}
+use Rattle.fib_rounds_turns.specs.Routers.{applied_in}
 use Rattle.fib_rounds.specs.Counts.{IsSmall}
 use Rattle.fib_rounds.specs.Summaries.{summary_of}
 use Rattle.fib_rounds.specs.Stages.{IsHistory}

@@ -1,26 +1,29 @@
 use Rattle.std.proofs.Common.{◌≡◌, ◌∙◌, ◌&&◌, ℕ, List, length, map, ap, inl, sym, subst, arith}
 use Rattle.std.specs.Prelude.{Option, filter}
 use Rattle.std.specs.List.{AllByRecursion}
-use Rattle.fib_list.proofs.Lists.{each-weaker}
+use Rattle.fib_base_list.proofs.Lists.{each-weaker}
 use Rattle.fib_addr.specs.Prefixes.{Prefix}
 use Rattle.fib_resolve.specs.Aims.{marked_list}
 use Rattle.fib_resolve.specs.Touched.{differ}
-use Rattle.fib_changes.specs.Ranks.{is_usable_mark, wakes}
-use Rattle.fib_changes.specs.Wanted.{of_least_mark, spread_marks}
-use Rattle.fib_changes.proofs.Ranking.{ranked}
-use Rattle.fib_entries.specs.Known.{rank_of}
-use Rattle.fib_ledger.specs.declared.ledger.Use.{Use}
-use Rattle.fib_ledger.specs.Ledgers.{record_used}
-use Rattle.fib_ledger.proofs.Books.{total_few}
-use Rattle.fib_joined.specs.Promise.{Promise, MayClear, Serves}
-use Rattle.fib_joined.specs.View.{View}
-use Rattle.fib_stack.specs.Joined.{Parts, balance_in, table_of, was_by}
-use Rattle.fib_stack.specs.Records.{Freed, GaveAll, IsAlone, TookNew, records_for}
+use Rattle.fib_resolve_changes.specs.Ranks.{is_usable_mark, wakes}
+use Rattle.fib_resolve_changes.specs.Wanted.{of_least_mark, spread_marks}
+use Rattle.fib_resolve_changes.proofs.Ranking.{ranked}
+use Rattle.fib_entries_rows.specs.Known.{rank_of}
+use Rattle.fib_stack_ledger.specs.declared.ledger.Use.{Use}
+use Rattle.fib_stack_ledger.specs.Ledgers.{record_used}
+use Rattle.fib_stack_ledger.proofs.Books.{total_few}
+use Rattle.fib_plane_view.specs.Promise.{Promise, MayClear, Serves}
+use Rattle.fib_plane_view.specs.Stores.{StoresEach}
+use Rattle.fib_plane_view.specs.View.{View}
+use Rattle.fib_stack.specs.Joined.{Parts, balance_in, in_change, table_of, was_by}
+use Rattle.fib_stack.specs.Records.{Freed, GaveAll, IsAlone, IsObjectOf, TookNew, records_for}
 use Rattle.fib_stack.specs.States.{forwards_by}
 use Rattle.fib_stack.specs.declared.records.Want.TheVariants as wants
 use Rattle.fib_stack.specs.Turns.{GotObject, IsTurnOf, IsUnderway, balances_for, parts_of}
-use Rattle.fib_woken.specs.Waking.{are_among}
+use Rattle.fib_stack_waking.specs.Waking.{are_among}
 use Rattle.fib_stack.specs.declared.stack.Plan.{Plan}
+use Rattle.fib_stack.proofs.Exact.{stores_room}
+use Rattle.fib_stack.proofs.Calling.{takes_room, takes_then}
 use Rattle.fib_stack.proofs.Beginning.{underway}
 use Rattle.fib_stack.proofs.Finishing.{waits_of}
 use Rattle.fib_stack.proofs.Joining.{table_names}
@@ -188,3 +191,18 @@ returns-clause-taken g c = λ S st.
     (new_then (g.P.Objects.view c.args.on.now) (g.P.Objects.view c.make_room.new.on) (g.P.Objects.view c.take_all.new.on) (g.P.Objects.view c.object_for.new.on) (records_for c.marked-marks.result.now) (records_for (marked_list S c.args.entry))
     (balances_for (balance_in (parts_of c.make_room.new.table c.make_room.new.stack c.make_room.new.queue) c.args.entry)) c.make_room.ensures.same
     (ap records_for (c.marked-marks.ensures S st)) c.in_ok-take_all.ensures.new c.object_for.ensures.taken)
+
+pub make_room-requires : goal.make_room-requires
+make_room-requires g c = let t = c.requires.turn.2 in record { stands = (in_change (g.P.Objects.promise c.args.on.now), t.joined.table) }
+
+pub returns-clause-calls : goal.returns-clause-calls
+returns-clause-calls g c =
+    takes_then _ (g.P.Objects.view c.make_room.new.on) _ (takes_room _ _ c.make_room.ensures.same)
+    (takes_then _ (g.P.Objects.view c.take_all.new.on) _ c.in_ok-take_all.ensures.taken c.object_for.ensures.calls)
+
+pub returns-clause-stores : goal.returns-clause-stores
+returns-clause-stores g c = λ o at.
+    let same = c.object_for.ensures.same o (ap (λ (q : Parts). balance_in q c.args.entry) c.make_room.ensures.parts ∙ at) in
+    let uses = c.take_all.new.uses.items in
+    subst (λ (v : View). StoresEach (λ y k. IsObjectOf uses y) (g.P.Objects.view c.args.on.now) v) (sym same)
+    (stores_room (λ y k. IsObjectOf uses y) (g.P.Objects.view c.args.on.now) (g.P.Objects.view c.make_room.new.on) (g.P.Objects.view c.take_all.new.on) c.make_room.ensures.same c.in_ok-take_all.ensures.stores)

@@ -2,8 +2,8 @@ use Rattle.std.proofs.Common.{Bool, ap}
 use Rattle.std.specs.Prelude.{Option}
 use Rattle.fib_addr.specs.Prefixes.{Prefix}
 use Rattle.fib_resolve.specs.declared.types.End.{End}
-use Rattle.fib_ledger.specs.declared.ledger.Known.{Known}
-use Rattle.fib_ledger.specs.Ledgers.{used_by}
+use Rattle.fib_stack_ledger.specs.declared.ledger.Known.{Known}
+use Rattle.fib_stack_ledger.specs.Ledgers.{used_by}
 use Rattle.fib_ply.specs.Rows.{held}
 use Rattle.fib_stack.specs.Joined.{state_in}
 use Rattle.fib_stack.specs.Records.{holds_in}

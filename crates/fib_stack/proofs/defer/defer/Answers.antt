@@ -1,5 +1,5 @@
 use Rattle.std.proofs.Common.{arith, sym, ap, ◌∙◌}
-use Rattle.fib_ledger.specs.Deferred.{late_at, one_late}
+use Rattle.fib_stack_ledger.specs.Deferred.{late_at, one_late}
 use Rattle.fib_stack.specs.Runs.{put_in, word_in}
 use Rattle.fib_stack.proofs.Deferring.{defer_next, count_next, one_most}
 use Rattle.fib_stack.proofs.defer.defer.Goals as goal

@@ -1,7 +1,7 @@
 use Rattle.std.proofs.Common.{◌≡◌, ◌≤◌, ◌+◌, ◌<◌, ℕ}
 use Rattle.std.specs.Prelude.{None}
 use Rattle.fib_addr.specs.Prefixes.{Prefix}
-use Rattle.fib_ledger.specs.Deferred.{late_at, late_count}
+use Rattle.fib_stack_ledger.specs.Deferred.{late_at, late_count}
 use Rattle.fib_stack.specs.Runs.{deferred_at}
 use Rattle.fib_stack.proofs.defer.defer.Given as goal
 

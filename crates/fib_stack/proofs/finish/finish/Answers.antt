@@ -3,24 +3,27 @@ use Rattle.std.specs.Prelude.{Option, Some, slice_get}
 use Rattle.fib_addr.specs.Prefixes.{Prefix, same_prefix}
 use Rattle.fib_resolve.specs.declared.aims.Marked.{Marked}
 use Rattle.fib_resolve.specs.declared.types.Tables.{Tables}
-use Rattle.fib_changes.specs.Wanted.{aim_of}
+use Rattle.fib_resolve_changes.specs.Wanted.{aim_of}
 use Rattle.fib_pool.specs.declared.object.AdjacencyRecord.{AdjacencyRecord}
-use Rattle.fib_ledger.specs.declared.ledger.Known.{Known}
-use Rattle.fib_ledger.specs.declared.ledger.Use.{Use}
-use Rattle.fib_ledger.specs.Ledgers.{known_of, times, total, used_by}
-use Rattle.fib_ledger.proofs.Books.{times_within}
-use Rattle.fib_serving.specs.Matches.{FitsVersions, IsSometime}
-use Rattle.fib_serving.specs.Stack.{aim_word, is_some}
-use Rattle.fib_joined.specs.Promise.{Promise, MayClear, Serves}
-use Rattle.fib_joined.specs.View.{View}
+use Rattle.fib_stack_ledger.specs.declared.ledger.Known.{Known}
+use Rattle.fib_stack_ledger.specs.declared.ledger.Use.{Use}
+use Rattle.fib_stack_ledger.specs.Ledgers.{known_of, times, total, used_by}
+use Rattle.fib_stack_ledger.proofs.Books.{times_within}
+use Rattle.fib_core_promise.specs.Matches.{FitsVersions, IsSometime}
+use Rattle.fib_core_promise.specs.Stack.{aim_word, is_some}
+use Rattle.fib_plane_view.specs.Promise.{Promise, MayClear, Serves}
+use Rattle.fib_plane_view.specs.Stores.{IsFreed, StoresEach}
+use Rattle.fib_plane_view.specs.View.{View, IsLive}
 use Rattle.fib_ply.specs.Rows.{held}
 use Rattle.fib_ply.specs.Tables.{Stands, object_in}
-use Rattle.fib_queue.specs.Queues.{rank_in}
+use Rattle.fib_stack_queue.specs.Queues.{rank_in}
 use Rattle.fib_stack.specs.Records.{AreObjects, GaveAll}
 use Rattle.fib_stack.specs.Runs.{AreReady, word_in}
 use Rattle.fib_stack.specs.Turns.{IsFinished, IsUnderway, found_in, names_for, parts_of}
-use Rattle.fib_woken.specs.Waking.{are_among, have_ranks}
-use Rattle.fib_stack.proofs.Assembled.{is_restacked, laid_after, restacked}
+use Rattle.fib_stack_waking.specs.Waking.{are_among, have_ranks}
+use Rattle.fib_stack.proofs.Assembled.{has_run, is_restacked, laid_after, restacked}
+use Rattle.fib_stack.proofs.Exact.{turn_stores}
+use Rattle.fib_stack.proofs.Calling.{gives_then}
 use Rattle.fib_stack.proofs.Filled.{filled_by}
 use Rattle.fib_stack.proofs.Finishing.{entry_there, joined_restacked, queue_removed, rank_left}
 use Rattle.fib_stack.proofs.Joining.{begun_of, table_quiet, to_change, to_now}
@@ -176,6 +179,26 @@ steps g c S rank v0 h = record {
 
 pub returns-clause-turn : goal.returns-clause-turn
 returns-clause-turn g c = λ S rank v0 h. is_restacked S rank _ v0 _ _ _ _ c.args.plan.entry c.args.plan.object _ _ _ _ _ _ _ h.ranked h.joined.kept h.least h.joined.laid h.readied (steps g c S rank v0 h)
+
+pub returns-clause-run : goal.returns-clause-run
+returns-clause-run g c = λ S rank v0 u h took.
+    has_run S rank _ v0 _ _ _ _ c.args.plan.entry c.args.plan.object _ _ _ _ _ _ _ h.ranked h.joined.kept h.least h.joined.laid h.readied (steps g c S rank v0 h)
+    u took (gives_then _ _ _ c.give_old.ensures.given c.place.ensures.given)
+
+pub returns-clause-stores : goal.returns-clause-stores
+returns-clause-stores g c = λ S rank v0 u h at f.
+    let v2 = g.P.Objects.view c.args.on.now in
+    let v3 = g.P.Objects.view c.fill-answers.new.on in
+    let v4 = g.P.Objects.view c.give_old.new.on in
+    let v5 = g.P.Objects.view c.place.new.on in
+    let us = c.args.plan.uses.items in
+    let same : v5 ≡ v4 = c.place.ensures.same at in
+    let known = c.set-old.ensures.here ∙ ap (λ (l : List Use). Some (record { forwarded = c.args.plan.forwards; uses = l })) c.from_vec.ensures in
+    let laid = laid_after S rank _ v0 _ _ _ _ c.args.plan.entry c.args.plan.object _ _ _ _ _ _ _ h.ranked h.joined.kept h.least h.joined.laid h.readied (steps g c S rank v0 h) in
+    turn_stores u v2 v3 v5 c.args.plan.object us (g.met.P.Objects.sound c.args.on.now) h.readied.here (laid.balances c.args.plan.entry c.args.plan.object c.place.ensures.here) h.readied.objects
+    (subst (λ (o : Option Known). AreObjects v5 (used_by o)) known (laid.objects c.args.plan.entry))
+    c.fill-answers.ensures.alive (λ y live. c.give_old.ensures.alive y (subst (λ (v : View). IsLive v y) same live))
+    f c.fill-answers.ensures.stores (subst (λ (v : View). StoresEach (λ y t. IsFreed v3 v y) v3 v) (sym same) c.give_old.ensures.stores)
 
 pub returns-clause-joined : goal.returns-clause-joined
 returns-clause-joined g c = λ S rank v0 h.

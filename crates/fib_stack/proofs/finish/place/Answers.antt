@@ -2,6 +2,7 @@ use Rattle.std.proofs.Common.{◌∙◌, ◌-◌, ℕ, ap, arith, rules}
 use Rattle.std.specs.Prelude.{Option}
 use Rattle.fib_addr.specs.Prefixes.{Prefix}
 use Rattle.fib_ply.specs.Tables.{object_in}
+use Rattle.fib_stack.proofs.Calling.{gives_calls, gives_none}
 use Rattle.fib_stack.proofs.Finishing.{added_here, added_there, none_came, some_length}
 use Rattle.fib_stack.proofs.finish.place.Goals as goal
 
@@ -19,3 +20,9 @@ returns-then-is_none-clause-came g c = (c.add.new.self.plies - c.args.table.now.
 
 pub returns-else-is_none-clause-came : goal.returns-else-is_none-clause-came
 returns-else-is_none-clause-came g c = (0, none_came (object_in c.args.table.now) c.args.entry, omega arith)
+
+pub returns-then-is_none-clause-given : goal.returns-then-is_none-clause-given
+returns-then-is_none-clause-given g c = gives_calls _ _ c.add.ensures.none_dropped
+
+pub returns-else-is_none-clause-given : goal.returns-else-is_none-clause-given
+returns-else-is_none-clause-given g c = gives_none _

@@ -1,13 +1,13 @@
 use Rattle.std.proofs.Common.{◌∙◌, ◌<◌, ◌+◌, ℕ, ap, inl, sym, subst, arith}
 use Rattle.std.specs.Prelude.{Option}
 use Rattle.fib_pool.specs.declared.object.AdjacencyRecord.{AdjacencyRecord}
-use Rattle.fib_ledger.specs.declared.ledger.Known.{Known}
-use Rattle.fib_ledger.specs.Ledgers.{known_of, times, total, used_by}
-use Rattle.fib_ledger.proofs.Books.{times_within}
-use Rattle.fib_joined.specs.Promise.{Promise, MayClear, Serves}
+use Rattle.fib_stack_ledger.specs.declared.ledger.Known.{Known}
+use Rattle.fib_stack_ledger.specs.Ledgers.{known_of, times, total, used_by}
+use Rattle.fib_stack_ledger.proofs.Books.{times_within}
+use Rattle.fib_plane_view.specs.Promise.{Promise, MayClear, Serves}
 use Rattle.fib_ply.specs.Tables.{Stands}
-use Rattle.fib_queue.specs.Queues.{rank_in}
-use Rattle.fib_serving.specs.Matches.{FitsVersions}
+use Rattle.fib_stack_queue.specs.Queues.{rank_in}
+use Rattle.fib_core_promise.specs.Matches.{FitsVersions}
 use Rattle.fib_stack.specs.Joined.{balance_in}
 use Rattle.fib_stack.specs.Records.{AreObjects, GaveAll}
 use Rattle.fib_stack.specs.Turns.{IsLeft, parts_of}

@@ -1,7 +1,7 @@
 use Rattle.std.proofs.Common.{◌≡◌, ◌∙◌, ◌<◌, ℕ, ap, sym, subst, arith}
 use Rattle.std.specs.Prelude.{Option, Some}
 use Rattle.fib_addr.specs.Prefixes.{Prefix}
-use Rattle.fib_joined.specs.Promise.{Promise}
+use Rattle.fib_plane_view.specs.Promise.{Promise}
 use Rattle.fib_ply.specs.Tables.{Stands, object_in}
 use Rattle.fib_stack.proofs.Finishing.{gone_none, left_stands, may_let_go, removed_here, removed_there}
 use Rattle.fib_stack.proofs.leave.take_out.Goals as goal

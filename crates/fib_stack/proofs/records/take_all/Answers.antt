@@ -1,12 +1,15 @@
 use Rattle.std.proofs.Common.{◌≡◌, ◌∙◌, ◌≤◌, List, take, refl, sym, subst, arith, rules}
 use Rattle.std.specs.Prelude.{Ok}
 use Rattle.std.specs.List.{AllByRecursion}
-use Rattle.fib_list.proofs.Lists.{each-weaker}
-use Rattle.fib_joined.specs.View.{View}
-use Rattle.fib_ledger.specs.declared.ledger.Use.{Use}
-use Rattle.fib_ledger.specs.Ledgers.{times}
+use Rattle.fib_base_list.proofs.Lists.{each-weaker}
+use Rattle.fib_plane_view.specs.View.{View}
+use Rattle.fib_stack_ledger.specs.declared.ledger.Use.{Use}
+use Rattle.fib_stack_ledger.specs.Ledgers.{times}
 use Rattle.fib_stack.specs.Records.{AreObjects, Freed, GaveAll, IsAlone, TookAll, TookFor, record_for, records_for}
 use Rattle.fib_stack.specs.declared.records.Want.TheVariants as wants
+use Rattle.fib_plane_view.proofs.Storing.{stores_none}
+use Rattle.fib_stack.proofs.Exact.{objects_more, taken_next}
+use Rattle.fib_stack.proofs.Calling.{takes_for, takes_none, takes_then}
 use Rattle.fib_stack.proofs.Leaving.{quiet_none, quiet_then}
 use Rattle.fib_stack.proofs.Listing.{took_none, times_length, enough_users, same_after}
 use Rattle.fib_stack.proofs.Freeing.{alone_none, alone_step, given_back}
@@ -17,6 +20,8 @@ use Rattle.fib_stack.proofs.records.take_all.Goals as goal
 pub loop-mark-init : goal.loop-mark-init
 loop-mark-init g c = record {
   took = subst (λ (us : List Use). TookAll (g.P.Objects.view c.args.on.now) (g.P.Objects.view c.args.on.now) us) (sym c.requires.none) (took_none (g.P.Objects.view c.args.on.now));
+  taken = takes_none _ _ refl;
+  stores = stores_none _ _ _ (λ y t. refl) refl;
   records = search rules;
   new = new_none (g.P.Objects.view c.args.on.now) (records_for (take 0 c.args.marks.now));
   alone = λ m none. alone_none (g.P.Objects.view c.args.on.now) m (g.met.P.Objects.sound c.args.on.now) none;
@@ -74,6 +79,8 @@ loop-mark-preserved g c =
     subst (λ r. TookFor (g.P.Objects.view c.loop-mark.on) (g.P.Objects.view c.take_for.new.on) o c.loop-mark.uses.items c.take_for.new.uses.items r) c.in_default.is c.take_for.ensures.took in
     record {
       took = took_step _ _ _ c.loop-mark.uses.items c.take_for.new.uses.items o c.in_default.field-0 i.took took;
+      stores = taken_next _ _ _ c.loop-mark.uses.items c.take_for.new.uses.items i.took.objects (objects_more _ _ o c.loop-mark.uses.items c.take_for.new.uses.items c.in_default.field-0 took) i.stores c.take_for.ensures.stores;
+      taken = takes_then _ _ _ i.taken (takes_for _ _ o c.loop-mark.uses.items c.take_for.new.uses.items c.in_default.field-0 took);
       records = records_next _ _ c.loop-mark.uses.items c.take_for.new.uses.items c.args.marks.now c.loop-mark.mark-index c.mark-item.result c.in_default.field-0 c.loop-mark-test.true (sym c.mark-item.is) i.records took;
       new = new_next _ _ _ c.loop-mark.uses.items c.take_for.new.uses.items c.args.marks.now c.loop-mark.mark-index c.mark-item.result c.in_default.field-0 c.loop-mark-test.true (sym c.mark-item.is) i.took i.records i.new took;
       alone = alone_step (g.P.Objects.view c.args.on.now) (g.P.Objects.view c.loop-mark.on) (g.P.Objects.view c.take_for.new.on) c.loop-mark.uses.items c.take_for.new.uses.items o c.in_default.field-0 (g.met.P.Objects.sound c.take_for.new.on) i.alone took;

@@ -1,7 +1,7 @@
 use Rattle.std.proofs.Common.{◌≡◌, take}
 use Rattle.std.specs.Prelude.{filter}
-use Rattle.fib_changes.specs.Ranks.{is_usable_mark}
-use Rattle.fib_ledger.specs.Ledgers.{was_in}
+use Rattle.fib_resolve_changes.specs.Ranks.{is_usable_mark}
+use Rattle.fib_stack_ledger.specs.Ledgers.{was_in}
 use Rattle.fib_stack.proofs.wanted.usable.Given as goal
 
 abbrev pub invariant-loop-mark : goal.invariant-loop-mark

@@ -1,8 +1,8 @@
 use Rattle.std.proofs.Common.{arith, ◌≡◌, ◌<◌, ap, sym, ◌∙◌, length}
 use Rattle.std.specs.Prelude.{filter}
-use Rattle.fib_changes.specs.Ranks.{is_usable_mark}
-use Rattle.fib_changes.specs.Wanted.{of_least_mark}
-use Rattle.fib_ledger.specs.Ledgers.{was_in}
+use Rattle.fib_resolve_changes.specs.Ranks.{is_usable_mark}
+use Rattle.fib_resolve_changes.specs.Wanted.{of_least_mark}
+use Rattle.fib_stack_ledger.specs.Ledgers.{was_in}
 use Rattle.fib_stack.proofs.Spreading.{none_spread, few_used, some_used}
 use Rattle.fib_stack.proofs.wanted.wanted.Goals as goal
 

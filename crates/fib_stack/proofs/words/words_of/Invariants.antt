@@ -1,7 +1,7 @@
 use Rattle.std.proofs.Common.{◌≡◌, ◌<◌, ℕ, length}
 use Rattle.std.specs.Prelude.{IfSome, slice_get}
-use Rattle.fib_changes.specs.Wanted.{aim_of}
-use Rattle.fib_serving.specs.Stack.{aim_word}
+use Rattle.fib_resolve_changes.specs.Wanted.{aim_of}
+use Rattle.fib_core_promise.specs.Stack.{aim_word}
 use Rattle.fib_ply.specs.Tables.{object_in}
 use Rattle.fib_stack.specs.Runs.{word_in}
 use Rattle.fib_stack.specs.Turns.{found_in}

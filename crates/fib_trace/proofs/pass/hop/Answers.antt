@@ -1,7 +1,7 @@
 use Rattle.std.proofs.Common.{ap, arith, subst, sym, ◌∙◌}
 use Rattle.fib_core.specs.Walk.{ply, balance, ended}
 use Rattle.fib_core.specs.Trails.{place}
-use Rattle.fib_hops.specs.Stages.{StandsAt}
+use Rattle.fib_core.specs.Stages.{StandsAt}
 use Rattle.fib_worker.proofs.Passing.{Reading, adjacency_hopped, balance_hopped, balance_nears, loaded_place, place3, ply_hopped, ply_low, ply_nears, proper3}
 use Rattle.fib_trace.proofs.Telling.{found, read_three}
 use Rattle.fib_trace.proofs.pass.hop.Goals as goal

@@ -1,6 +1,6 @@
 use Rattle.std.proofs.Common.{arith, ◌∙◌}
-use Rattle.fib_worker.proofs.Runs.{comes_to, few_hops, fewer, hop_keeps, on_unless}
-use Rattle.fib_trace.proofs.Telling.{known_on, way_on}
+use Rattle.fib_worker.proofs.Runs.{comes_to, few_hops, fewer, hop_keeps, on_unless, trail_trans}
+use Rattle.fib_trace.proofs.Telling.{way_on}
 use Rattle.fib_trace.proofs.pass.run.Goals as goal
 
 pub hop-stage-requires-clause-room : goal.hop-stage-requires-clause-room
@@ -27,7 +27,7 @@ loop-stage-preserved c =
     let on = on_unless c.hop-stage.result c.in_default.not-Ended in
     record {
       id = hop.words ∙ inv.id;
-      known = known_on _ _ _ inv.known (hop_keeps _ _ _ _ _ inv.way.running hop.hopped);
+      known = trail_trans _ _ _ inv.known (hop_keeps _ _ _ _ _ inv.way.running hop.hopped);
       way = way_on _ _ _ _ _ c.hop-stage.result _ _ _ inv.way hop.hopped hop.at hop.sound hop.nears on (hop.one on);
       told = hop.told.loads inv.told;
       same = hop.told.objects ∙ inv.same;

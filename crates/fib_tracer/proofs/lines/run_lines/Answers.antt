@@ -1,6 +1,6 @@
 use Rattle.std.proofs.Common.{arith, rules, refl, ap, ◌≡◌, ◌+◌, ◌++◌, sym, ◌∙◌, take, Some}
 use Rattle.std.specs.Prelude.{slice_get}
-use Rattle.fib_turns.specs.Routers.{router_of}
+use Rattle.fib_rounds_turns.specs.Routers.{router_of}
 use Rattle.fib_rounds.specs.Rounds.{stage_of}
 use Rattle.fib_tracer.specs.Lines.{traced_turn}
 use Rattle.fib_tracer.proofs.Going.{gone_more, gone_none, stage_line, taken_at}

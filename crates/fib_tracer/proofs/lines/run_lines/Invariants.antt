@@ -1,6 +1,6 @@
 use Rattle.std.proofs.Common.{◌≡◌, ◌≤◌, ◌-◌, take}
 use Rattle.std.specs.Prelude.{None}
-use Rattle.fib_turns.specs.Routers.{KeepsCrew, applied_in}
+use Rattle.fib_rounds_turns.specs.Routers.{KeepsCrew, applied_in}
 use Rattle.fib_rounds.specs.Rounds.{stage_of}
 use Rattle.fib_tracer.specs.inner.Going.{HasGone}
 use Rattle.fib_tracer.proofs.lines.run_lines.Given as goal

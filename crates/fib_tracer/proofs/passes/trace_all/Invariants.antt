@@ -1,5 +1,5 @@
 use Rattle.std.proofs.Common.{◌≡◌, ◌+◌, ◌≤◌, take, length}
-use Rattle.fib_lawful.specs.State.{left_of}
+use Rattle.fib_core_lawful.specs.State.{left_of}
 use Rattle.fib_tracer.specs.inner.Tracing.{HasTracedAll}
 use Rattle.fib_tracer.proofs.passes.trace_all.Given as goal
 

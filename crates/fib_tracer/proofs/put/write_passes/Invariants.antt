@@ -1,5 +1,5 @@
 use Rattle.std.proofs.Common.{◌≡◌, ◌≤◌, ◌++◌, drop}
-use Rattle.fib_crew.specs.Packets.{Matched}
+use Rattle.fib_worker_crew.specs.Packets.{Matched}
 use Rattle.fib_tracer.specs.Passes.{passes_text}
 use Rattle.fib_tracer.specs.inner.Printing.{HasMoved, IsShort}
 use Rattle.fib_tracer.proofs.put.write_passes.Given as goal

@@ -1,9 +1,9 @@
 use Rattle.std.proofs.Common.{◌≡◌, [], ap, refl, sym, subst, ◌∙◌, Some}
-use Rattle.fib_board.specs.Boards.{Board}
-use Rattle.fib_board.specs.Crews.{Seated}
+use Rattle.fib_core_board.specs.Boards.{Board}
+use Rattle.fib_core_board.specs.Crews.{Seated}
 use Rattle.fib_control.specs.Controls.{Control}
-use Rattle.fib_crew.specs.Packets.{Matched}
-use Rattle.fib_turns.specs.Routers.{applied_in, history_in}
+use Rattle.fib_worker_crew.specs.Packets.{Matched}
+use Rattle.fib_rounds_turns.specs.Routers.{applied_in, history_in}
 use Rattle.fib_tracer.specs.Passes.{AreTraced}
 use Rattle.fib_tracer.specs.inner.Printing.{IsShort}
 use Rattle.fib_tracer.proofs.Standing.{done_by, home_short, home_traced, none_home, settled_known}

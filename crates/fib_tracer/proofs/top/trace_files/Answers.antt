@@ -1,5 +1,5 @@
 use Rattle.std.proofs.Common.{◌≡◌, ◌/◌, ◌⊎◌, ℕ, List, Ok, subst, Some}
-use Rattle.fib_settings.specs.declared.sizes.Settings.{Settings}
+use Rattle.fib_core.specs.declared.settings.Settings.{Settings}
 use Rattle.fib_rounds.proofs.Writing.{on_err}
 use Rattle.fib_rounds.specs.Writes.{Gains}
 use Rattle.fib_run.specs.Files.{IsRead}

@@ -1,6 +1,6 @@
 use Rattle.std.proofs.Common.{◌∙◌, ◌++◌, ◌∷◌, ◌≤◌, [], ap, arith, length, map, sym}
 use Rattle.std.proofs.lemmas.List.{length-map}
-use Rattle.fib_entries.specs.Known.{prefix_of}
+use Rattle.fib_entries_rows.specs.Known.{prefix_of}
 use Rattle.fib_urpf.proofs.Requeued.{one_more, take_all}
 use Rattle.fib_urpf.proofs.queueing.entries_of.Goals as goal
 

@@ -1,5 +1,5 @@
 use Rattle.std.proofs.Common.{arith, inr, refl, sym}
-use Rattle.fib_entries.specs.Known.{rank_of}
+use Rattle.fib_entries_rows.specs.Known.{rank_of}
 use Rattle.fib_urpf.proofs.Requeued.{rekeyed_queued, rekeyed_rank}
 use Rattle.fib_urpf.proofs.queueing.rekey.Goals as goal
 

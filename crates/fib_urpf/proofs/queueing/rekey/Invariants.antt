@@ -1,9 +1,9 @@
 use Rattle.std.proofs.Common.{◌≡◌, ◌≤◌, ◌+◌, ℕ, false, take}
 use Rattle.std.specs.Prelude.{Some, ◌⊎◌, is_some}
 use Rattle.fib_addr.specs.Prefixes.{Prefix}
-use Rattle.fib_entries.specs.Known.{rank_of}
-use Rattle.fib_queue.specs.Queues.{rank_in}
-use Rattle.fib_woken.specs.Waking.{are_among}
+use Rattle.fib_entries_rows.specs.Known.{rank_of}
+use Rattle.fib_stack_queue.specs.Queues.{rank_in}
+use Rattle.fib_stack_waking.specs.Waking.{are_among}
 use Rattle.fib_urpf.proofs.queueing.rekey.Given as goal
 
 abbrev pub invariant-loop-one : goal.invariant-loop-one

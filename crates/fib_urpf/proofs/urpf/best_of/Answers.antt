@@ -1,5 +1,5 @@
 use Rattle.std.proofs.Common.{arith, ◌∙◌}
-use Rattle.fib_effective.proofs.Covering.{best_found, best_none}
+use Rattle.fib_resolve_pairs.proofs.Covering.{best_found, best_none}
 use Rattle.fib_urpf.proofs.urpf.best_of.Goals as goal
 
 pub returns-in-Some : goal.returns-in-Some

@@ -1,8 +1,9 @@
 use Rattle.std.proofs.Common.{ap, arith, subst, sym, ◌∙◌}
+use Rattle.fib_core.specs.declared.word.Word.TheVariants as words
 use Rattle.fib_core.specs.Walk.{ply, balance, ended}
 use Rattle.fib_core.specs.Trails.{place}
-use Rattle.fib_hops.specs.Stages.{StandsAt}
-use Rattle.fib_worker.proofs.Passing.{Reading, adjacency_hopped, balance_hopped, balance_nears, loaded, loaded_place, place3, ply_hopped, ply_low, ply_nears, proper3}
+use Rattle.fib_core.specs.Stages.{StandsAt}
+use Rattle.fib_worker.proofs.Passing.{Reading, reading_first, reading_second, reading_third, adjacency_hopped, balance_hopped, balance_nears, loaded, loaded_place, place3, ply_hopped, ply_low, ply_nears, proper3}
 use Rattle.fib_worker.proofs.hops.hop_on.Goals as goal
 
 pub nibble-requires : goal.nibble-requires
@@ -11,35 +12,54 @@ nibble-requires c =
     let low = ply_low c.args.addr c.args.hash _ _ c.args.seat.now.worker at c.requires.follows c.requires.sound in
     omega arith
 
-reading : (c : goal.After-word-mac)
-    → Reading c.args.addr c.args.hash c.in-Adjacency.object c.args.seat.now.worker c.word-interface.new.self.worker c.word-hop.new.self.worker c.word-mac.new.self.worker
-    c.word-interface.result c.word-hop.result c.word-mac.result
+reading : (c : goal.After-number-mac)
+    → Reading c.args.addr c.args.hash c.in-Adjacency.object c.args.seat.now.worker c.number-interface.new.self.worker c.number-hop.new.self.worker c.number-mac.new.self.worker
+    (words.Plain c.number-interface.result) (words.Plain c.number-hop.result) (words.Plain c.number-mac.result)
 reading c = record {
   at = subst (StandsAt c.args.hash (place c.args.seat.now.worker.trail)) c.in-Adjacency.is c.requires.at;
   follows = c.requires.follows;
-  first = loaded _ _ 0 _ c.word-interface.ensures.loaded c.word-interface.ensures.roomy;
-  second = loaded _ _ 1 _ c.word-hop.ensures.loaded c.word-hop.ensures.roomy;
-  third = loaded _ _ 2 _ c.word-mac.ensures.loaded c.word-mac.ensures.roomy;
+  first = loaded _ _ 0 _ c.number-interface.ensures.loaded c.number-interface.ensures.roomy;
+  second = loaded _ _ 1 _ c.number-hop.ensures.loaded c.number-hop.ensures.roomy;
+  third = loaded _ _ 2 _ c.number-mac.ensures.loaded c.number-mac.ensures.roomy;
   sound = c.requires.sound;
-  sound1 = c.word-interface.ensures.sound;
-  sound2 = c.word-hop.ensures.sound;
-  sound3 = c.word-mac.ensures.sound;
+  sound1 = c.number-interface.ensures.sound;
+  sound2 = c.number-hop.ensures.sound;
+  sound3 = c.number-mac.ensures.sound;
 }
 
 reading_after : (c : goal.After-adjacency_end)
-    → Reading c.args.addr c.args.hash c.in-Adjacency.object c.args.seat.now.worker c.word-interface.new.self.worker c.word-hop.new.self.worker c.word-mac.new.self.worker
-    c.word-interface.result c.word-hop.result c.word-mac.result
+    → Reading c.args.addr c.args.hash c.in-Adjacency.object c.args.seat.now.worker c.number-interface.new.self.worker c.number-hop.new.self.worker c.number-mac.new.self.worker
+    (words.Plain c.number-interface.result) (words.Plain c.number-hop.result) (words.Plain c.number-mac.result)
 reading_after c = record {
   at = subst (StandsAt c.args.hash (place c.args.seat.now.worker.trail)) c.in-Adjacency.is c.requires.at;
   follows = c.requires.follows;
-  first = loaded _ _ 0 _ c.word-interface.ensures.loaded c.word-interface.ensures.roomy;
-  second = loaded _ _ 1 _ c.word-hop.ensures.loaded c.word-hop.ensures.roomy;
-  third = loaded _ _ 2 _ c.word-mac.ensures.loaded c.word-mac.ensures.roomy;
+  first = loaded _ _ 0 _ c.number-interface.ensures.loaded c.number-interface.ensures.roomy;
+  second = loaded _ _ 1 _ c.number-hop.ensures.loaded c.number-hop.ensures.roomy;
+  third = loaded _ _ 2 _ c.number-mac.ensures.loaded c.number-mac.ensures.roomy;
   sound = c.requires.sound;
-  sound1 = c.word-interface.ensures.sound;
-  sound2 = c.word-hop.ensures.sound;
-  sound3 = c.word-mac.ensures.sound;
+  sound1 = c.number-interface.ensures.sound;
+  sound2 = c.number-hop.ensures.sound;
+  sound3 = c.number-mac.ensures.sound;
 }
+
+pub number-interface-requires-clause-reading : goal.number-interface-requires-clause-reading
+number-interface-requires-clause-reading c =
+    reading_first c.args.addr c.args.hash c.in-Adjacency.object c.args.seat.now.worker
+    (subst (StandsAt c.args.hash (place c.args.seat.now.worker.trail)) c.in-Adjacency.is c.requires.at) c.requires.follows
+
+pub number-hop-requires-clause-reading : goal.number-hop-requires-clause-reading
+number-hop-requires-clause-reading c =
+    reading_second c.args.addr c.args.hash c.in-Adjacency.object c.args.seat.now.worker c.number-interface.new.self.worker (words.Plain c.number-interface.result)
+    (subst (StandsAt c.args.hash (place c.args.seat.now.worker.trail)) c.in-Adjacency.is c.requires.at) c.requires.follows c.requires.sound
+    (loaded _ _ 0 _ c.number-interface.ensures.loaded c.number-interface.ensures.roomy)
+
+pub number-mac-requires-clause-reading : goal.number-mac-requires-clause-reading
+number-mac-requires-clause-reading c =
+    reading_third c.args.addr c.args.hash c.in-Adjacency.object c.args.seat.now.worker c.number-interface.new.self.worker c.number-hop.new.self.worker
+    (words.Plain c.number-interface.result) (words.Plain c.number-hop.result)
+    (subst (StandsAt c.args.hash (place c.args.seat.now.worker.trail)) c.in-Adjacency.is c.requires.at) c.requires.follows c.requires.sound
+    (loaded _ _ 0 _ c.number-interface.ensures.loaded c.number-interface.ensures.roomy) c.number-interface.ensures.sound
+    (loaded _ _ 1 _ c.number-hop.ensures.loaded c.number-hop.ensures.roomy)
 
 pub adjacency_end-requires-clause-interface : goal.adjacency_end-requires-clause-interface
 adjacency_end-requires-clause-interface c = (proper3 c.args.addr c.args.hash _ _ _ _ _ _ _ _ (reading c)).0

@@ -1,5 +1,5 @@
-use Rattle.test_urpf.specs.Rigs.{IsKept}
+use Rattle.test_urpf.specs.Rigs.{IsRigged}
 use Rattle.test_urpf.proofs.rig.settle.Given as goal
 
 abbrev pub invariant-loop-turn : goal.invariant-loop-turn
-invariant-loop-turn l = IsKept l.rig
+invariant-loop-turn l = IsRigged l.rig

@@ -2,7 +2,7 @@ use Rattle.std.proofs.Common.{◌+◌, ◌*◌, ◌<◌, ap, sym, ◌∙◌, sub
 use Rattle.std.specs.Prelude.{slice_index}
 use Rattle.std.proofs.lemmas.Grind.{get_or_default_zero}
 use Rattle.fib_core.specs.Words.{IsWord, decoded}
-use Rattle.fib_board.specs.Boards.{Board}
+use Rattle.fib_core_board.specs.Boards.{Board}
 use Rattle.fib_cells.specs.inner.Told.{control_of}
 use Rattle.fib_cells.proofs.Sittings.{cell_inside_copy, copy_word}
 use Rattle.fib_cells.proofs.board.LiveBoardBoard.load.Goals as goal

@@ -1,6 +1,6 @@
 use Rattle.std.proofs.Common.{[], subst}
-use Rattle.fib_board.specs.Boards.{Board}
-use Rattle.fib_board.specs.Told.{IsBoard}
+use Rattle.fib_core_board.specs.Boards.{Board}
+use Rattle.fib_core_board.specs.Told.{IsBoard}
 use Rattle.fib_cells.specs.Seats.{id_of}
 use Rattle.fib_cells.proofs.Sittings.{within}
 use Rattle.fib_cells.proofs.board.LiveBoardBoard.tells.Goals as goal

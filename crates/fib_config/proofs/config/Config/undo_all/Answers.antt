@@ -7,8 +7,8 @@ use Rattle.fib_config.proofs.config.Config.undo_all.Goals as goal
 pub invariant_of-self : goal.invariant_of-self
 invariant_of-self c = record {
   fine = record {
-    sound = subst IsSound (ap (λ (s : Setup). undone_all c.args.undos.items s.tables) (sym c.self.view_is) ∙ sym c.take_all_back.ensures) c.requires;
+    sound = subst IsSound (ap (λ (s : Setup). undone_all c.args.undos.items s.tables) (sym c.self.view_is) ∙ sym c.take_all_back.ensures.tables) c.requires;
     room = c.self.invariant.fine.room;
   };
-  digest = c.unknown.ensures _;
+  digest = c.forget_bound.ensures _ c.take_all_back.ensures.keys;
 }

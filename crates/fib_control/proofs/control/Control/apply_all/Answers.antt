@@ -1,7 +1,7 @@
 use Rattle.std.proofs.Common.{◌≡◌, ◌-◌, ◌^◌, ◌<◌, ◌≤◌, ℕ, refl, sym, ap, ◌∙◌, subst, arith}
 use Rattle.fib_resolve.specs.declared.types.Tables.{Tables}
 use Rattle.fib_config.specs.Config.{Setup}
-use Rattle.fib_board.specs.Boards.{board_begun}
+use Rattle.fib_core_board.specs.Boards.{board_begun}
 use Rattle.fib_plane.specs.Planes.{Plane}
 use Rattle.fib_control.specs.Controls.{Control, IsQuiet, tables_in}
 use Rattle.fib_control.proofs.Kept.{Tells, changed_like, changed_standing, may_begin, never_crowded}

@@ -1,5 +1,5 @@
 use Rattle.std.proofs.Common.{ap, subst}
-use Rattle.fib_entries.specs.Known.{StandsFor}
+use Rattle.fib_entries_rows.specs.Known.{StandsFor}
 use Rattle.fib_control.specs.Controls.{tables_in}
 use Rattle.fib_control.proofs.control.Control.entries.Goals as goal
 

@@ -1,7 +1,7 @@
 use Rattle.std.proofs.Common.{◌≡◌, refl, sym, ap, ◌∙◌, subst, length}
 use Rattle.std.proofs.lemmas.List.{length-map}
 use Rattle.fib_plane.specs.Planes.{Plane}
-use Rattle.fib_shared.specs.Shares.{copy_seen}
+use Rattle.fib_plane.specs.Views.{copy_seen}
 use Rattle.fib_control.specs.Controls.{Control}
 use Rattle.fib_control.specs.inner.Standing.{IsStanding}
 use Rattle.fib_control.proofs.Kept.{may_settle, settled_standing}

@@ -2,11 +2,11 @@ use Rattle.std.proofs.Common.{◌≡◌, ◌∷◌, [], ◌/◌, ℕ, ◌-◌, �
 use Rattle.fib_addr.specs.Longest.{everything}
 use Rattle.fib_resolve.specs.Tables.{fresh}
 use Rattle.fib_config.specs.Config.{Setup}
-use Rattle.fib_entries.specs.Known.{prefix_of}
-use Rattle.fib_board.specs.Boards.{Board}
-use Rattle.fib_joined.specs.Promise.{Promise}
-use Rattle.fib_quiet.proofs.Early.{tried_clear}
-use Rattle.fib_shared.specs.Shares.{copy_seen, promise_of, view_of}
+use Rattle.fib_entries_rows.specs.Known.{prefix_of}
+use Rattle.fib_core_board.specs.Boards.{Board}
+use Rattle.fib_plane_view.specs.Promise.{Promise}
+use Rattle.fib_control_quiet.proofs.Early.{tried_clear}
+use Rattle.fib_plane.specs.Views.{copy_seen, promise_of, view_of}
 use Rattle.fib_control.specs.Controls.{Control}
 use Rattle.fib_control.specs.inner.Starting.{IsStarted}
 use Rattle.fib_control.proofs.Born.{born, born_like, fresh_free}

@@ -1,11 +1,11 @@
 use Rattle.std.proofs.Common.{◌≡◌, List, [], map, refl, sym, ap, ◌∙◌, subst, length}
 use Rattle.fib_core.specs.Union.{Retired as Copy}
-use Rattle.fib_queue.specs.Queues.{rank_in}
-use Rattle.fib_queue.specs.declared.order.Queued.{Queued}
-use Rattle.fib_serving.specs.Stack.{is_some}
-use Rattle.fib_shared.specs.Shares.{copy_seen}
+use Rattle.fib_stack_queue.specs.Queues.{rank_in}
+use Rattle.fib_stack_queue.specs.declared.order.Queued.{Queued}
+use Rattle.fib_core_promise.specs.Stack.{is_some}
+use Rattle.fib_plane.specs.Views.{copy_seen}
 use Rattle.fib_stack.specs.Steps.{Retried}
-use Rattle.fib_control.specs.Controls.{Control, had_turn, parts_in, rank_by, state_now, tables_in}
+use Rattle.fib_control.specs.Controls.{Control, Takes, had_turn, parts_in, rank_by, state_now, tables_in}
 use Rattle.fib_control.proofs.Resting.{is_ranked}
 use Rattle.fib_control.proofs.Turned.{beneath, empty_by, empty_from, order_same}
 use Rattle.fib_control.proofs.control.Control.retry.Goals as goal
@@ -43,3 +43,9 @@ returns-clause-retried g c =
     let old : Control = record { setup = c.self.inside.config; entries = c.self.inside.entries; plane = c.self.inside.shared.plane; rows = c.self.inside.table.rows.members; plies = c.self.inside.table.plies; known = c.self.inside.stack.ledger.rows; late = c.self.inside.stack.late.members; queue = c.self.inside.queue.members; done = c.self.inside.done.items } in
     let new : Control = record old { plane = c.retry.new.on.plane; known = c.retry.new.self.ledger.rows; late = c.retry.new.self.late.members } in
     subst (λ (x : Control). Retried (state_now x) (state_now new)) c.self.view_is (c.retry.ensures.retried (tables_in old) (rank_by old) c.self.invariant.0.joined)
+
+pub returns-clause-takes : goal.returns-clause-takes
+returns-clause-takes g c =
+    let old : Control = record { setup = c.self.inside.config; entries = c.self.inside.entries; plane = c.self.inside.shared.plane; rows = c.self.inside.table.rows.members; plies = c.self.inside.table.plies; known = c.self.inside.stack.ledger.rows; late = c.self.inside.stack.late.members; queue = c.self.inside.queue.members; done = c.self.inside.done.items } in
+    let new : Control = record old { plane = c.retry.new.on.plane; known = c.retry.new.self.ledger.rows; late = c.retry.new.self.late.members } in
+    subst (λ (x : Control). Takes x new) c.self.view_is (c.retry.ensures.takes (tables_in old))

@@ -1,5 +1,5 @@
 use Rattle.std.proofs.Common.{subst}
-use Rattle.fib_changes.specs.Ranks.{IsRanked}
+use Rattle.fib_resolve_changes.specs.Ranks.{IsRanked}
 use Rattle.fib_control.specs.Controls.{Control, rank_by, tables_in}
 use Rattle.fib_control.proofs.Resting.{is_ranked}
 use Rattle.fib_control.proofs.control.Control.tells.Goals as goal

@@ -2,12 +2,13 @@ use Rattle.std.proofs.Common.{◌≡◌, ◌<◌, List, refl, sym, ap, ◌∙◌
 use Rattle.std.specs.Prelude.{Err}
 use Rattle.fib_addr.specs.Prefixes.{Prefix}
 use Rattle.fib_reach.specs.Walks.{AllDiffer}
-use Rattle.fib_stack.specs.Done.{TurnDone}
+use Rattle.fib_stack.specs.Done.{RunDone, StoresDiffering, TurnDone}
+use Rattle.fib_ply.specs.Rows.{held}
 use Rattle.fib_stack.specs.Joined.{Parts}
-use Rattle.fib_queue.specs.Queues.{rank_in}
-use Rattle.fib_serving.specs.Stack.{is_some}
-use Rattle.fib_woken.specs.Waking.{is_among}
-use Rattle.fib_control.specs.Controls.{Control, IsDoneAfter, had_turn, noted, parts_in, rank_by, state_now, tables_in}
+use Rattle.fib_stack_queue.specs.Queues.{rank_in}
+use Rattle.fib_core_promise.specs.Stack.{is_some}
+use Rattle.fib_stack_waking.specs.Waking.{is_among}
+use Rattle.fib_control.specs.Controls.{Control, IsDoneAfter, Takes, had_turn, noted, parts_in, rank_by, state_now, tables_in, view_in}
 use Rattle.fib_control.proofs.Resting.{is_ranked}
 use Rattle.fib_control.proofs.Turned.{beneath, busy_waits, noted_after, order_same, turned_once, turned_order}
 use Rattle.fib_control.proofs.control.Control.turn.Goals as goal
@@ -57,3 +58,23 @@ memory_of-requires g c =
     let old : Control = record { setup = c.self.inside.config; entries = c.self.inside.entries; plane = c.self.inside.shared.plane; rows = c.self.inside.table.rows.members; plies = c.self.inside.table.plies; known = c.self.inside.stack.ledger.rows; late = c.self.inside.stack.late.members; queue = c.self.inside.queue.members; done = c.self.inside.done.items } in
     let waits = busy_waits old c.self.invariant.0 c.len.result c.len.ensures c.if-len-eq0.false in
     λ is. c.in-Err.ensures.finds (c.self.invariant.0.roomy (omega (arith, waits))) (ap (λ w. Err w) is)
+
+pub returns-in-Ok-clause-takes : goal.returns-in-Ok-clause-takes
+returns-in-Ok-clause-takes g c =
+    let new : Control = record { setup = c.self.inside.config; entries = c.self.inside.entries; plane = c.restack.new.shared.plane; rows = c.restack.new.table.rows.members; plies = c.restack.new.table.plies; known = c.restack.new.stack.ledger.rows; late = c.restack.new.stack.late.members; queue = c.restack.new.queue.members; done = c.note.new.done.items } in
+    subst (λ (x : Control). Takes x new) c.self.view_is c.restack.ensures.takes
+
+pub returns-in-Err-clause-takes : goal.returns-in-Err-clause-takes
+returns-in-Err-clause-takes g c =
+    let new : Control = record { setup = c.self.inside.config; entries = c.self.inside.entries; plane = c.restack.new.shared.plane; rows = c.restack.new.table.rows.members; plies = c.restack.new.table.plies; known = c.restack.new.stack.ledger.rows; late = c.restack.new.stack.late.members; queue = c.restack.new.queue.members; done = c.reserve.new.self.items } in
+    subst (λ (x : Control). Takes x new) c.self.view_is c.restack.ensures.takes
+
+pub returns-in-Ok-clause-run : goal.returns-in-Ok-clause-run
+returns-in-Ok-clause-run g c =
+    let new : Control = record { setup = c.self.inside.config; entries = c.self.inside.entries; plane = c.restack.new.shared.plane; rows = c.restack.new.table.rows.members; plies = c.restack.new.table.plies; known = c.restack.new.stack.ledger.rows; late = c.restack.new.stack.late.members; queue = c.restack.new.queue.members; done = c.note.new.done.items } in
+    subst (λ (x : Control). RunDone (tables_in x) c.in-Ok.turn (view_in x) (view_in new) (state_now new)) c.self.view_is c.in-Ok.ensures.run
+
+pub returns-in-Ok-clause-exact : goal.returns-in-Ok-clause-exact
+returns-in-Ok-clause-exact g c =
+    let new : Control = record { setup = c.self.inside.config; entries = c.self.inside.entries; plane = c.restack.new.shared.plane; rows = c.restack.new.table.rows.members; plies = c.restack.new.table.plies; known = c.restack.new.stack.ledger.rows; late = c.restack.new.stack.late.members; queue = c.restack.new.queue.members; done = c.note.new.done.items } in
+    subst (λ (x : Control). StoresDiffering (tables_in x) c.in-Ok.turn (held x.rows) (view_in x) (view_in new)) c.self.view_is c.in-Ok.ensures.exact

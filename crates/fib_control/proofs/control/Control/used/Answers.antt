@@ -1,6 +1,6 @@
 use Rattle.std.proofs.Common.{◌≡◌, ◌∙◌, [], subst}
 use Rattle.fib_resolve.specs.Sizes.{size}
-use Rattle.fib_quiet.specs.Rest.{IsAccounted}
+use Rattle.fib_control_quiet.specs.Rest.{IsAccounted}
 use Rattle.fib_control.specs.Controls.{Control, IsQuiet, tables_in}
 use Rattle.fib_control.proofs.Kept.{Tells, used_drained, used_quiet}
 use Rattle.fib_control.proofs.control.Control.used.Goals as goal

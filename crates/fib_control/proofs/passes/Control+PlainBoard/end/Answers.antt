@@ -1,8 +1,8 @@
 use Rattle.std.proofs.Common.{sym, subst}
-use Rattle.fib_board.specs.Boards.{Board}
-use Rattle.fib_plainboard.specs.Passes.{pass_ended}
+use Rattle.fib_core_board.specs.Boards.{Board}
+use Rattle.fib_core_plainboard.specs.Passes.{pass_ended}
 use Rattle.fib_plane.specs.Planes.{Plane}
-use Rattle.fib_results.specs.Steady.{IsSteady}
+use Rattle.fib_core_results.specs.Steady.{IsSteady}
 use Rattle.fib_control.specs.Controls.{Control}
 use Rattle.fib_control.specs.inner.Standing.{IsStanding}
 use Rattle.fib_control.proofs.Kept.{passed_standing}

@@ -1,6 +1,6 @@
 use Rattle.std.proofs.Common.{sym, subst}
-use Rattle.fib_board.specs.Boards.{Board}
-use Rattle.fib_plainboard.specs.Passes.{hopped_on}
+use Rattle.fib_core_board.specs.Boards.{Board}
+use Rattle.fib_core_plainboard.specs.Passes.{hopped_on}
 use Rattle.fib_plane.specs.Planes.{Plane}
 use Rattle.fib_control.specs.Controls.{Control}
 use Rattle.fib_control.specs.inner.Standing.{IsStanding}

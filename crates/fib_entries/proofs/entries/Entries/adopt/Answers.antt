@@ -1,13 +1,13 @@
 use Rattle.std.proofs.Common.{◌≡◌, List, [], Option, None, Some, map, refl, sym, ap, ◌∙◌, subst, slice_get}
 use Rattle.std.specs.Prelude.{IfNone, IfSome}
 use Rattle.fib_addr.specs.Prefixes.{Prefix}
-use Rattle.fib_entries.specs.Known.{Known, PathKept, content_of, prefix_of}
-use Rattle.fib_entries.specs.Rows.{Row}
+use Rattle.fib_entries_rows.specs.Known.{Known, PathKept, content_of, prefix_of}
+use Rattle.fib_entries_rows.specs.Rows.{Row}
 use Rattle.fib_entries.specs.inner.Adopting.{IsAdopted, IsBetween, IsKin, opened}
-use Rattle.fib_entries.specs.declared.changes.Followed.{Followed}
+use Rattle.fib_entries_rows.specs.declared.changes.Followed.{Followed}
 use Rattle.fib_entries.proofs.Adopted.{adopted_fields, fields_unopened, set_opened}
-use Rattle.fib_entries.proofs.Exits.{fields_noted, indexed_more}
-use Rattle.fib_entries.proofs.Following.{known}
+use Rattle.fib_entries_rows.proofs.Exits.{fields_noted, indexed_more}
+use Rattle.fib_entries_rows.proofs.Following.{known}
 use Rattle.fib_entries.proofs.entries.Entries.adopt.Goals as goal
 
 pub come_between-requires-clause-several : goal.come_between-requires-clause-several

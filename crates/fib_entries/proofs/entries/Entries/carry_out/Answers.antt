@@ -1,11 +1,11 @@
 use Rattle.std.proofs.Common.{arith, ◌≡◌, ◌+◌, ◌-◌, ◌≤◌, List, ◌∷◌, ◌++◌, map, sym, ap₂, ◌∙◌, subst}
 use Rattle.fib_resolve.specs.Edits.{with_routes}
 use Rattle.fib_resolve.specs.declared.types.Path.{Path}
-use Rattle.fib_entries.specs.Known.{Known}
-use Rattle.fib_entries.specs.inner.Course.{IsCourse}
-use Rattle.fib_entries.specs.inner.Raising.{moved_from}
-use Rattle.fib_entries.specs.inner.Reaching.{HasReached, gone_moved, late_moved, turned_hosts}
-use Rattle.fib_entries.proofs.Following.{known}
+use Rattle.fib_entries_rows.specs.Known.{Known}
+use Rattle.fib_entries_rows.specs.inner.Course.{IsCourse}
+use Rattle.fib_entries_rows.specs.inner.Raising.{moved_from}
+use Rattle.fib_entries_rows.specs.inner.Reaching.{HasReached, gone_moved, late_moved, turned_hosts}
+use Rattle.fib_entries_rows.proofs.Following.{known}
 use Rattle.fib_entries.proofs.ReachedBy.{course_beside, followed_reached, lone, lone_list}
 use Rattle.fib_entries.proofs.entries.Entries.carry_out.Goals as goal
 

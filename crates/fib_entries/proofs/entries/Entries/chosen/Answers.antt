@@ -1,8 +1,8 @@
 use Rattle.std.proofs.Common.{◌≡◌, Some, None, sym, ap, ◌∙◌, subst, refl, List, [], ◌∷◌, slice_get}
-use Rattle.fib_entries.specs.Known.{ArePairs, row_of, content_of}
-use Rattle.fib_interned.proofs.Finding.{none_some, contains_at}
-use Rattle.fib_interned.proofs.Finding.{some_is}
-use Rattle.fib_entries.proofs.Standing.{row_there, row_entry, no_entry, never_none, first_chosen, is_chosen, none_chosen, pairs_at}
+use Rattle.fib_entries_rows.specs.Known.{ArePairs, row_of, content_of}
+use Rattle.fib_base_interned.proofs.Finding.{none_some, contains_at}
+use Rattle.fib_base_interned.proofs.Finding.{some_is}
+use Rattle.fib_entries_rows.proofs.Standing.{row_there, row_entry, no_entry, never_none, first_chosen, is_chosen, none_chosen, pairs_at}
 use Rattle.fib_entries.proofs.entries.Entries.chosen.Goals as goal
 
 head_is : {X : Type 0} (xs : List X) (p : X) → slice_get xs 0 ≡ Some p → (ps : List X) × (xs ≡ p ∷ ps)

@@ -1,6 +1,6 @@
 use Rattle.std.proofs.Common.{arith, ◌≡◌, ◌<◌, ◌^◌, ap, ◌∙◌, subst, ℕ, Some, None}
 use Rattle.std.proofs.Common.{map}
-use Rattle.fib_entries.specs.Known.{prefix_of}
+use Rattle.fib_entries_rows.specs.Known.{prefix_of}
 use Rattle.fib_cover.specs.Covers.{IsLongestMatch}
 use Rattle.fib_entries.proofs.Covering.{cover_found, cover_none}
 use Rattle.fib_entries.proofs.entries.Entries.cover.Goals as goal

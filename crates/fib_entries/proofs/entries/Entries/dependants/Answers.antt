@@ -1,9 +1,9 @@
 use Rattle.std.proofs.Common.{sym, ap, ◌∙◌, subst}
-use Rattle.fib_entries.specs.Known.{row_of}
+use Rattle.fib_entries_rows.specs.Known.{row_of}
 use Rattle.std.specs.Prelude.{Contains}
 use Rattle.fib_reach.specs.Walks.{AllDiffer}
-use Rattle.fib_list.proofs.Lists.{Contains-nil}
-use Rattle.fib_entries.proofs.Standing.{row_there, leads_there, none_leads}
+use Rattle.fib_base_list.proofs.Lists.{Contains-nil}
+use Rattle.fib_entries_rows.proofs.Standing.{row_there, leads_there, none_leads}
 use Rattle.fib_entries.proofs.entries.Entries.dependants.Goals as goal
 
 pub returns-in-Some-clause-once : goal.returns-in-Some-clause-once

@@ -1,14 +1,14 @@
 use Rattle.std.proofs.Common.{arith, ◌<◌, ℕ, List, length, refl, sym, ap, ◌∙◌, subst, slice_get}
 use Rattle.std.specs.Prelude.{Contains, option_and_then}
 use Rattle.std.proofs.lemmas.Option.{slice_get_read}
-use Rattle.fib_changes.proofs.Edits.{in_front}
-use Rattle.fib_interned.specs.Interned.{AreInterned}
-use Rattle.fib_interned.proofs.Finding.{contains_at}
+use Rattle.fib_resolve_changes.proofs.Edits.{in_front}
+use Rattle.fib_base_interned.specs.Interned.{AreInterned}
+use Rattle.fib_base_interned.proofs.Finding.{contains_at}
 use Rattle.fib_resolve.specs.declared.types.FibSource.{FibSource}
-use Rattle.fib_entries.specs.Known.{Known}
-use Rattle.fib_entries.specs.inner.Under.{HasBest, IsBared}
+use Rattle.fib_entries_rows.specs.Known.{Known}
+use Rattle.fib_entries_rows.specs.inner.Under.{HasBest, IsBared}
 use Rattle.fib_entries.proofs.Baring.{bared_at, fields_bared, missed_best, missed_row}
-use Rattle.fib_entries.proofs.Standing.{row_there}
+use Rattle.fib_entries_rows.proofs.Standing.{row_there}
 use Rattle.fib_entries.proofs.entries.Entries.drop_best.Goals as goal
 
 pub returns-in_default-clause-bared : goal.returns-in_default-clause-bared

@@ -2,15 +2,15 @@ use Rattle.std.proofs.Common.{List, ◌∷◌, [], Option, map, refl, subst}
 use Rattle.std.specs.Prelude.{IfSome}
 use Rattle.fib_addr.specs.Prefixes.{Prefix}
 use Rattle.fib_resolve.specs.declared.types.Tables.{Tables}
-use Rattle.fib_changes.specs.Differ.{Differ}
-use Rattle.fib_changes.specs.declared.change.Change.TheVariants as changes
-use Rattle.fib_entries.specs.Known.{Known, StandsFor, prefix_of}
+use Rattle.fib_resolve_changes.specs.Differ.{Differ}
+use Rattle.fib_resolve_changes.specs.declared.change.Change.TheVariants as changes
+use Rattle.fib_entries_rows.specs.Known.{Known, StandsFor, prefix_of}
 use Rattle.fib_entries.specs.inner.Above.{IsAbove, IsOver}
-use Rattle.fib_entries.specs.inner.Leaf.{IsFollowed}
-use Rattle.fib_entries.specs.Rows.{Row}
+use Rattle.fib_entries_rows.specs.inner.Leaf.{IsFollowed}
+use Rattle.fib_entries_rows.specs.Rows.{Row}
 use Rattle.fib_entries.specs.declared.above.Above.{Above}
-use Rattle.fib_entries.proofs.Exits.{fields_with}
-use Rattle.fib_entries.proofs.Following.{known}
+use Rattle.fib_entries_rows.proofs.Exits.{fields_with}
+use Rattle.fib_entries_rows.proofs.Following.{known}
 use Rattle.fib_entries.proofs.GateFields.{several_more}
 use Rattle.fib_entries.proofs.Overtaking.{above_kept, followed_above}
 use Rattle.fib_entries.proofs.entries.Entries.follow_above.Goals as goal

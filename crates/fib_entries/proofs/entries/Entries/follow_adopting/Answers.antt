@@ -2,16 +2,16 @@ use Rattle.std.proofs.Common.{arith, ◌≡◌, List, ◌∷◌, [], Option, Som
 use Rattle.std.specs.Prelude.{IfSome}
 use Rattle.fib_addr.specs.Prefixes.{Prefix}
 use Rattle.fib_resolve.specs.declared.types.Tables.{Tables}
-use Rattle.fib_changes.specs.Differ.{Differ}
-use Rattle.fib_changes.specs.declared.change.Change.TheVariants as changes
-use Rattle.fib_entries.specs.Known.{Known, StandsFor, prefix_of}
-use Rattle.fib_entries.specs.Rows.{Row}
+use Rattle.fib_resolve_changes.specs.Differ.{Differ}
+use Rattle.fib_resolve_changes.specs.declared.change.Change.TheVariants as changes
+use Rattle.fib_entries_rows.specs.Known.{Known, StandsFor, prefix_of}
+use Rattle.fib_entries_rows.specs.Rows.{Row}
 use Rattle.fib_entries.specs.inner.Adopting.{IsAdopted, IsBetween, IsKin, opened}
-use Rattle.fib_entries.specs.inner.Leaf.{IsFollowed}
+use Rattle.fib_entries_rows.specs.inner.Leaf.{IsFollowed}
 use Rattle.fib_entries.specs.declared.adopting.Kin.{Kin}
-use Rattle.fib_entries.specs.declared.changes.Followed.{Followed}
+use Rattle.fib_entries_rows.specs.declared.changes.Followed.{Followed}
 use Rattle.fib_entries.proofs.Adopted.{followed_adopted}
-use Rattle.fib_entries.proofs.Following.{known}
+use Rattle.fib_entries_rows.proofs.Following.{known}
 use Rattle.fib_entries.proofs.entries.Entries.follow_adopting.Goals as goal
 
 pub adopt-requires-clause-kin : goal.adopt-requires-clause-kin

@@ -2,14 +2,14 @@ use Rattle.std.proofs.Common.{◌≡◌, ◌+◌, List, ◌∷◌, [], None, ref
 use Rattle.std.specs.Prelude.{Contains}
 use Rattle.fib_resolve.specs.declared.types.Path.{Path}
 use Rattle.fib_resolve.specs.declared.types.Tables.{Tables}
-use Rattle.fib_changes.specs.Differ.{Differ}
-use Rattle.fib_changes.specs.declared.change.Change.TheVariants as changes
-use Rattle.fib_entries.specs.Known.{Known, StandsFor}
-use Rattle.fib_entries.specs.inner.Coming.{HasCome}
-use Rattle.fib_entries.specs.inner.Leaf.{IsFollowed, goals_of}
-use Rattle.fib_entries.specs.inner.Plies.{own_size, entry_at, entry_before}
-use Rattle.fib_entries.proofs.Exits.{fields_noted}
-use Rattle.fib_entries.proofs.Following.{known}
+use Rattle.fib_resolve_changes.specs.Differ.{Differ}
+use Rattle.fib_resolve_changes.specs.declared.change.Change.TheVariants as changes
+use Rattle.fib_entries_rows.specs.Known.{Known, StandsFor}
+use Rattle.fib_entries_rows.specs.inner.Coming.{HasCome}
+use Rattle.fib_entries_rows.specs.inner.Leaf.{IsFollowed, goals_of}
+use Rattle.fib_entries_rows.specs.inner.Plies.{own_size, entry_at, entry_before}
+use Rattle.fib_entries_rows.proofs.Exits.{fields_noted}
+use Rattle.fib_entries_rows.proofs.Following.{known}
 use Rattle.fib_entries.proofs.Joining.{followed_came, come_fields, as_before}
 use Rattle.fib_entries.proofs.entries.Entries.follow_coming.Goals as goal
 

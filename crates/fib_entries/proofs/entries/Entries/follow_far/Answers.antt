@@ -4,21 +4,21 @@ use Rattle.fib_addr.specs.Prefixes.{Prefix, host}
 use Rattle.fib_cover.specs.Covers.{IsAscending}
 use Rattle.fib_resolve.specs.Resolution.{mac_of}
 use Rattle.fib_resolve.specs.declared.types.Tables.{Tables}
-use Rattle.fib_changes.specs.Differ.{Differ}
-use Rattle.fib_changes.specs.declared.change.Change.TheVariants as changes
-use Rattle.fib_entries.specs.Known.{Known, StandsFor, prefix_of}
-use Rattle.fib_entries.specs.Rows.{Row}
-use Rattle.fib_entries.specs.declared.ends.News.{News}
-use Rattle.fib_entries.specs.declared.ends.News.TheVariants as news
-use Rattle.fib_entries.specs.inner.Ends.{renewed_row}
-use Rattle.fib_entries.specs.inner.Fields.{IsForgotten}
-use Rattle.fib_entries.specs.inner.Leaf.{IsFollowed, moved_at}
+use Rattle.fib_resolve_changes.specs.Differ.{Differ}
+use Rattle.fib_resolve_changes.specs.declared.change.Change.TheVariants as changes
+use Rattle.fib_entries_rows.specs.Known.{Known, StandsFor, prefix_of}
+use Rattle.fib_entries_rows.specs.Rows.{Row}
+use Rattle.fib_entries_rows.specs.declared.ends.News.{News}
+use Rattle.fib_entries_rows.specs.declared.ends.News.TheVariants as news
+use Rattle.fib_entries_rows.specs.inner.Ends.{renewed_row}
+use Rattle.fib_entries_rows.specs.inner.Fields.{IsForgotten}
+use Rattle.fib_entries_rows.specs.inner.Leaf.{IsFollowed, moved_at}
 use Rattle.fib_entries.specs.inner.Near.{are_more, near_list}
-use Rattle.fib_entries.specs.inner.Plies.{own_size, entry_at, entry_before}
-use Rattle.fib_entries.proofs.Following.{known}
+use Rattle.fib_entries_rows.specs.inner.Plies.{own_size, entry_at, entry_before}
+use Rattle.fib_entries_rows.proofs.Following.{known}
 use Rattle.fib_entries.proofs.NearFields.{fields_far, withdrawn_by}
 use Rattle.fib_entries.proofs.NearRows.{near_went, olds}
-use Rattle.fib_entries.proofs.Renewing.{renewed_names}
+use Rattle.fib_entries_rows.proofs.Renewing.{renewed_names}
 use Rattle.fib_entries.proofs.entries.Entries.follow_far.Goals as goal
 
 pub withdraw-requires-clause-ascending : goal.withdraw-requires-clause-ascending

@@ -3,19 +3,19 @@ use Rattle.std.specs.Prelude.{Contains}
 use Rattle.fib_addr.specs.Prefixes.{Prefix}
 use Rattle.fib_resolve.specs.declared.types.Path.{Path}
 use Rattle.fib_resolve.specs.declared.types.Tables.{Tables}
-use Rattle.fib_changes.specs.Differ.{Differ}
-use Rattle.fib_changes.specs.declared.change.Change.TheVariants as changes
-use Rattle.fib_changes.proofs.SamePairs.{map_in}
-use Rattle.fib_entries.specs.Known.{Known, StandsFor, prefix_of}
-use Rattle.fib_entries.specs.inner.Fields.{AreFields, Index}
-use Rattle.fib_entries.specs.inner.Gateway.{HasGained, IsGaining, IsSeveral}
-use Rattle.fib_entries.specs.inner.Leaf.{IsFollowed, goals_of}
-use Rattle.fib_entries.specs.inner.Plies.{own_size, entry_at, entry_before}
-use Rattle.fib_entries.proofs.Exits.{fields_noted}
-use Rattle.fib_entries.proofs.Following.{known}
+use Rattle.fib_resolve_changes.specs.Differ.{Differ}
+use Rattle.fib_resolve_changes.specs.declared.change.Change.TheVariants as changes
+use Rattle.fib_resolve_changes.proofs.SamePairs.{map_in}
+use Rattle.fib_entries_rows.specs.Known.{Known, StandsFor, prefix_of}
+use Rattle.fib_entries_rows.specs.inner.Fields.{AreFields, Index, IsSeveral}
+use Rattle.fib_entries_rows.specs.inner.Gateway.{HasGained, IsGaining}
+use Rattle.fib_entries_rows.specs.inner.Leaf.{IsFollowed, goals_of}
+use Rattle.fib_entries_rows.specs.inner.Plies.{own_size, entry_at, entry_before}
+use Rattle.fib_entries_rows.proofs.Exits.{fields_noted}
+use Rattle.fib_entries_rows.proofs.Following.{known}
 use Rattle.fib_entries.proofs.Gaining.{followed_gained}
 use Rattle.fib_entries.proofs.GateFields.{fields_gained, fields_several, fields_ungained}
-use Rattle.fib_entries.proofs.Placing.{gap_absent}
+use Rattle.fib_entries_rows.proofs.Placing.{gap_absent}
 use Rattle.fib_entries.proofs.entries.Entries.follow_gaining.Goals as goal
 
 pub invariant_of-self-in_err-note_several : goal.invariant_of-self-in_err-note_several

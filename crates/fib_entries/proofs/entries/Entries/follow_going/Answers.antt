@@ -1,13 +1,13 @@
 use Rattle.std.proofs.Common.{◌≡◌, ◌+◌, List, ◌∷◌, [], sym, ap, ◌∙◌, subst, ℕ}
 use Rattle.fib_resolve.specs.declared.types.Path.{Path}
 use Rattle.fib_resolve.specs.declared.types.Tables.{Tables}
-use Rattle.fib_changes.specs.Differ.{Differ}
-use Rattle.fib_changes.specs.declared.change.Change.TheVariants as changes
-use Rattle.fib_entries.specs.Known.{Known, StandsFor}
-use Rattle.fib_entries.specs.inner.Going.{HasLeft}
-use Rattle.fib_entries.specs.inner.Leaf.{IsFollowed}
-use Rattle.fib_entries.specs.inner.Plies.{own_size, entry_at, entry_before}
-use Rattle.fib_entries.proofs.Following.{known}
+use Rattle.fib_resolve_changes.specs.Differ.{Differ}
+use Rattle.fib_resolve_changes.specs.declared.change.Change.TheVariants as changes
+use Rattle.fib_entries_rows.specs.Known.{Known, StandsFor}
+use Rattle.fib_entries_rows.specs.inner.Going.{HasLeft}
+use Rattle.fib_entries_rows.specs.inner.Leaf.{IsFollowed}
+use Rattle.fib_entries_rows.specs.inner.Plies.{own_size, entry_at, entry_before}
+use Rattle.fib_entries_rows.proofs.Following.{known}
 use Rattle.fib_entries.proofs.Leaving.{followed_gone, left_fields, leaving_kept}
 use Rattle.fib_entries.proofs.entries.Entries.follow_going.Goals as goal
 

@@ -1,27 +1,26 @@
 use Rattle.std.proofs.Common.{arith, ◌≡◌, ◌≤◌, List, ◌∷◌, [], length, true, refl, sym, ap, ◌∙◌, subst}
 use Rattle.fib_addr.specs.Prefixes.{Prefix}
 use Rattle.fib_cover.specs.Covers.{IsAscending}
-use Rattle.fib_interned.specs.Interned.{kept_of}
+use Rattle.fib_base_interned.specs.Interned.{kept_of}
 use Rattle.fib_resolve.specs.Resolution.{mac_of}
 use Rattle.fib_resolve.specs.declared.types.Tables.{Tables}
-use Rattle.fib_changes.specs.Differ.{Differ}
-use Rattle.fib_changes.specs.declared.change.Change.TheVariants as changes
-use Rattle.fib_entries.specs.Known.{Known, StandsFor}
-use Rattle.fib_entries.specs.Rows.{Row}
-use Rattle.fib_entries.specs.declared.ends.News.{News}
-use Rattle.fib_entries.specs.declared.ends.News.TheVariants as news
-use Rattle.fib_entries.specs.inner.Ends.{has_exit, renewed_row}
-use Rattle.fib_entries.specs.inner.Fields.{AreAmong, AreFields, Index}
-use Rattle.fib_entries.specs.inner.Gateway.{IsSeveral}
+use Rattle.fib_resolve_changes.specs.Differ.{Differ}
+use Rattle.fib_resolve_changes.specs.declared.change.Change.TheVariants as changes
+use Rattle.fib_entries_rows.specs.Known.{Known, StandsFor}
+use Rattle.fib_entries_rows.specs.Rows.{Row}
+use Rattle.fib_entries_rows.specs.declared.ends.News.{News}
+use Rattle.fib_entries_rows.specs.declared.ends.News.TheVariants as news
+use Rattle.fib_entries_rows.specs.inner.Ends.{has_exit, renewed_row}
+use Rattle.fib_entries_rows.specs.inner.Fields.{AreAmong, AreFields, Index, IsSeveral}
 use Rattle.fib_entries.specs.inner.Hop.{hop_pairs}
-use Rattle.fib_entries.specs.inner.Leaf.{IsFollowed}
+use Rattle.fib_entries_rows.specs.inner.Leaf.{IsFollowed}
 use Rattle.fib_entries.specs.inner.Near.{near_list}
-use Rattle.fib_entries.proofs.Following.{known}
+use Rattle.fib_entries_rows.proofs.Following.{known}
 use Rattle.fib_entries.proofs.HopFields.{fields_hop_more, fields_hop_noted, held_by, set_by}
 use Rattle.fib_entries.proofs.HopRows.{hop_came}
-use Rattle.fib_entries.proofs.Naming.{some_content}
+use Rattle.fib_entries_rows.proofs.Naming.{some_content}
 use Rattle.fib_entries.proofs.NearRows.{olds}
-use Rattle.fib_entries.proofs.Placing.{length_map}
+use Rattle.fib_entries_rows.proofs.Placing.{length_map}
 use Rattle.fib_entries.proofs.entries.Entries.follow_hop_coming.Goals as goal
 
 pub users-requires : goal.users-requires

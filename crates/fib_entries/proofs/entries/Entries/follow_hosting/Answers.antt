@@ -3,14 +3,14 @@ use Rattle.std.specs.Prelude.{Contains}
 use Rattle.fib_addr.specs.Prefixes.{Prefix}
 use Rattle.fib_resolve.specs.declared.types.Path.{Path}
 use Rattle.fib_resolve.specs.declared.types.Tables.{Tables}
-use Rattle.fib_changes.specs.Differ.{Differ}
-use Rattle.fib_changes.specs.declared.change.Change.TheVariants as changes
-use Rattle.fib_entries.specs.Known.{Known, StandsFor, prefix_of}
-use Rattle.fib_entries.specs.inner.Fields.{IsForgotten, IsNoted}
-use Rattle.fib_entries.specs.inner.Hosting.{HasHosted, IsHosting}
-use Rattle.fib_entries.specs.inner.Leaf.{IsFollowed, goals_of}
-use Rattle.fib_entries.proofs.Exits.{fields_noted}
-use Rattle.fib_entries.proofs.Following.{known}
+use Rattle.fib_resolve_changes.specs.Differ.{Differ}
+use Rattle.fib_resolve_changes.specs.declared.change.Change.TheVariants as changes
+use Rattle.fib_entries_rows.specs.Known.{Known, StandsFor, prefix_of}
+use Rattle.fib_entries_rows.specs.inner.Fields.{IsForgotten, IsNoted}
+use Rattle.fib_entries_rows.specs.inner.Hosting.{HasHosted, IsHosting}
+use Rattle.fib_entries_rows.specs.inner.Leaf.{IsFollowed, goals_of}
+use Rattle.fib_entries_rows.proofs.Exits.{fields_noted}
+use Rattle.fib_entries_rows.proofs.Following.{known}
 use Rattle.fib_entries.proofs.HostFields.{fields_back, fields_both, fields_unhosted, not_member}
 use Rattle.fib_entries.proofs.WithHost.{followed_hosted}
 use Rattle.fib_entries.proofs.entries.Entries.follow_hosting.Goals as goal

@@ -2,12 +2,12 @@ use Rattle.std.proofs.Common.{arith, ◌≤◌, ◌+◌, List, ◌∷◌, [], So
 use Rattle.std.specs.Prelude.{Contains}
 use Rattle.fib_resolve.specs.declared.types.Path.{Path}
 use Rattle.fib_resolve.specs.declared.types.Tables.{Tables}
-use Rattle.fib_changes.specs.Differ.{Differ}
-use Rattle.fib_changes.specs.declared.change.Change.TheVariants as changes
-use Rattle.fib_entries.specs.Known.{Known, StandsFor}
-use Rattle.fib_entries.specs.inner.Leaf.{IsChanged, IsFollowed, goals_of}
-use Rattle.fib_entries.proofs.Exits.{fields_noted}
-use Rattle.fib_entries.proofs.Following.{fields_after, followed_leaf, known}
+use Rattle.fib_resolve_changes.specs.Differ.{Differ}
+use Rattle.fib_resolve_changes.specs.declared.change.Change.TheVariants as changes
+use Rattle.fib_entries_rows.specs.Known.{Known, StandsFor}
+use Rattle.fib_entries_rows.specs.inner.Leaf.{IsChanged, IsFollowed, goals_of}
+use Rattle.fib_entries_rows.proofs.Exits.{fields_noted}
+use Rattle.fib_entries_rows.proofs.Following.{fields_after, followed_leaf, known}
 use Rattle.fib_entries.proofs.entries.Entries.follow_leaf.Goals as goal
 
 pub ready-requires-clause-held : goal.ready-requires-clause-held

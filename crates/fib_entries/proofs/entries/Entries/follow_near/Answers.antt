@@ -4,19 +4,19 @@ use Rattle.fib_addr.specs.Prefixes.{Prefix, host}
 use Rattle.fib_cover.specs.Covers.{IsAscending}
 use Rattle.fib_resolve.specs.Resolution.{mac_of}
 use Rattle.fib_resolve.specs.declared.types.Tables.{Tables}
-use Rattle.fib_changes.specs.Differ.{Differ}
-use Rattle.fib_changes.specs.declared.change.Change.TheVariants as changes
-use Rattle.fib_entries.specs.Known.{Known, StandsFor}
-use Rattle.fib_entries.specs.Rows.{Row}
-use Rattle.fib_entries.specs.declared.ends.News.{News}
-use Rattle.fib_entries.specs.declared.ends.News.TheVariants as news
-use Rattle.fib_entries.specs.inner.Ends.{has_exit, renewed_row}
-use Rattle.fib_entries.specs.inner.Fields.{AreAmong, AreFields, IsForgotten, IsNoted}
-use Rattle.fib_entries.specs.inner.Leaf.{IsFollowed}
+use Rattle.fib_resolve_changes.specs.Differ.{Differ}
+use Rattle.fib_resolve_changes.specs.declared.change.Change.TheVariants as changes
+use Rattle.fib_entries_rows.specs.Known.{Known, StandsFor}
+use Rattle.fib_entries_rows.specs.Rows.{Row}
+use Rattle.fib_entries_rows.specs.declared.ends.News.{News}
+use Rattle.fib_entries_rows.specs.declared.ends.News.TheVariants as news
+use Rattle.fib_entries_rows.specs.inner.Ends.{has_exit, renewed_row}
+use Rattle.fib_entries_rows.specs.inner.Fields.{AreAmong, AreFields, IsForgotten, IsNoted}
+use Rattle.fib_entries_rows.specs.inner.Leaf.{IsFollowed}
 use Rattle.fib_entries.specs.inner.Near.{IsNearComing, are_some}
-use Rattle.fib_entries.specs.inner.Plies.{own_size, entry_at, entry_before}
-use Rattle.fib_entries.proofs.EndRows.{old_found}
-use Rattle.fib_entries.proofs.Following.{known}
+use Rattle.fib_entries_rows.specs.inner.Plies.{own_size, entry_at, entry_before}
+use Rattle.fib_entries_rows.proofs.EndRows.{old_found}
+use Rattle.fib_entries_rows.proofs.Following.{known}
 use Rattle.fib_entries.proofs.NearFields.{fields_near, fields_not_near, noted_by, placed_by, placed_olds, placed_ordered}
 use Rattle.fib_entries.proofs.NearRows.{near_came, olds}
 use Rattle.fib_entries.proofs.entries.Entries.follow_near.Goals as goal

@@ -1,15 +1,15 @@
 use Rattle.std.proofs.Common.{arith, ◌≤◌, List, ◌∷◌, [], sym, ◌∙◌, subst}
 use Rattle.fib_cover.specs.Covers.{IsAscending}
 use Rattle.fib_resolve.specs.declared.types.Tables.{Tables}
-use Rattle.fib_changes.specs.Differ.{Differ}
-use Rattle.fib_entries.specs.Rows.{Row}
-use Rattle.fib_entries.specs.Known.{Known, StandsFor}
-use Rattle.fib_entries.specs.inner.Ends.{IsNews, has_exit}
-use Rattle.fib_entries.specs.inner.Fields.{AreAmong, AreFields}
-use Rattle.fib_entries.specs.inner.Leaf.{IsFollowed}
+use Rattle.fib_resolve_changes.specs.Differ.{Differ}
+use Rattle.fib_entries_rows.specs.Rows.{Row}
+use Rattle.fib_entries_rows.specs.Known.{Known, StandsFor}
+use Rattle.fib_entries_rows.specs.inner.Ends.{IsNews, has_exit}
+use Rattle.fib_entries_rows.specs.inner.Fields.{AreAmong, AreFields}
+use Rattle.fib_entries_rows.specs.inner.Leaf.{IsFollowed}
 use Rattle.fib_entries.proofs.EndNews.{followed_news}
-use Rattle.fib_entries.proofs.Renewing.{fields_renewed}
-use Rattle.fib_entries.proofs.Following.{known}
+use Rattle.fib_entries_rows.proofs.Renewing.{fields_renewed}
+use Rattle.fib_entries_rows.proofs.Following.{known}
 use Rattle.fib_entries.proofs.entries.Entries.follow_news.Goals as goal
 
 pub follow-requires-clause-ordered : goal.follow-requires-clause-ordered

@@ -3,13 +3,13 @@ use Rattle.std.specs.Prelude.{Contains}
 use Rattle.std.proofs.lemmas.Bool.Decides.{nat_tests}
 use Rattle.fib_addr.specs.Prefixes.{Prefix}
 use Rattle.fib_resolve.specs.declared.types.Tables.{Tables}
-use Rattle.fib_changes.specs.Differ.{Differ}
-use Rattle.fib_changes.specs.declared.change.Change.TheVariants as changes
-use Rattle.fib_entries.specs.Known.{Known, StandsFor, prefix_of}
-use Rattle.fib_entries.specs.inner.Fields.{IsForgotten}
-use Rattle.fib_entries.specs.inner.Leaf.{IsFollowed}
-use Rattle.fib_entries.specs.inner.Parting.{IsParting}
-use Rattle.fib_entries.proofs.Following.{known}
+use Rattle.fib_resolve_changes.specs.Differ.{Differ}
+use Rattle.fib_resolve_changes.specs.declared.change.Change.TheVariants as changes
+use Rattle.fib_entries_rows.specs.Known.{Known, StandsFor, prefix_of}
+use Rattle.fib_entries_rows.specs.inner.Fields.{IsForgotten}
+use Rattle.fib_entries_rows.specs.inner.Leaf.{IsFollowed}
+use Rattle.fib_entries_rows.specs.inner.Parting.{IsParting}
+use Rattle.fib_entries_rows.proofs.Following.{known}
 use Rattle.fib_entries.proofs.PartedFields.{fields_parted, host_there}
 use Rattle.fib_entries.proofs.WithoutHost.{followed_parted}
 use Rattle.fib_entries.proofs.entries.Entries.follow_parting.Goals as goal

@@ -3,21 +3,21 @@ use Rattle.std.proofs.lemmas.Bool.{ltb-true}
 use Rattle.std.specs.Prelude.{IfSome}
 use Rattle.fib_addr.specs.Prefixes.{Prefix}
 use Rattle.fib_resolve.specs.Edits.{paths_at}
-use Rattle.fib_entries.specs.Known.{Known, prefix_of}
+use Rattle.fib_entries_rows.specs.Known.{Known, prefix_of}
 use Rattle.fib_entries.specs.inner.Adopting.{drop_list, dropping}
 use Rattle.fib_entries.specs.inner.Best.{IsPlan}
-use Rattle.fib_entries.specs.inner.Led.{IsReaching}
-use Rattle.fib_entries.specs.inner.Raising.{moved_from}
-use Rattle.fib_entries.specs.inner.Reaching.{gone_moved, late_moved, turned_hosts}
+use Rattle.fib_entries_rows.specs.inner.Led.{IsReaching}
+use Rattle.fib_entries_rows.specs.inner.Raising.{moved_from}
+use Rattle.fib_entries_rows.specs.inner.Reaching.{gone_moved, late_moved, turned_hosts}
 use Rattle.fib_entries.specs.inner.Releasing.{IsBetween, but_for}
 use Rattle.fib_entries.specs.declared.best_list.Plan.{Plan}
-use Rattle.fib_entries.specs.declared.hosting.Late.{Late}
-use Rattle.fib_entries.specs.declared.parting.Last.{Last}
+use Rattle.fib_entries_rows.specs.declared.hosting.Late.{Late}
+use Rattle.fib_entries_rows.specs.declared.parting.Last.{Last}
 use Rattle.fib_entries.proofs.AdoptLaws.{open_differ_to, open_paths, open_sound}
-use Rattle.fib_entries.proofs.Linking.{at_inside}
+use Rattle.fib_entries_rows.proofs.Linking.{at_inside}
 use Rattle.fib_entries.proofs.ReachedBy.{lone, lone_list}
 use Rattle.fib_entries.proofs.Released.{followed_release}
-use Rattle.fib_entries.proofs.Sharing.{each_true}
+use Rattle.fib_entries_rows.proofs.Sharing.{each_true}
 use Rattle.fib_entries.proofs.Vacated.{opened}
 use Rattle.fib_entries.proofs.entries.Entries.follow_releasing.Goals as goal
 

@@ -1,12 +1,12 @@
 use Rattle.std.proofs.Common.{◌≡◌, ◌^◌, ℕ, List, ◌∷◌, Some, refl, sym, ap, ◌∙◌, subst}
 use Rattle.std.specs.Prelude.{Contains, nat_lt}
 use Rattle.std.proofs.lemmas.Bool.{ltb-true}
-use Rattle.fib_changes.proofs.Edits.{in_front, in_rest}
-use Rattle.fib_interned.proofs.Finding.{contains_at}
+use Rattle.fib_resolve_changes.proofs.Edits.{in_front, in_rest}
+use Rattle.fib_base_interned.proofs.Finding.{contains_at}
 use Rattle.fib_resolve.specs.declared.types.FibSource.{FibSource}
-use Rattle.fib_entries.specs.Known.{Known, content_of}
-use Rattle.fib_entries.specs.inner.Under.{IsNext}
-use Rattle.fib_entries.proofs.Sharing.{each_true}
+use Rattle.fib_entries_rows.specs.Known.{Known, content_of}
+use Rattle.fib_entries_rows.specs.inner.Under.{IsNext}
+use Rattle.fib_entries_rows.proofs.Sharing.{each_true}
 use Rattle.fib_entries.proofs.Uncovering.{followed_under}
 use Rattle.fib_entries.proofs.entries.Entries.follow_under.Goals as goal
 

@@ -4,12 +4,12 @@ use Rattle.std.proofs.lemmas.Bool.{le-leb}
 use Rattle.std.proofs.lemmas.Bool.Decides.{Decides-eqb}
 use Rattle.fib_addr.specs.Prefixes.{Prefix, contains}
 use Rattle.fib_cover.specs.Covers.{is_inside}
-use Rattle.fib_list.proofs.Lists.{either}
+use Rattle.fib_base_list.proofs.Lists.{either}
 use Rattle.fib_resolve.proofs.Covering.{filter_in}
 use Rattle.fib_resolve.specs.declared.types.Neighbor.{Neighbor}
-use Rattle.fib_entries.specs.Known.{Known}
-use Rattle.fib_entries.specs.inner.Clear.{IsApart}
-use Rattle.fib_entries.specs.inner.Leaf.{IsClear}
+use Rattle.fib_entries_rows.specs.Known.{Known}
+use Rattle.fib_entries_rows.specs.inner.Clear.{IsApart}
+use Rattle.fib_entries_rows.specs.inner.Leaf.{IsClear}
 use Rattle.fib_entries.proofs.entries.Entries.is_clear.Goals as goal
 
 inside_of : (p q : Prefix) → contains p q.bits ≡ true → p.len ≤ 32 → q.len ≡ 32 → is_inside p q ≡ true

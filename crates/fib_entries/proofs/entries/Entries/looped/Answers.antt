@@ -1,7 +1,7 @@
 use Rattle.std.proofs.Common.{Some, None, sym, ap, ◌∙◌, refl, slice_get}
-use Rattle.fib_entries.specs.Known.{row_of}
+use Rattle.fib_entries_rows.specs.Known.{row_of}
 use Rattle.std.proofs.lemmas.Option.{slice_get_read, slice_get_past}
-use Rattle.fib_entries.proofs.Standing.{marked_as, none_marked}
+use Rattle.fib_entries_rows.proofs.Standing.{marked_as, none_marked}
 use Rattle.fib_entries.proofs.entries.Entries.looped.Goals as goal
 
 pub returns-in-Some-get : goal.returns-in-Some-get

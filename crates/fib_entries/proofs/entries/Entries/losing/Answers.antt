@@ -3,14 +3,14 @@ use Rattle.std.specs.Prelude.{Contains}
 use Rattle.std.proofs.lemmas.Bool.{false≢true}
 use Rattle.std.proofs.lemmas.Bool.Decides.{Decides-eqb}
 use Rattle.std.proofs.lemmas.Option.{slice_get_read}
-use Rattle.fib_changes.proofs.Edits.{in_front}
-use Rattle.fib_interned.proofs.Finding.{some_is, contains_at}
+use Rattle.fib_resolve_changes.proofs.Edits.{in_front}
+use Rattle.fib_base_interned.proofs.Finding.{some_is, contains_at}
 use Rattle.fib_resolve.specs.declared.types.FibSource.{FibSource}
 use Rattle.fib_resolve.specs.declared.types.Path.{Path}
-use Rattle.fib_entries.specs.Known.{Known}
-use Rattle.fib_entries.specs.Rows.{Row}
-use Rattle.fib_entries.specs.inner.Leaf.{IsClear}
-use Rattle.fib_entries.specs.inner.Losing.{IsLosing}
+use Rattle.fib_entries_rows.specs.Known.{Known}
+use Rattle.fib_entries_rows.specs.Rows.{Row}
+use Rattle.fib_entries_rows.specs.inner.Leaf.{IsClear}
+use Rattle.fib_entries_rows.specs.inner.Losing.{IsLosing}
 use Rattle.fib_entries.proofs.entries.Entries.losing.Goals as goal
 
 pub content-old-requires : goal.content-old-requires

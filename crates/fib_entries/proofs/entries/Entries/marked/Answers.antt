@@ -1,6 +1,6 @@
 use Rattle.std.proofs.Common.{sym, ap, ◌∙◌}
-use Rattle.fib_entries.specs.Known.{row_of}
-use Rattle.fib_entries.proofs.Standing.{marked_at, none_marked_list}
+use Rattle.fib_entries_rows.specs.Known.{row_of}
+use Rattle.fib_entries_rows.proofs.Standing.{marked_at, none_marked_list}
 use Rattle.fib_entries.proofs.entries.Entries.marked.Goals as goal
 
 pub returns-in-Some : goal.returns-in-Some

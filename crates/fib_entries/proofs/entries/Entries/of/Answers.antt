@@ -7,14 +7,14 @@ use Rattle.fib_resolve.specs.Sizes.{size}
 use Rattle.fib_resolve.specs.Tables.{IsSound}
 use Rattle.fib_resolve.specs.declared.pairs.Pair.{Pair}
 use Rattle.fib_resolve.specs.declared.types.Tables.{Tables}
-use Rattle.fib_entries.specs.Rows.{Row}
-use Rattle.fib_entries.specs.Known.{PathKept, StandsFor, prefix_of}
-use Rattle.fib_entries.specs.inner.Building.{AreTaken, AreAnew}
-use Rattle.fib_entries.specs.inner.Fields.{AreFields, Index, IsIndexed}
-use Rattle.fib_interned.specs.Interned.{AreInterned}
-use Rattle.fib_entries.proofs.Anew.{stands_anew, all_held, in_place}
-use Rattle.fib_entries.proofs.Naming.{named_by}
-use Rattle.fib_entries.proofs.Placing.{same_order}
+use Rattle.fib_entries_rows.specs.Rows.{Row}
+use Rattle.fib_entries_rows.specs.Known.{PathKept, StandsFor, prefix_of}
+use Rattle.fib_entries_rows.specs.inner.Building.{AreTaken, AreAnew}
+use Rattle.fib_entries_rows.specs.inner.Fields.{AreFields, Index, IsIndexed}
+use Rattle.fib_base_interned.specs.Interned.{AreInterned}
+use Rattle.fib_entries_rows.proofs.Anew.{stands_anew, all_held, in_place}
+use Rattle.fib_entries_rows.proofs.Naming.{named_by}
+use Rattle.fib_entries_rows.proofs.Placing.{same_order}
 use Rattle.fib_entries.proofs.entries.Entries.of.Goals as goal
 
 taken_of : (lists : List PathKept) (S : Tables) (xs : List Pair) (ids slice : List ℕ) → xs ≡ pairs S → slice ≡ ids → AreTaken lists xs ids → AreTaken lists (pairs S) slice

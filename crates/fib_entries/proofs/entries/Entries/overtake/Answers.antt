@@ -1,9 +1,9 @@
 use Rattle.std.proofs.Common.{◌≢◌, List, [], None, Some, map, refl, sym, subst}
 use Rattle.fib_addr.specs.Prefixes.{Prefix}
-use Rattle.fib_entries.specs.Known.{Known, content_of, prefix_of}
+use Rattle.fib_entries_rows.specs.Known.{Known, content_of, prefix_of}
 use Rattle.fib_entries.specs.inner.Above.{IsAbove, IsOver}
-use Rattle.fib_entries.specs.inner.Fields.{AreFields}
-use Rattle.fib_entries.proofs.Exits.{fields_with, indexed_more}
+use Rattle.fib_entries_rows.specs.inner.Fields.{AreFields}
+use Rattle.fib_entries_rows.proofs.Exits.{fields_with, indexed_more}
 use Rattle.fib_entries.proofs.GateFields.{several_more}
 use Rattle.fib_entries.proofs.Overtaking.{above_fields, above_kept}
 use Rattle.fib_entries.proofs.entries.Entries.overtake.Goals as goal

@@ -1,9 +1,9 @@
 use Rattle.std.proofs.Common.{sym, ap, ◌∙◌, subst}
-use Rattle.fib_entries.specs.Known.{ArePairs, row_of}
+use Rattle.fib_entries_rows.specs.Known.{ArePairs, row_of}
 use Rattle.std.specs.Prelude.{Contains, IsSome}
-use Rattle.fib_list.proofs.Lists.{Contains-nil}
-use Rattle.fib_interned.specs.Interned.{kept_of}
-use Rattle.fib_entries.proofs.Standing.{pairs_at, no_pairs, row_there}
+use Rattle.fib_base_list.proofs.Lists.{Contains-nil}
+use Rattle.fib_base_interned.specs.Interned.{kept_of}
+use Rattle.fib_entries_rows.proofs.Standing.{pairs_at, no_pairs, row_there}
 use Rattle.fib_entries.proofs.entries.Entries.pairs.Goals as goal
 
 pub returns-in-Some-clause-pairs : goal.returns-in-Some-clause-pairs

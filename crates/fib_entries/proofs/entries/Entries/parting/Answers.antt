@@ -2,14 +2,14 @@ use Rattle.std.proofs.Common.{List, [], ℕ, map, refl, sym, ap, ◌∙◌, subs
 use Rattle.std.specs.Prelude.{Contains}
 use Rattle.std.proofs.lemmas.Option.{slice_get_read}
 use Rattle.fib_addr.specs.Prefixes.{Prefix}
-use Rattle.fib_changes.proofs.Edits.{in_front}
-use Rattle.fib_interned.proofs.Finding.{some_is, contains_at}
+use Rattle.fib_resolve_changes.proofs.Edits.{in_front}
+use Rattle.fib_base_interned.proofs.Finding.{some_is, contains_at}
 use Rattle.fib_resolve.specs.declared.types.FibSource.{FibSource}
 use Rattle.fib_resolve.specs.declared.types.Path.{Path}
-use Rattle.fib_entries.specs.Known.{Known, prefix_of}
-use Rattle.fib_entries.specs.Rows.{Row}
-use Rattle.fib_entries.specs.inner.Leaf.{IsClear}
-use Rattle.fib_entries.specs.inner.Parting.{IsParting, IsLast}
+use Rattle.fib_entries_rows.specs.Known.{Known, prefix_of}
+use Rattle.fib_entries_rows.specs.Rows.{Row}
+use Rattle.fib_entries_rows.specs.inner.Leaf.{IsClear}
+use Rattle.fib_entries_rows.specs.inner.Parting.{IsParting, IsLast}
 use Rattle.fib_entries.proofs.entries.Entries.parting.Goals as goal
 
 pub content-old-requires : goal.content-old-requires

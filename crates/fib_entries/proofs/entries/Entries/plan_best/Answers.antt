@@ -5,18 +5,18 @@ use Rattle.fib_addr.specs.Prefixes.{Prefix}
 use Rattle.fib_resolve.specs.Edits.{paths_at, with_routes}
 use Rattle.fib_resolve.specs.declared.types.Path.{Path}
 use Rattle.fib_resolve.specs.declared.types.Route.{Route}
-use Rattle.fib_interned.specs.Interned.{kept_of}
-use Rattle.fib_interned.proofs.Finding.{some_is}
-use Rattle.fib_entries.specs.Known.{Known, prefix_of}
+use Rattle.fib_base_interned.specs.Interned.{kept_of}
+use Rattle.fib_base_interned.proofs.Finding.{some_is}
+use Rattle.fib_entries_rows.specs.Known.{Known, prefix_of}
 use Rattle.fib_entries.specs.inner.Best.{IsPlan}
-use Rattle.fib_entries.specs.inner.Course.{IsCourse}
-use Rattle.fib_entries.specs.inner.Led.{IsReaching}
-use Rattle.fib_entries.specs.Rows.{Row}
-use Rattle.fib_entries.specs.declared.reaching.Course.{Course}
-use Rattle.fib_entries.specs.declared.reaching.Spot.{Spot}
-use Rattle.fib_entries.proofs.LedRows.{read_row}
-use Rattle.fib_entries.proofs.Linking.{at_inside}
-use Rattle.fib_entries.proofs.Naming.{some_content}
+use Rattle.fib_entries_rows.specs.inner.Course.{IsCourse}
+use Rattle.fib_entries_rows.specs.inner.Led.{IsReaching}
+use Rattle.fib_entries_rows.specs.Rows.{Row}
+use Rattle.fib_entries_rows.specs.declared.reaching.Course.{Course}
+use Rattle.fib_entries_rows.specs.declared.reaching.Spot.{Spot}
+use Rattle.fib_entries_rows.proofs.LedRows.{read_row}
+use Rattle.fib_entries_rows.proofs.Linking.{at_inside}
+use Rattle.fib_entries_rows.proofs.Naming.{some_content}
 use Rattle.fib_entries.proofs.ReachedBy.{lone, lone_list, reaching_cover}
 use Rattle.fib_entries.proofs.Turning.{reaching_rank, reaching_row}
 use Rattle.fib_entries.proofs.entries.Entries.plan_best.Goals as goal

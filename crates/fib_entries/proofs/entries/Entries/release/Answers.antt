@@ -1,15 +1,15 @@
 use Rattle.std.proofs.Common.{List, ℕ, refl, sym, ap, ◌∙◌, ◌-◌, subst, slice_get}
 use Rattle.std.specs.Prelude.{Contains, IsSome, [], option_and_then}
 use Rattle.std.proofs.lemmas.Option.{slice_get_read}
-use Rattle.fib_changes.proofs.Edits.{in_front}
-use Rattle.fib_interned.specs.Interned.{kept_of}
-use Rattle.fib_interned.proofs.Finding.{contains_at}
+use Rattle.fib_resolve_changes.proofs.Edits.{in_front}
+use Rattle.fib_base_interned.specs.Interned.{kept_of}
+use Rattle.fib_base_interned.proofs.Finding.{contains_at}
 use Rattle.fib_resolve.specs.declared.types.FibSource.{FibSource}
-use Rattle.fib_entries.specs.Known.{Known}
+use Rattle.fib_entries_rows.specs.Known.{Known}
 use Rattle.fib_entries.specs.inner.Releasing.{HasOnly, IsReleased}
-use Rattle.fib_entries.proofs.Following.{known}
+use Rattle.fib_entries_rows.proofs.Following.{known}
 use Rattle.fib_entries.proofs.Releases.{fields_released, no_only, not_only, released_at, single_pair}
-use Rattle.fib_entries.proofs.Standing.{row_there}
+use Rattle.fib_entries_rows.proofs.Standing.{row_there}
 use Rattle.fib_entries.proofs.entries.Entries.release.Goals as goal
 
 pub returns-in_default-clause-released : goal.returns-in_default-clause-released

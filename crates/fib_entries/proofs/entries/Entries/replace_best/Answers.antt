@@ -2,10 +2,10 @@ use Rattle.std.proofs.Common.{◌≡◌, List, map, Option, true, refl, sym, sub
 use Rattle.std.specs.Prelude.{Contains, IfSome}
 use Rattle.std.specs.List.{list_all}
 use Rattle.fib_resolve.specs.declared.types.Path.{Path}
-use Rattle.fib_changes.proofs.Edits.{in_front}
-use Rattle.fib_entries.specs.Known.{prefix_of}
+use Rattle.fib_resolve_changes.proofs.Edits.{in_front}
+use Rattle.fib_entries_rows.specs.Known.{prefix_of}
 use Rattle.fib_entries.specs.inner.Best.{IsPlan}
-use Rattle.fib_entries.specs.inner.Leaf.{is_plain}
+use Rattle.fib_entries_rows.specs.inner.Leaf.{is_plain}
 use Rattle.fib_entries.specs.declared.best_list.Plan.{Plan}
 use Rattle.fib_entries.proofs.ReachedBy.{lone, lone_list}
 use Rattle.fib_entries.proofs.entries.Entries.replace_best.Goals as goal

@@ -1,7 +1,7 @@
 use Rattle.std.proofs.Common.{◌≡◌, ◌<◌, Some, length, subst, sym}
-use Rattle.fib_entries.specs.Known.{Known, row_of}
-use Rattle.fib_entries.specs.inner.Compare.{AreKept}
-use Rattle.fib_entries.proofs.PartRows.{row_is}
+use Rattle.fib_entries_rows.specs.Known.{Known, row_of}
+use Rattle.fib_entries_rows.specs.inner.Compare.{AreKept}
+use Rattle.fib_entries_rows.proofs.PartRows.{row_is}
 use Rattle.fib_entries.proofs.entries.Entries.row_at.Goals as goal
 
 pub returns-clause-found : goal.returns-clause-found

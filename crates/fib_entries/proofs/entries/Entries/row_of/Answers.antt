@@ -1,11 +1,11 @@
 use Rattle.std.proofs.Common.{◌≡◌, List, Option, Some, None, Bor, sym, subst}
 use Rattle.std.specs.Prelude.{IfSome, option_copied}
 use Rattle.fib_addr.specs.Prefixes.{Prefix}
-use Rattle.fib_entries.specs.Rows.{Row}
-use Rattle.fib_entries.specs.Known.{PathKept, Known, row_of}
-use Rattle.fib_entries.specs.inner.Building.{AreHeld}
-use Rattle.fib_entries.specs.inner.Compare.{AreKept}
-use Rattle.fib_entries.proofs.Standing.{row_there}
+use Rattle.fib_entries_rows.specs.Rows.{Row}
+use Rattle.fib_entries_rows.specs.Known.{PathKept, Known, row_of}
+use Rattle.fib_entries_rows.specs.inner.Building.{AreHeld}
+use Rattle.fib_entries_rows.specs.inner.Compare.{AreKept}
+use Rattle.fib_entries_rows.proofs.Standing.{row_there}
 use Rattle.fib_entries.proofs.entries.Entries.row_of.Goals as goal
 
 kept_here : (rows : List Row) (lists : List PathKept) (e : Prefix) (o : Option (Bor Row)) → AreHeld rows lists → option_copied o ≡ row_of rows e → IfSome o (λ r. AreKept lists r.now.pairs)

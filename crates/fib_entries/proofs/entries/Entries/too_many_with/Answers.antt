@@ -2,11 +2,11 @@ use Rattle.std.proofs.Common.{◌≡◌, ◌+◌, ◌<◌, ◌^◌, ◌-◌, ◌
 use Rattle.std.specs.Prelude.{min}
 use Rattle.fib_resolve.specs.Sizes.{size}
 use Rattle.fib_resolve.specs.declared.types.Tables.{Tables}
-use Rattle.fib_changes.specs.Differ.{Differ}
-use Rattle.fib_changes.specs.declared.change.Change.TheVariants as changes
-use Rattle.fib_entries.specs.Known.{Known, StandsFor}
-use Rattle.fib_entries.specs.inner.Plies.{own_size, entry_at, entry_before}
-use Rattle.fib_entries.proofs.Following.{known}
+use Rattle.fib_resolve_changes.specs.Differ.{Differ}
+use Rattle.fib_resolve_changes.specs.declared.change.Change.TheVariants as changes
+use Rattle.fib_entries_rows.specs.Known.{Known, StandsFor}
+use Rattle.fib_entries_rows.specs.inner.Plies.{own_size, entry_at, entry_before}
+use Rattle.fib_entries_rows.proofs.Following.{known}
 use Rattle.fib_entries.proofs.Joining.{beyond_law}
 use Rattle.fib_entries.proofs.entries.Entries.too_many_with.Goals as goal
 

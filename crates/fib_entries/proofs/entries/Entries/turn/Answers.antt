@@ -2,14 +2,14 @@ use Rattle.std.proofs.Common.{List, Option, map, sym, subst}
 use Rattle.fib_addr.specs.Prefixes.{Prefix}
 use Rattle.fib_cover.specs.Covers.{IsAscending}
 use Rattle.fib_resolve.specs.Edits.{with_routes}
-use Rattle.fib_entries.specs.Known.{Known, prefix_of}
-use Rattle.fib_entries.specs.inner.Course.{IsCourse}
-use Rattle.fib_entries.specs.inner.Fields.{IsForgotten, IsNoted}
-use Rattle.fib_entries.specs.inner.Led.{IsReaching}
-use Rattle.fib_entries.specs.inner.Reaching.{HasReached, IsFitGone, IsFitLate, looped_own}
-use Rattle.fib_entries.specs.declared.hosting.Late.{Late}
-use Rattle.fib_entries.specs.declared.parting.Last.{Last}
-use Rattle.fib_entries.specs.declared.replace.Own.{Own}
+use Rattle.fib_entries_rows.specs.Known.{Known, prefix_of}
+use Rattle.fib_entries_rows.specs.inner.Course.{IsCourse}
+use Rattle.fib_entries_rows.specs.inner.Fields.{IsForgotten, IsNoted}
+use Rattle.fib_entries_rows.specs.inner.Led.{IsReaching}
+use Rattle.fib_entries_rows.specs.inner.Reaching.{HasReached, IsFitGone, IsFitLate, looped_own}
+use Rattle.fib_entries_rows.specs.declared.hosting.Late.{Late}
+use Rattle.fib_entries_rows.specs.declared.parting.Last.{Last}
+use Rattle.fib_entries_rows.specs.declared.replace.Own.{Own}
 use Rattle.fib_entries.proofs.ReachFields.{fields_reached, fields_unreached}
 use Rattle.fib_entries.proofs.Turning.{fit_gone, fit_late, late_back, reaching_pairs, turned_members, unseen_few}
 use Rattle.fib_entries.proofs.entries.Entries.turn.Goals as goal

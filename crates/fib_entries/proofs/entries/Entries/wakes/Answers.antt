@@ -1,6 +1,6 @@
 use Rattle.std.proofs.Common.{sym, ap, ◌∙◌}
-use Rattle.fib_entries.specs.inner.Waking.{aims_at}
-use Rattle.fib_entries.proofs.Woken.{row_wakes, none_wakes}
+use Rattle.fib_entries_rows.specs.inner.Waking.{aims_at}
+use Rattle.fib_entries_rows.proofs.Woken.{row_wakes, none_wakes}
 use Rattle.fib_entries.proofs.entries.Entries.wakes.Goals as goal
 
 pub returns-in-Some : goal.returns-in-Some

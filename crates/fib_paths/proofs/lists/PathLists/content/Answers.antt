@@ -1,6 +1,6 @@
 use Rattle.std.proofs.Common.{Some, IsSome, sym, ap, ◌∙◌, subst}
 use Rattle.std.specs.Prelude.{option_map}
-use Rattle.fib_interned.specs.Interned.{kept_of}
+use Rattle.fib_base_interned.specs.Interned.{kept_of}
 use Rattle.fib_paths.proofs.Listing.{some_listed, content_listed}
 use Rattle.fib_paths.proofs.lists.PathLists.content.Goals as goal
 

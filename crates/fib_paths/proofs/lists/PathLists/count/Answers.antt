@@ -1,5 +1,5 @@
 use Rattle.std.proofs.Common.{subst}
-use Rattle.fib_interned.specs.Interned.{AreInterned}
+use Rattle.fib_base_interned.specs.Interned.{AreInterned}
 use Rattle.fib_paths.proofs.Listing.{interned_listed}
 use Rattle.fib_paths.proofs.lists.PathLists.count.Goals as goal
 

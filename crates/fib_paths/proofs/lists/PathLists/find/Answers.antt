@@ -1,6 +1,6 @@
 use Rattle.std.proofs.Common.{List, Some, sym, ap, ◌∙◌, subst}
 use Rattle.std.specs.Prelude.{option_map, Contains}
-use Rattle.fib_interned.specs.Interned.{kept_of}
+use Rattle.fib_base_interned.specs.Interned.{kept_of}
 use Rattle.fib_paths.specs.PathLists.{KeptList}
 use Rattle.fib_paths.proofs.SamePaths.{lists_are}
 use Rattle.fib_paths.proofs.Listing.{content_listed, new_of, not_listed}

@@ -1,5 +1,5 @@
 use Rattle.std.proofs.Common.{map, IsSome, sym, subst}
-use Rattle.fib_interned.specs.Interned.{kept_of, Gives}
+use Rattle.fib_base_interned.specs.Interned.{kept_of, Gives}
 use Rattle.fib_paths.specs.inner.Vectors.{listed}
 use Rattle.fib_paths.proofs.Listing.{some_listed, gives_listed, interned_listed, apart_given}
 use Rattle.fib_paths.proofs.lists.PathLists.give.Goals as goal

@@ -3,8 +3,8 @@ use Rattle.std.proofs.lemmas.Bool.{false≢true}
 use Rattle.std.specs.Prelude.{option_map, Vec}
 use Rattle.std.specs.Global.{Global}
 use Rattle.fib_resolve.specs.declared.types.Path.{Path}
-use Rattle.fib_interned.specs.Interned.{Kept, kept_of, users_of, Takes}
-use Rattle.fib_interned.proofs.Finding.{some_is}
+use Rattle.fib_base_interned.specs.Interned.{Kept, kept_of, users_of, Takes}
+use Rattle.fib_base_interned.proofs.Finding.{some_is}
 use Rattle.fib_paths.specs.PathLists.{KeptList}
 use Rattle.fib_paths.specs.inner.Vectors.{listed}
 use Rattle.fib_paths.proofs.Listing.{some_listed, users_listed, kept_listed, takes_listed, interned_listed, apart_held}

@@ -2,7 +2,7 @@ use Rattle.std.proofs.Common.{◌≡◌, List, map, sym, subst, ◌^◌, ◌-◌
 use Rattle.std.specs.Cmp.Lexicographic.{pointwise}
 use Rattle.fib_resolve.specs.declared.types.Path.{Path}
 use Rattle.fib_resolve.specs.contracts.types.PathPartialEq.TheImpl.{eq-value}
-use Rattle.fib_interned.specs.Interned.{AreInterned, Takes}
+use Rattle.fib_base_interned.specs.Interned.{AreInterned, Takes}
 use Rattle.fib_paths.specs.PathLists.{IsUsedLess}
 use Rattle.fib_paths.specs.inner.Vectors.{listed}
 use Rattle.fib_paths.proofs.SamePaths.{lists_are}

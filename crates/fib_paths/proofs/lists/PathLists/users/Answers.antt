@@ -1,5 +1,5 @@
 use Rattle.std.proofs.Common.{IsSome, sym, ap, ◌∙◌, subst}
-use Rattle.fib_interned.specs.Interned.{kept_of, users_of}
+use Rattle.fib_base_interned.specs.Interned.{kept_of, users_of}
 use Rattle.fib_paths.proofs.Listing.{some_listed, users_listed}
 use Rattle.fib_paths.proofs.lists.PathLists.users.Goals as goal
 

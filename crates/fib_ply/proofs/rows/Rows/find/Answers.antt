@@ -1,5 +1,5 @@
 use Rattle.std.proofs.Common.{arith, sym, ap, ◌∙◌}
-use Rattle.fib_ordered.specs.Sets.{found}
+use Rattle.fib_base_ordered.specs.Sets.{found}
 use Rattle.fib_ply.specs.Rows.{rank}
 use Rattle.fib_ply.proofs.Rowing.{found_some, found_none}
 use Rattle.fib_ply.proofs.rows.Rows.find.Goals as goal

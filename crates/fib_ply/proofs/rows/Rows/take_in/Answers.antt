@@ -1,5 +1,5 @@
 use Rattle.std.proofs.Common.{◌∷◌, arith, sym, subst, refl}
-use Rattle.fib_ordered.specs.Sets.{below, above}
+use Rattle.fib_base_ordered.specs.Sets.{below, above}
 use Rattle.fib_ply.specs.Rows.{ArePrefixes, rank}
 use Rattle.fib_ply.proofs.Rowing.{held_added, each_filter, each_join, key, absent_row}
 use Rattle.fib_ply.proofs.rows.Rows.take_in.Goals as goal

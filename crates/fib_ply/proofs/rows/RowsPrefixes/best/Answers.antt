@@ -1,5 +1,5 @@
 use Rattle.std.proofs.Common.{arith, sym, ap, ◌∙◌}
-use Rattle.fib_serving.specs.Matches.{look_of}
+use Rattle.fib_core_promise.specs.Matches.{look_of}
 use Rattle.fib_ply.specs.Rows.{held}
 use Rattle.fib_ply.proofs.Needing.{best_here, best_next, best_whole, half_fits}
 use Rattle.fib_ply.proofs.rows.RowsPrefixes.best.Goals as goal

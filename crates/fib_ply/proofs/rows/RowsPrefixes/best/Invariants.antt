@@ -1,5 +1,5 @@
 use Rattle.std.specs.Prelude.{◌≡◌, ◌<◌, ◌≤◌, ◌^◌}
-use Rattle.fib_serving.specs.Matches.{best_block, look_of}
+use Rattle.fib_core_promise.specs.Matches.{best_block, look_of}
 use Rattle.fib_ply.specs.Rows.{held}
 use Rattle.fib_ply.proofs.rows.RowsPrefixes.best.Given as goal
 

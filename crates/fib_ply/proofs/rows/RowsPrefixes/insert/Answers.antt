@@ -1,5 +1,5 @@
 use Rattle.std.proofs.Common.{ap, ◌∙◌}
-use Rattle.fib_serving.specs.Matches.{added, look_of}
+use Rattle.fib_core_promise.specs.Matches.{added, look_of}
 use Rattle.fib_ply.specs.Rows.{held}
 use Rattle.fib_ply.proofs.Rowing.{look_added}
 use Rattle.fib_ply.proofs.rows.RowsPrefixes.insert.Goals as goal

@@ -1,5 +1,5 @@
 use Rattle.std.proofs.Common.{ap, ◌∙◌}
-use Rattle.fib_serving.specs.Matches.{removed, look_of}
+use Rattle.fib_core_promise.specs.Matches.{removed, look_of}
 use Rattle.fib_ply.specs.Rows.{held}
 use Rattle.fib_ply.proofs.Rowing.{look_removed}
 use Rattle.fib_ply.proofs.rows.RowsPrefixes.remove.Goals as goal

@@ -1,5 +1,5 @@
 use Rattle.std.proofs.Common.{sym, ap, ◌∙◌, subst}
-use Rattle.fib_interned.specs.Interned.{kept_of, IsFound, IsAbsent}
+use Rattle.fib_base_interned.specs.Interned.{kept_of, IsFound, IsAbsent}
 use Rattle.fib_pool.specs.contracts.object.AdjacencyRecordPartialEq.TheImpl.{eq-value}
 use Rattle.fib_pool.specs.Records.{adjacency, IsNew, IsUsedLess, TakesRecord}
 use Rattle.fib_pool.proofs.Keeping.{record_is, found_few, absent_new, none_both}

@@ -1,12 +1,12 @@
 use Rattle.std.proofs.Common.{◌∙◌, ◌<◌, length, ap, sym, subst, arith}
 use Rattle.std.proofs.lemmas.List.Edits.{length-remove}
-use Rattle.fib_joined.specs.Promise.{Promise}
-use Rattle.fib_serving.specs.Stack.{Objects}
+use Rattle.fib_plane_view.specs.Promise.{Promise}
+use Rattle.fib_core_promise.specs.Stack.{Objects}
 use Rattle.fib_stack.specs.Joined.{Joined, state_in}
 use Rattle.fib_stack.specs.Turns.{parts_of}
 use Rattle.fib_stack.proofs.Leaving.{quiet_then}
 use Rattle.fib_stack.proofs.Retrying.{calm_none, retried_then, why_all, why_left, why_taken}
-use Rattle.fib_stack.proofs.Rooming.{made_alike, room_left}
+use Rattle.fib_stack.proofs.Rooming.{made_alike, room_left, took_none}
 use Rattle.fib_stack.proofs.stack.Stack.retry.Goals as goal
 
 pub try_at-requires-clause-joined : goal.try_at-requires-clause-joined
@@ -70,3 +70,11 @@ returns-clause-room g c = λ S room.
     let t = state_in (g.P.Objects.view c.loop-place.on) (parts_of c.args.table.now c.loop-place.self c.args.queue.now) in
     let r = i.retried c.requires.0 c.requires.1 c.requires.2 in
     room_left S s t (g.P.Objects.view c.args.on.now).free (g.P.Objects.view c.loop-place.on).free i.free (made_alike S s t (ap (λ (at : Objects). at.balance) r.objects) r.holds) room
+
+pub returns-clause-takes : goal.returns-clause-takes
+returns-clause-takes g c = λ S.
+    let i = c.loop-place.invariant in
+    let s = state_in (g.P.Objects.view c.args.on.now) (parts_of c.args.table.now c.args.self.now c.args.queue.now) in
+    let t = state_in (g.P.Objects.view c.loop-place.on) (parts_of c.args.table.now c.loop-place.self c.args.queue.now) in
+    let r = i.retried c.requires.0 c.requires.1 c.requires.2 in
+    took_none S s t (g.P.Objects.view c.args.on.now).free (g.P.Objects.view c.loop-place.on).free i.free (made_alike S s t (ap (λ (at : Objects). at.balance) r.objects) r.holds)

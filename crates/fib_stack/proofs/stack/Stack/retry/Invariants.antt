@@ -2,8 +2,8 @@ use Rattle.std.proofs.Common.{◌≡◌, ◌-◌, ◌<◌, ◌≤◌, ℕ, lengt
 use Rattle.std.specs.Prelude.{Option}
 use Rattle.fib_addr.specs.Prefixes.{Prefix}
 use Rattle.fib_resolve.specs.declared.types.Tables.{Tables}
-use Rattle.fib_ledger.specs.declared.late.Late.{Late}
-use Rattle.fib_joined.specs.Frames.{IsQuiet}
+use Rattle.fib_stack_ledger.specs.declared.late.Late.{Late}
+use Rattle.fib_plane_view.specs.Frames.{IsQuiet}
 use Rattle.fib_stack.specs.Done.{StaysLate}
 use Rattle.fib_stack.specs.Joined.{Joined, state_in}
 use Rattle.fib_stack.specs.Steps.{Retried}

@@ -1,11 +1,11 @@
 use Rattle.std.proofs.Common.{◌⊎◌, ◌≡◌, ℕ, List, Some, false, refl, sym, ap, ◌∙◌, subst}
 use Rattle.std.specs.Prelude.{is_some}
 use Rattle.fib_addr.specs.Prefixes.{Prefix}
-use Rattle.fib_entries.specs.Changes.{AreTouched}
-use Rattle.fib_entries.specs.Known.{rank_of}
-use Rattle.fib_queue.specs.Queues.{rank_in}
-use Rattle.fib_queue.specs.declared.order.Queued.{Queued}
-use Rattle.fib_woken.specs.Waking.{are_among}
+use Rattle.fib_entries_rows.specs.Changes.{AreTouched}
+use Rattle.fib_entries_rows.specs.Known.{rank_of}
+use Rattle.fib_stack_queue.specs.Queues.{rank_in}
+use Rattle.fib_stack_queue.specs.declared.order.Queued.{Queued}
+use Rattle.fib_stack_waking.specs.Waking.{are_among}
 use Rattle.fib_urpf.specs.Kept.{Kept, state_of}
 use Rattle.fib_urpf.specs.States.{Followed}
 use Rattle.fib_urpf.specs.contracts.urpf.Urpf as urpf

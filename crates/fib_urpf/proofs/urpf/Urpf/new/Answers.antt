@@ -1,5 +1,5 @@
 use Rattle.std.proofs.Common.{◌∙◌}
-use Rattle.fib_entries.specs.Known.{rank_of}
+use Rattle.fib_entries_rows.specs.Known.{rank_of}
 use Rattle.fib_urpf.specs.contracts.urpf.Urpf as urpf
 use Rattle.fib_urpf.proofs.Following.{queued_first, ranked_first, stands_first}
 use Rattle.fib_urpf.proofs.urpf.Urpf.new.Goals as goal

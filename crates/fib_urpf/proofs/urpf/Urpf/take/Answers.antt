@@ -1,10 +1,10 @@
 use Rattle.std.proofs.Common.{◌++◌, ◌∷◌, [], List, None, sym, ap, ◌∙◌, subst}
 use Rattle.std.specs.Prelude.{if◌then◌else◌}
 use Rattle.fib_addr.specs.Prefixes.{same_prefix}
-use Rattle.fib_entries.specs.Known.{rank_of}
-use Rattle.fib_queue.specs.Queues.{IsLeast, rank_in}
-use Rattle.fib_queue.specs.declared.order.Queued.{Queued}
-use Rattle.fib_woken.specs.Waking.{AreRanked, are_among, have_ranks}
+use Rattle.fib_entries_rows.specs.Known.{rank_of}
+use Rattle.fib_stack_queue.specs.Queues.{IsLeast, rank_in}
+use Rattle.fib_stack_queue.specs.declared.order.Queued.{Queued}
+use Rattle.fib_stack_waking.specs.Waking.{AreRanked, are_among, have_ranks}
 use Rattle.fib_urpf.specs.Kept.{Kept, state_of}
 use Rattle.fib_urpf.specs.Marks.{marks_lead}
 use Rattle.fib_urpf.specs.Sets.{kept_in}

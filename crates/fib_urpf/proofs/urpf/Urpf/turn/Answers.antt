@@ -1,4 +1,4 @@
-use Rattle.fib_entries.specs.Known.{rank_of}
+use Rattle.fib_entries_rows.specs.Known.{rank_of}
 use Rattle.fib_urpf.proofs.Turning.{same_for, stands_after}
 use Rattle.fib_urpf.proofs.urpf.Urpf.turn.Goals as goal
 

@@ -13,14 +13,14 @@ invariant_of-result c =
 
 pub returns-in-Ended : goal.returns-in-Ended
 returns-in-Ended c = (
-  is_hop c.args.self _ c.hop_on-stage.new.seat _ _ _ _ c.self.view_is c.hop_on-stage.ensures.words c.hop_on-stage.ensures.hopped,
+  is_hop c.args.self _ c.hop_on-stage.new.seat _ _ _ _ c.self.view_is c.hop_on-stage.ensures.words c.hop_on-stage.ensures.hopped c.hop_on-stage.ensures.sound,
   λ edge. subst IsOn c.in-Ended.is
       (edge_on _ _ _ _ _ c.hop_on-stage.result _ _ c.self.invariant c.hop_on-stage.ensures.hopped c.hop_on-stage.ensures.at c.hop_on-stage.ensures.sound c.hop_on-stage.ensures.nears edge),
 )
 
 pub returns-in_default : goal.returns-in_default
 returns-in_default c = (
-  is_hop c.args.self _ c.hop_on-stage.new.seat _ _ _ _ c.self.view_is c.hop_on-stage.ensures.words c.hop_on-stage.ensures.hopped,
+  is_hop c.args.self _ c.hop_on-stage.new.seat _ _ _ _ c.self.view_is c.hop_on-stage.ensures.words c.hop_on-stage.ensures.hopped c.hop_on-stage.ensures.sound,
   on_found _ _ _ _ _ c.hop_on-stage.result _ _ c.self.invariant c.hop_on-stage.ensures.hopped c.hop_on-stage.ensures.at c.hop_on-stage.ensures.sound c.hop_on-stage.ensures.nears
       (on_unless c.hop_on-stage.result c.in_default.not-Ended),
 )

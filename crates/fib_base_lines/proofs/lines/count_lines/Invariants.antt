@@ -1,0 +1,12 @@
+use Rattle.std.proofs.Common.{◌≡◌, ◌+◌, ◌≤◌, length}
+use Rattle.fib_base_lines.specs.Lines.{lines_of}
+use Rattle.fib_base_lines.proofs.lines.count_lines.Given as goal
+
+abbrev pub invariant-loop-after : goal.invariant-loop-after
+invariant-loop-after l = record {
+  counted : l.count + length (lines_of l.rest) ≡ length (lines_of l.text);
+  fits : l.count + length l.rest ≤ length l.text;
+}
+
+abbrev pub decreases-loop-after : goal.decreases-loop-after
+decreases-loop-after l = length l.rest

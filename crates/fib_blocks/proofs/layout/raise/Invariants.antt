@@ -1,6 +1,0 @@
-use Rattle.std.proofs.Common.{◌≡◌, ◌+◌}
-use Rattle.fib_blocks.specs.inner.Layout.{changed}
-use Rattle.fib_blocks.proofs.layout.raise.Given as goal
-
-abbrev pub invariant-starts : goal.invariant-starts
-invariant-starts l = l.starts.items ≡ changed (λ n. n + 1) l.from l.place l.fn.starts.items

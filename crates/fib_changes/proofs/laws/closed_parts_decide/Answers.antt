@@ -1,5 +1,0 @@
-use Rattle.fib_changes.proofs.Cycles.{part_decides}
-use Rattle.fib_changes.proofs.laws.closed_parts_decide.Goals as goal
-
-pub returns : goal.returns
-returns c = part_decides

@@ -1,5 +1,0 @@
-use Rattle.fib_changes.proofs.Targets.{edge_entry}
-use Rattle.fib_changes.proofs.laws.edges_lead_to_entries.Goals as goal
-
-pub returns : goal.returns
-returns c = edge_entry

@@ -1,5 +1,0 @@
-use Rattle.fib_changes.proofs.Differing.{edit_differs}
-use Rattle.fib_changes.proofs.laws.edits_differ_there.Goals as goal
-
-pub returns : goal.returns
-returns c = edit_differs

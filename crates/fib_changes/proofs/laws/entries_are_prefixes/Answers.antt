@@ -1,5 +1,0 @@
-use Rattle.fib_changes.proofs.Prefixed.{entries_good}
-use Rattle.fib_changes.proofs.laws.entries_are_prefixes.Goals as goal
-
-pub returns : goal.returns
-returns c = entries_good

@@ -1,5 +1,0 @@
-use Rattle.fib_changes.proofs.CauseLaws.{marks_through_all}
-use Rattle.fib_changes.proofs.laws.marks_change_on_cycles.Goals as goal
-
-pub returns : goal.returns
-returns c = marks_through_all

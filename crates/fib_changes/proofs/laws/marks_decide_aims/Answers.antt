@@ -1,5 +1,0 @@
-use Rattle.fib_changes.proofs.MarkLaws.{aim_is}
-use Rattle.fib_changes.proofs.laws.marks_decide_aims.Goals as goal
-
-pub returns : goal.returns
-returns c = aim_is

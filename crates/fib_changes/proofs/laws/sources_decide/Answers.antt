@@ -1,5 +1,0 @@
-use Rattle.fib_changes.proofs.SamePairs.{same_pairs_from}
-use Rattle.fib_changes.proofs.laws.sources_decide.Goals as goal
-
-pub returns : goal.returns
-returns c = same_pairs_from

@@ -1,0 +1,7 @@
+pub mod Layout
+pub mod State
+pub mod Frame
+pub mod Lawful
+pub mod May
+pub mod Claims
+pub mod Rule

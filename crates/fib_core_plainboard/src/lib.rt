@@ -1,0 +1,16 @@
+//! The board as one value: the shared words without another thread, and passes as calls.
+//!
+//! A `PlainBoard` has its words in the layout of the shared table and makes on them, one after another, the events that
+//! the control plane and the workers of a live table make. It is under the same rule, `IsLawful` of fib_core_rule, by the
+//! same laws. So it shows that what the rule and the trait `Board` ask can be met together.
+//!
+//! What contracts see of it is the value `Board` of fib_core_board; `specs/Passes.antt` says what begin, hop and end make of
+//! it. `specs/inner` only carries proofs: `Reads`, `Sits` those of the code, the others those of `filling`, which fills boards for tests.
+#![tactic(auto)]
+
+pub mod filling;
+mod memory;
+mod plain_board;
+mod running;
+
+pub use plain_board::PlainBoard;

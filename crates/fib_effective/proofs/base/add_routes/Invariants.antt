@@ -1,6 +1,0 @@
-use Rattle.std.proofs.Common.{◌≡◌, ◌++◌, take, map}
-use Rattle.fib_resolve.specs.Pairs.{route_pair}
-use Rattle.fib_effective.proofs.base.add_routes.Given as goal
-
-abbrev pub invariant-loop-r : goal.invariant-loop-r
-invariant-loop-r l = l.out.items ≡ l.fn.out.items ++ map route_pair (take l.r-index l.routes)

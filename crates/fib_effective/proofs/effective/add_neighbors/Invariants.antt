@@ -1,7 +1,0 @@
-use Rattle.std.proofs.Common.{◌≡◌, ◌++◌, take}
-use Rattle.std.specs.Prelude.{flat_map}
-use Rattle.fib_resolve.specs.Pairs.{neighbor_pairs}
-use Rattle.fib_effective.proofs.effective.add_neighbors.Given as goal
-
-abbrev pub invariant-loop-n : goal.invariant-loop-n
-invariant-loop-n l = l.out.items ≡ l.fn.out.items ++ flat_map (neighbor_pairs l.covers) (take l.n-index l.n-items)

@@ -1,7 +1,0 @@
-use Rattle.std.proofs.Common.{◌≡◌, take}
-use Rattle.std.specs.Prelude.{flat_map}
-use Rattle.fib_resolve.specs.Pairs.{recursive_hops}
-use Rattle.fib_effective.proofs.paths.recursive_hops.Given as goal
-
-abbrev pub invariant-loop-r : goal.invariant-loop-r
-invariant-loop-r l = l.out.items ≡ flat_map recursive_hops (take l.r-index l.routes)

@@ -1,6 +1,0 @@
-use Rattle.std.proofs.Common.{take}
-use Rattle.fib_entries.specs.inner.Building.{AreTaken}
-use Rattle.fib_entries.proofs.build.take_all.Given as goal
-
-abbrev pub invariant-loop-x : goal.invariant-loop-x
-invariant-loop-x l = AreTaken l.lists (take l.x-index l.pairs) l.out.items

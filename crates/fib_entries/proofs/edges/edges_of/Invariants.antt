@@ -1,5 +1,0 @@
-use Rattle.fib_entries.specs.inner.Edges.{AreEdgesOf}
-use Rattle.fib_entries.proofs.edges.edges_of.Given as goal
-
-abbrev pub invariant-loop-from : goal.invariant-loop-from
-invariant-loop-from l = AreEdgesOf l.meaning l.order l.from l.out.items

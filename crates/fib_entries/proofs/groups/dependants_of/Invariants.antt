@@ -1,6 +1,0 @@
-use Rattle.std.proofs.Common.{take}
-use Rattle.fib_entries.proofs.Grouping.{AreAt}
-use Rattle.fib_entries.proofs.groups.dependants_of.Given as goal
-
-abbrev pub invariant-loop-from : goal.invariant-loop-from
-invariant-loop-from l = AreAt l.order (take l.from-index l.from-items) l.out

@@ -1,5 +1,0 @@
-use Rattle.fib_entries.proofs.Ranking.{AreRanked}
-use Rattle.fib_entries.proofs.ranks.ranks.Given as goal
-
-abbrev pub invariant-loop-place : goal.invariant-loop-place
-invariant-loop-place l = AreRanked l.order l.out.items l.nodes l.place

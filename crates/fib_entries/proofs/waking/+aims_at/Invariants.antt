@@ -1,5 +1,0 @@
-use Rattle.std.proofs.Common.{length}
-use Rattle.fib_entries.proofs.waking.+aims_at.Given as goal
-
-abbrev pub decreases-aims_at : goal.decreases-aims_at
-decreases-aims_at l = length l.marks.now

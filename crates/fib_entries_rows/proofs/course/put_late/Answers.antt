@@ -1,0 +1,20 @@
+use Rattle.std.proofs.Common.{[], inl, inr, sym, ◌∙◌, subst}
+use Rattle.std.specs.Prelude.{Contains, Option}
+use Rattle.fib_addr.specs.Prefixes.{host}
+use Rattle.fib_resolve_changes.proofs.Edits.{in_front}
+use Rattle.fib_entries_rows.specs.inner.Reaching.{late_hosts}
+use Rattle.fib_entries_rows.specs.declared.hosting.Late.{Late}
+use Rattle.fib_entries_rows.proofs.Leafing.{only_one}
+use Rattle.fib_entries_rows.proofs.course.put_late.Goals as goal
+
+pub returns-in_ok-insert-in-Some-clause-members : goal.returns-in_ok-insert-in-Some-clause-members
+returns-in_ok-insert-in-Some-clause-members c = λ e. (
+  λ i. elim ((c.in_ok-insert-in-Some.ensures.members e).0 i) [
+    | inl was ↦ inl was
+    | inr is ↦ inr (subst (λ (o : Option Late). Contains (late_hosts o) e) (sym c.in-Some.is) (in_front (host c.in-Some.g.addr) e [] (sym c.host.ensures ∙ sym is)))
+  ],
+  λ i. (c.in_ok-insert-in-Some.ensures.members e).1 (elim i [
+    | inl was ↦ inl was
+    | inr late ↦ inr (sym (c.host.ensures ∙ only_one (host c.in-Some.g.addr) e (subst (λ (o : Option Late). Contains (late_hosts o) e) c.in-Some.is late)))
+  ]),
+)

@@ -1,0 +1,24 @@
+-- Relations that carry proofs and no claim: none is needed to believe a public clause.
+pub mod Building
+pub mod Compare
+pub mod Dependants
+pub mod Edges
+pub mod Fields
+pub mod Waking
+pub mod Leaf
+pub mod Ends
+pub mod Plies
+pub mod Going
+pub mod Coming
+pub mod Part
+pub mod Hosting
+pub mod Parting
+pub mod Gateway
+pub mod Losing
+pub mod Raising
+pub mod Led
+pub mod Looping
+pub mod Reaching
+pub mod Course
+pub mod Clear
+pub mod Under

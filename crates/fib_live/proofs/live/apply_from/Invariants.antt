@@ -1,5 +1,0 @@
-use Rattle.fib_live.specs.Crewed.{SameCrew}
-use Rattle.fib_live.proofs.live.apply_from.Given as goal
-
-abbrev pub invariant-loop-place : goal.invariant-loop-place
-invariant-loop-place l = SameCrew l.fn.control.plane.board l.control.plane.board

@@ -1,7 +1,0 @@
-pub mod Edges
-pub mod Exits
-pub mod Leading
-pub mod Stability
-pub mod Viewing
-pub mod Following
-pub mod Cycles

@@ -1,0 +1,4 @@
+pub mod View
+pub mod Promise
+pub mod Frames
+pub mod Stores

@@ -1,5 +1,0 @@
-use Rattle.fib_quiet.proofs.Planed.{used_at_rest}
-use Rattle.fib_quiet.proofs.laws.as_many_are_used_as_the_size_says.Goals as goal
-
-pub returns : goal.returns
-returns c = used_at_rest

@@ -1,5 +1,0 @@
-use Rattle.fib_quiet.proofs.Workers.{same_versions}
-use Rattle.fib_quiet.proofs.laws.so_do_workers.Goals as goal
-
-pub returns : goal.returns
-returns c = same_versions

@@ -1,0 +1,9 @@
+pub mod Backward
+pub mod Best
+pub mod Covering
+pub mod Members
+pub mod Numbers
+pub mod Once
+pub mod Placing
+pub mod Edges
+pub mod Cycles

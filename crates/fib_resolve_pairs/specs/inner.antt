@@ -1,0 +1,5 @@
+-- Relations that carry proofs and no claim: none is needed to believe a public clause.
+pub mod Kept
+pub mod Places
+pub mod Edges
+pub mod Meanings

@@ -1,0 +1,5 @@
+pub mod Routers
+pub mod Turns
+pub mod Changes
+pub mod inner
+pub mod Listings

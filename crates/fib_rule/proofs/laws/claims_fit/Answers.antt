@@ -1,5 +1,0 @@
-use Rattle.fib_rule.proofs.Tells.{claim_room}
-use Rattle.fib_rule.proofs.laws.claims_fit.Goals as goal
-
-pub returns : goal.returns
-returns c = λ objects words views s. claim_room objects words views s

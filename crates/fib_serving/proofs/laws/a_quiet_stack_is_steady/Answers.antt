@@ -1,5 +1,0 @@
-use Rattle.fib_serving.proofs.Turns.{settled_steady}
-use Rattle.fib_serving.proofs.laws.a_quiet_stack_is_steady.Goals as goal
-
-pub returns : goal.returns
-returns c = settled_steady

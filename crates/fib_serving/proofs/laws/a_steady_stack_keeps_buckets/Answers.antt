@@ -1,5 +1,0 @@
-use Rattle.fib_serving.proofs.Stack.{keeps_buckets}
-use Rattle.fib_serving.proofs.laws.a_steady_stack_keeps_buckets.Goals as goal
-
-pub returns : goal.returns
-returns c = keeps_buckets

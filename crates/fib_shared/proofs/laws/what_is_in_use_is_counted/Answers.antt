@@ -1,5 +1,0 @@
-use Rattle.fib_shared.proofs.Seeing.{live_down}
-use Rattle.fib_shared.proofs.laws.what_is_in_use_is_counted.Goals as goal
-
-pub returns : goal.returns
-returns c = λ p x told live. live_down p told x live

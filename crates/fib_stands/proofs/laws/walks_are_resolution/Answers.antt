@@ -1,5 +1,0 @@
-use Rattle.fib_stands.proofs.Standing.{walk_resolved}
-use Rattle.fib_stands.proofs.laws.walks_are_resolution.Goals as goal
-
-pub returns : goal.returns
-returns c = walk_resolved

@@ -1,6 +1,0 @@
-use Rattle.std.proofs.Common.{◌∙◌}
-use Rattle.fib_trials.proofs.Seating.{home_by}
-use Rattle.fib_trials.proofs.alone.settle_lines.Goals as goal
-
-pub settle_alone-requires : goal.settle_alone-requires
-settle_alone-requires c = home_by _ (c.settle-before.ensures.seats ∙ c.in_ok-base.ensures ∙ c.requires)

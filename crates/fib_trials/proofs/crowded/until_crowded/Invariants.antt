@@ -1,9 +1,0 @@
-use Rattle.std.proofs.Common.{◌≡◌, []}
-use Rattle.fib_trials.specs.Seats.{seats_in}
-use Rattle.fib_trials.proofs.crowded.until_crowded.Given as goal
-
-abbrev pub invariant-loop-place : goal.invariant-loop-place
-invariant-loop-place l = record {
-  seats : seats_in l.control ≡ seats_in l.initial.control;
-  none : l.control.queue ≡ [];
-}

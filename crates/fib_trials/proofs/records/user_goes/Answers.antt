@@ -1,5 +1,0 @@
-use Rattle.fib_quiet.proofs.Early.{may_clear}
-use Rattle.fib_trials.proofs.records.user_goes.Goals as goal
-
-pub give_adj-requires-clause-promise : goal.give_adj-requires-clause-promise
-give_adj-requires-clause-promise g c = may_clear (g.P.Objects.promise c.args.on.now) (g.P.Objects.view c.args.on.now) c.requires.empty

@@ -1,6 +1,0 @@
-use Rattle.std.proofs.Common.{◌≡◌}
-use Rattle.fib_trials.specs.Seats.{seats_in}
-use Rattle.fib_trials.proofs.refused.apply_each.Given as goal
-
-abbrev pub invariant-loop-version : goal.invariant-loop-version
-invariant-loop-version l = seats_in l.control ≡ seats_in l.initial.control

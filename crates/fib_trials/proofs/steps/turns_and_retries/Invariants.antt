@@ -1,6 +1,0 @@
-use Rattle.std.proofs.Common.{◌≡◌}
-use Rattle.fib_trials.specs.Seats.{seats_in}
-use Rattle.fib_trials.proofs.steps.turns_and_retries.Given as goal
-
-abbrev pub invariant-loop-count : goal.invariant-loop-count
-invariant-loop-count l = seats_in l.control ≡ seats_in l.initial.control

@@ -1,4 +1,0 @@
-pub mod Routers
-pub mod Turns
-pub mod Changes
-pub mod inner

@@ -1,0 +1,17 @@
+use Rattle.std.proofs.Common.{sym, subst, ◌∙◌}
+use Rattle.fib_worker.specs.inner.Runs.{IsOn}
+use Rattle.fib_worker.proofs.Runs.{hop_keeps, rest_falls, running_on, trail_trans}
+use Rattle.fib_worker.proofs.walk.below_plies.Goals as goal
+
+pub loop-stage-smaller : goal.loop-stage-smaller
+loop-stage-smaller c =
+    rest_falls _ _ _ _ c.loop-stage.stage c.hop_on-stage.result c.loop-stage.invariant.2 (subst IsOn (sym c.in-Ply.is) tt) c.hop_on-stage.ensures.hopped
+    c.hop_on-stage.ensures.sound c.hop_on-stage.ensures.nears
+
+pub loop-stage-preserved : goal.loop-stage-preserved
+loop-stage-preserved c = (
+  c.hop_on-stage.ensures.words ∙ c.loop-stage.invariant.0,
+  trail_trans _ _ _ c.loop-stage.invariant.1
+      (hop_keeps _ _ _ _ c.loop-stage.stage (running_on _ _ _ _ c.loop-stage.invariant.2 (subst IsOn (sym c.in-Ply.is) tt)) c.hop_on-stage.ensures.hopped),
+  record { follows = c.hop_on-stage.ensures.hopped.follows; at = c.hop_on-stage.ensures.at; sound = c.hop_on-stage.ensures.sound },
+)

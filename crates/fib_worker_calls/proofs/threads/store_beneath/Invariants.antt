@@ -1,6 +1,0 @@
-use Rattle.std.proofs.Common.{◌≡◌}
-use Rattle.fib_plainboard.specs.inner.Filling.{IsChanging}
-use Rattle.fib_worker_calls.proofs.threads.store_beneath.Given as goal
-
-abbrev pub invariant-loop : goal.invariant-loop
-invariant-loop l = IsChanging l.board × (l.board.id ≡ l.fn.board.id)

@@ -1,6 +1,0 @@
-use Rattle.std.proofs.Common.{◌≡◌}
-use Rattle.fib_plainboard.specs.inner.Filling.{IsChanging}
-use Rattle.fib_worker_calls.proofs.worker.a_change_beneath_held_passes.Given as goal
-
-abbrev pub invariant-loop-held : goal.invariant-loop-held
-invariant-loop-held g l = IsChanging l.board × (l.board.workers ≡ 1) × (l.board.objects ≡ 64) × (l.worker.id ≡ l.board.id)
