@@ -25,7 +25,7 @@ use Rattle.fib_plane.specs.Views.{copy_seen}
 use Rattle.fib_plane_view.specs.Promise.{MayClear, Promise}
 use Rattle.fib_stack.proofs.Joining.{table_names}
 use Rattle.fib_core_promise.specs.Stack.{is_some}
-use Rattle.fib_stack.specs.Done.{IsTaken, TurnDone}
+use Rattle.fib_stack.specs.Done.{HadItsTurn, TurnDone}
 use Rattle.fib_stack.specs.Joined.{Joined, queued_in, table_of}
 use Rattle.fib_stack.specs.Orders.{InOrder, did_also}
 use Rattle.fib_stack.specs.Room.{HasRoomLeft}
@@ -77,7 +77,7 @@ turned_order S rank (turns.Restacked e stores dropped) s t before after sound do
     done.1)
 
 -- who has a turn had none since the last change
-pub turn_new : (S : Tables) (rank : Prefix → ℕ) (e : Prefix) (s t : State) (before : List Prefix) → IsTaken S rank e s t → InOrder rank s (is_among before) → is_among before e ≡ false
+pub turn_new : (S : Tables) (rank : Prefix → ℕ) (e : Prefix) (s t : State) (before : List Prefix) → HadItsTurn S rank e s t → InOrder rank s (is_among before) → is_among before e ≡ false
 turn_new S rank e s t before taken order = elim (either (is_among before e)) [
   | inl is ↦ absurd (was_not_done rank s (is_among before) e order taken.0.queued is)
   | inr none ↦ none

@@ -13,7 +13,7 @@ use Rattle.fib_core_promise.proofs.Answers.{promised_from, promised_to}
 use Rattle.fib_plane_view.specs.Promise.{IsBegun, Promise}
 use Rattle.fib_plane_view.specs.View.{View}
 use Rattle.fib_ply.specs.Tables.{Stands, watch_of}
-use Rattle.fib_ply.specs.Served.{IsKept, Wanted}
+use Rattle.fib_ply.specs.Served.{KeepsBeside, Wanted}
 use Rattle.fib_ply.proofs.Rewatching.{rewatch, wanted_begun}
 use Rattle.fib_stack.specs.Joined.{Joined, Parts, balance_in, in_change, queued_in, state_in, table_of}
 use Rattle.fib_stack.specs.Steps.{Applied}
@@ -70,7 +70,7 @@ module _ (S T : Tables) (rank new : Prefix → ℕ) (q r : Promise) (v : View) (
       let on_time : nat_lt 0 q.applied ≡ true = begun_true q.applied begun in
       ap (λ b. if b then promised_by q.versions balances a else None) on_time ∙ by
 
-  kept : IsKept (watch_of (in_change r) (table_of s)) v
+  kept : KeepsBeside (watch_of (in_change r) (table_of s)) v
   kept =
       let k = j.table.2.at.kept in record {
         allowed = inl began;

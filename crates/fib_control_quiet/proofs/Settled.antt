@@ -19,7 +19,7 @@ use Rattle.fib_plane_view.specs.View.{IsLive, View}
 use Rattle.fib_ply.specs.Prefixes.{Look}
 use Rattle.fib_ply.specs.Tables.{Stands, watch_of}
 use Rattle.fib_ply.specs.Plies.{Has, IsSound, Mixed}
-use Rattle.fib_ply.specs.Served.{IsKept, IsRight, IsWalked, Paths, Wanted, Watch}
+use Rattle.fib_ply.specs.Served.{KeepsBeside, IsRight, IsWalked, Paths, Wanted, Watch}
 use Rattle.fib_ply.specs.Fitting.{IsFilled}
 use Rattle.fib_ply.proofs.Laws.{held_prefix}
 use Rattle.fib_ply.proofs.Rewatching.{wanted_begun}
@@ -116,7 +116,7 @@ module _ (S : Tables) (rank : Prefix → ℕ) (p : Promise) (v : View) (s : Part
   sound_now : IsSound w look v
   sound_now = let was = rest.drained.joined.table.2.at.sound in record { balance = was.balance; whole = was.whole; still = λ z. was.still (early z) }
 
-  kept_now : IsKept w v
+  kept_now : KeepsBeside w v
   kept_now = record {
     allowed = dite (ℕ_discrete q.applied 0) (λ z. inr (z, refl)) (λ ne. inl (omega (arith, ne)));
     newest = S;

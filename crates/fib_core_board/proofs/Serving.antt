@@ -12,11 +12,11 @@ use Rattle.fib_core.proofs.Edges.{edges_stored, edges_scanned}
 use Rattle.fib_core_steady.specs.Rooted.{PliesHang}
 use Rattle.fib_core_steady.proofs.Hanging.{none_leaves_aside}
 use Rattle.fib_core_lawful.specs.State.{put}
-use Rattle.fib_core_rule.specs.Serving.{Serves as serving_of}
+use Rattle.fib_core_rule.specs.Serving.{HoldsPromise as serving_of}
 use Rattle.fib_core_rule.specs.Steady.{MayStoreSteadily}
 use Rattle.fib_core_rule.proofs.Serving as serving
 use Rattle.fib_core_board.specs.Boards.{Board, as_control, edge_of, union_of, board_stored, board_scanned, HasNoPly}
-use Rattle.fib_core_board.specs.May.{IsReached, MayClear, MayEmpty, Serves}
+use Rattle.fib_core_board.specs.May.{IsReached, MayClear, MayEmpty, HoldsPromise}
 
 -- a board's store and look are those of its union between objects
 pub union_stored : (b : Board) (k : ℕ) (w : Word) → union_of (board_stored b k w) ≡ edges.stored b.workers (union_of b) k (edge_of w)
@@ -47,7 +47,7 @@ pub edge_at_drop : (n : ℕ) → decoded n ≡ words.Drop → edge_in n ≡ None
 edge_at_drop n is = edge_by n false (goes_of n words.Drop is)
 
 -- what isn't held may be cleared
-pub serves_clear : (b : Board) (Held : ℕ → Type 0) (o : ℕ) → (Held o → ⊥) → Serves b Held → MayClear b o
+pub serves_clear : (b : Board) (Held : ℕ → Type 0) (o : ℕ) → (Held o → ⊥) → HoldsPromise b Held → MayClear b o
 serves_clear b Held o free ok = serving.serves_clear (as_control b) Held o free ok
 
 -- what may be cleared may be emptied
@@ -57,15 +57,15 @@ clear_empties b k far clear =
     (serving.clear_steadily (as_control b) k (λ z. far (inl z)) (λ j v g to. far (inr (j, subst (edges.Goes (union_of b) j) to (goes_edges b.union j v g)))) clear)
 
 -- a Drop where nothing leads and that isn't held, a look, a change of holds
-pub serves_cleared : (b : Board) (Held : ℕ → Type 0) (k : ℕ) → owner k ≢ 0 → into (union_of b) (owner k) ≡ 0 → (Held (owner k) → ⊥) → Serves b Held → Serves (board_stored b k words.Drop) Held
+pub serves_cleared : (b : Board) (Held : ℕ → Type 0) (k : ℕ) → owner k ≢ 0 → into (union_of b) (owner k) ≡ 0 → (Held (owner k) → ⊥) → HoldsPromise b Held → HoldsPromise (board_stored b k words.Drop) Held
 serves_cleared b Held k other none free ok =
     subst (λ (n : ℕ). serving_of (put (as_control b) k n) Held) (sym drop_zero)
     (serving.serves_cleared (as_control b) Held k other (none_counted b.union (owner k) none) free ok)
 
-pub serves_scanned : (b : Board) (Held : ℕ → Type 0) (n found : ℕ) → Serves b Held → Serves (board_scanned n found b) Held
+pub serves_scanned : (b : Board) (Held : ℕ → Type 0) (n found : ℕ) → HoldsPromise b Held → HoldsPromise (board_scanned n found b) Held
 serves_scanned b Held n found ok = serving.serves_looked (as_control b) Held n found ok
 
-pub serves_held : (b : Board) (Held More : ℕ → Type 0) → ((o : ℕ) → Held o → More o) → Serves b Held → Serves b More
+pub serves_held : (b : Board) (Held More : ℕ → Type 0) → ((o : ℕ) → Held o → More o) → HoldsPromise b Held → HoldsPromise b More
 serves_held b Held More more ok = serving.serves_held (as_control b) Held More more ok
 
 -- no edge to a ply leaves or enters an object into which no edge leads

@@ -43,8 +43,8 @@ pub record MayStore (b : Board) (k : ℕ) (w : Word) : Type 0 where
   pub aside : w ≡ words.Drop → (IsReached b (owner k) → ⊥) → MayEmpty b k
 
 -- steady traffic through what is cleared: for some names the promise holds, and the balance of each entry of all versions is held
-abbrev pub Serves : Board → (ℕ → Type 0) → Type 0
-Serves b Held = serving.Serves (as_control b) Held
+abbrev pub HoldsPromise : Board → (ℕ → Type 0) → Type 0
+HoldsPromise b Held = serving.HoldsPromise (as_control b) Held
 
 -- a version is begun with these tables
 abbrev pub MayBegin : Board → Tables → Type 0

@@ -11,7 +11,7 @@ ghost use Rattle.fib_core_lawful.specs.Frame.{HasView};
 ghost use Rattle.fib_core_rule.specs.Rule.{IsLawful};
 ghost use Rattle.fib_core_rule.specs.May as events;
 ghost use Rattle.fib_core_board.specs.Boards.{Board, HasNoPly, Pass, board_of, board_scanned, board_stored, edge_of, union_of};
-ghost use Rattle.fib_core_board.specs.May.{MayClear, MayStore, Serves};
+ghost use Rattle.fib_core_board.specs.May.{MayClear, MayStore, HoldsPromise};
 ghost use Rattle.fib_core_board.specs.Told.{IsBoard, IsWithinLimits};
 
 /// A store of a word is a store of its edge, or of none, in the board's union between objects.
@@ -28,16 +28,16 @@ pub fn edges_lead_where_they_say()
 
 /// An object that isn't held may be cleared, and clearing it keeps what serves steady traffic.
 pub fn what_is_not_held_may_be_cleared()
-    ensures may { (b : Board) (held : List ℕ) (o : ℕ) → (Contains held o → ⊥) → Serves b (Contains held) → MayClear b o }
+    ensures may { (b : Board) (held : List ℕ) (o : ℕ) → (Contains held o → ⊥) → HoldsPromise b (Contains held) → MayClear b o }
     ensures kept { (b : Board) (held : List ℕ) (k : ℕ)
         → owner k ≢ 0 → into (union_of b) (owner k) ≡ 0 → (Contains held (owner k) → ⊥)
-        → Serves b (Contains held) → Serves (board_stored b k said.Drop) (Contains held) }
+        → HoldsPromise b (Contains held) → HoldsPromise (board_stored b k said.Drop) (Contains held) }
 {}
 
 /// Looking at pass words keeps it too.
 pub fn looks_keep_what_is_served()
     ensures { (b : Board) (held : List ℕ) (n found : ℕ)
-        → Serves b (Contains held) → Serves (board_scanned n found b) (Contains held) }
+        → HoldsPromise b (Contains held) → HoldsPromise (board_scanned n found b) (Contains held) }
 {}
 
 /// No edge to a ply leaves or enters an object into which no edge leads, but for object 0.

@@ -23,7 +23,7 @@ use Rattle.fib_core_lawful.specs.State.{Log, Control, Worker, View, started, lea
 use Rattle.fib_core_lawful.specs.Frame.{Parts}
 use Rattle.fib_core_lawful.specs.Claims.{one_if, outs}
 use Rattle.fib_core_lawful.proofs.Seating.{outs_most, outs_less}
-use Rattle.fib_core_lawful.specs.Lawful.{HoldsEnds, IsWalk, IsTold, IsAimed, AimsOnce, OfControl, OfWorker, lawful}
+use Rattle.fib_core_lawful.specs.Lawful.{HoldsEnds, IsWalk, IsTold, EndsLawfully, AimsOnce, OfControl, OfWorker, lawful}
 use Rattle.fib_core_lawful.specs.May.{MayStoreLawfully, HasNext, MaySettle, IsFilling}
 use Rattle.fib_core_lawful.proofs.Framing.{WorkerOwes, ControlOwes, SendOwes, HomeOwes}
 use Rattle.fib_core_results.proofs.Versions.{unpacked_packed}
@@ -58,7 +58,7 @@ reads_of cells l lo [] aimed a h f = tt
 reads_of cells l lo (x ∷ t) aimed a h f = aimed.read a h f
 
 -- the facts on a walking seat
-aimed_next : (cells : List ℕ) (l : Log) (lo knows : Version) (t : List Load) (k found : ℕ) → (IsAimed cells l knows []) → found ≡ slice_index cells k → HoldsEnds cells l → AimsOnce cells l lo t → IsAimed cells l (lo_at t lo knows) ((k, found) ∷ t)
+aimed_next : (cells : List ℕ) (l : Log) (lo knows : Version) (t : List Load) (k found : ℕ) → (EndsLawfully cells l knows []) → found ≡ slice_index cells k → HoldsEnds cells l → AimsOnce cells l lo t → EndsLawfully cells l (lo_at t lo knows) ((k, found) ∷ t)
 aimed_next cells l lo knows [] k found start is ends old = aimed_on cells l knows [] k found is ends start
 aimed_next cells l lo knows (x ∷ t) k found start is ends old = aimed_on cells l lo (x ∷ t) k found is ends old
 

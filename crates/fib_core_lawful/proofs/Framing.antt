@@ -9,7 +9,7 @@ use Rattle.fib_core_lawful.specs.Layout.{pass_word, first_cell}
 use Rattle.fib_core_lawful.proofs.Views.{at_set}
 use Rattle.fib_core_results.specs.declared.record.Version.{Version}
 use Rattle.fib_core_lawful.specs.State.{Control, Worker, View, control, worker, note, spent, sent, new_worker, taken_home}
-use Rattle.fib_core_lawful.specs.Frame.{Parts, IsSeated, Fits, IsKept, Rule}
+use Rattle.fib_core_lawful.specs.Frame.{Parts, IsSeated, Fits, IsFramed, Rule}
 
 at_end : {A : Type 0} (l : List A) (a b : A) (j : ℕ) → get_elem? (l ++ a ∷ []) j ≡ some b → (get_elem? l j ≡ some b) ⊎ ((j ≡ length l) × (a ≡ b))
 at_end [] a b zero e = inr (refl, some-injective a b e)
@@ -25,10 +25,10 @@ each_set Q views by w others mine j u e = ⊎_elim
 
 module _ (P : Parts) (words : List ℕ) (views : List View) where
   -- the control's seat knows the rule's own view
-  pub own : (id : ℕ) (c : Control) → Rule P words views → get_elem? views id ≡ some (control c) → (id ≡ 0) × ((seat_of : ℕ → ℕ) × IsKept P words views c seat_of)
+  pub own : (id : ℕ) (c : Control) → Rule P words views → get_elem? views id ≡ some (control c) → (id ≡ 0) × ((seat_of : ℕ → ℕ) × IsFramed P words views c seat_of)
   own id c s at =
       let e = s.2.fits id (control c) at in
-      (e.0, (s.1, subst (λ d. IsKept P words views d s.1) (sym e.1) s.2))
+      (e.0, (s.1, subst (λ d. IsFramed P words views d s.1) (sym e.1) s.2))
 
   -- what a worker's step owes
   abbrev pub WorkerOwes : List ℕ → Worker → Worker → Type 0
@@ -41,7 +41,7 @@ module _ (P : Parts) (words : List ℕ) (views : List View) where
       → w.number ≡ v.number
       → (slice_index words (pass_word v.number) ≡ v.pass → pass_word v.number < length words → slice_index words' (pass_word v.number) ≡ w.pass)
       → WorkerOwes words' v w
-      → (seat_of : ℕ → ℕ) × IsKept P words' (slice_set views id (worker w)) s.0 seat_of
+      → (seat_of : ℕ → ℕ) × IsFramed P words' (slice_set views id (worker w)) s.0 seat_of
   worker_acts words' id v w s at long same number pass owes =
       let c : Control = s.0 in
       let f = (s.2.fits id (worker v) at).0 in
@@ -77,7 +77,7 @@ module _ (P : Parts) (words : List ℕ) (views : List View) where
       → ((j : ℕ) → j < 8 → slice_index words' (pass_word j) ≡ slice_index words (pass_word j))
       → d.desk.out ≡ c.desk.out → d.desk.rests ≡ c.desk.rests
       → ControlOwes words' c d
-      → (seat_of : ℕ → ℕ) × IsKept P words' (slice_set views id (control d)) d seat_of
+      → (seat_of : ℕ → ℕ) × IsFramed P words' (slice_set views id (control d)) d seat_of
   control_acts words' id c d s at long same outs rests owes =
       let k = own id c s at in
       let o = owes k.1.1.here in
@@ -91,7 +91,7 @@ module _ (P : Parts) (words : List ℕ) (views : List View) where
         },
       )
     where
-      others : (seat_of : ℕ → ℕ) → IsKept P words views c seat_of → id ≡ 0 → ((u : Worker) → u.number < 8 → slice_index_or c.desk.out u.number false ≡ true → slice_index words (pass_word u.number) ≡ u.pass → P.of_worker words c u → P.of_worker words' d u) → ((n : Version) → P.of_note words c n → P.of_note words' d n) → (j : ℕ) (u : View) → j ≢ id → get_elem? views j ≡ some u → Fits P words' d seat_of j u
+      others : (seat_of : ℕ → ℕ) → IsFramed P words views c seat_of → id ≡ 0 → ((u : Worker) → u.number < 8 → slice_index_or c.desk.out u.number false ≡ true → slice_index words (pass_word u.number) ≡ u.pass → P.of_worker words c u → P.of_worker words' d u) → ((n : Version) → P.of_note words c n → P.of_note words' d n) → (j : ℕ) (u : View) → j ≢ id → get_elem? views j ≡ some u → Fits P words' d seat_of j u
       others seat_of k z more notes j (control e) ne h = absurd (ne ((k.fits j (control e) h).0 ∙ sym z))
       others seat_of k z more notes j (worker u) ne h =
           let g = k.fits j (worker u) h in
@@ -100,7 +100,7 @@ module _ (P : Parts) (words : List ℕ) (views : List View) where
       others seat_of k z more notes j spent ne h = tt
 
   -- a note is split off: it owes its own part
-  pub note_splits : (id : ℕ) (c : Control) (n : Version) → Rule P words views → get_elem? views id ≡ some (control c) → (P.of_control words c → P.of_note words c n) → (seat_of : ℕ → ℕ) × IsKept P words (slice_set views id (control c) ++ note n ∷ []) c seat_of
+  pub note_splits : (id : ℕ) (c : Control) (n : Version) → Rule P words views → get_elem? views id ≡ some (control c) → (P.of_control words c → P.of_note words c n) → (seat_of : ℕ → ℕ) × IsFramed P words (slice_set views id (control c) ++ note n ∷ []) c seat_of
   note_splits id c n s at owes =
       let k = own id c s at in (
         k.1.0,
@@ -119,7 +119,7 @@ module _ (P : Parts) (words : List ℕ) (views : List View) where
   pub note_joins : (id other : ℕ) (v w : Worker) (n : Version) (s : Rule P words views) → get_elem? views id ≡ some (worker v) → (other ≡ id → ⊥) → get_elem? (slice_set views id (worker w)) other ≡ some (note n)
       → w.number ≡ v.number → w.pass ≡ v.pass
       → ((c : Control) → P.of_worker words c v → P.of_note words c n → P.of_worker words c w)
-      → (seat_of : ℕ → ℕ) × IsKept P words (slice_set (slice_set views id (worker w)) other spent) s.0 seat_of
+      → (seat_of : ℕ → ℕ) × IsFramed P words (slice_set (slice_set views id (worker w)) other spent) s.0 seat_of
   note_joins id other v w n s at apart there number pass owes =
       let g = s.2.fits id (worker v) at in
       let before : get_elem? views other ≡ some (note n) = ⊎_elim (λ (x : (other ≡ id) × (worker w ≡ note n)). absurd (apart x.0)) (λ (x : (other ≢ id) × (get_elem? views other ≡ some (note n))). x.1) (at_set views id other (worker w) (note n) there) in
@@ -144,7 +144,7 @@ module _ (P : Parts) (words : List ℕ) (views : List View) where
 
   pub worker_splits : (id : ℕ) (c : Control) → Rule P words views → get_elem? views id ≡ some (control c)
       → c.desk.picked < 8 → slice_index_or c.desk.out c.desk.picked false ≡ false → SendOwes c
-      → (seat_of : ℕ → ℕ) × IsKept P words (slice_set views id (control (sent c)) ++ worker (new_worker c) ∷ []) (sent c) seat_of
+      → (seat_of : ℕ → ℕ) × IsFramed P words (slice_set views id (control (sent c)) ++ worker (new_worker c) ∷ []) (sent c) seat_of
   worker_splits id c s at small there owes =
       let k = own id c s at in
       let desk = k.1.1.desk in
@@ -174,7 +174,7 @@ module _ (P : Parts) (words : List ℕ) (views : List View) where
         holds = same;
       }
 
-      others : (seat_of : ℕ → ℕ) → IsKept P words views c seat_of → id ≡ 0 → ((u : Worker) → P.of_worker words c u → P.of_worker words (sent c) u) → ((n : Version) → P.of_note words c n → P.of_note words (sent c) n) → (j : ℕ) (u : View) → j ≢ id → get_elem? views j ≡ some u → Fits P words (sent c) (seats seat_of) j u
+      others : (seat_of : ℕ → ℕ) → IsFramed P words views c seat_of → id ≡ 0 → ((u : Worker) → P.of_worker words c u → P.of_worker words (sent c) u) → ((n : Version) → P.of_note words c n → P.of_note words (sent c) n) → (j : ℕ) (u : View) → j ≢ id → get_elem? views j ≡ some u → Fits P words (sent c) (seats seat_of) j u
       others seat_of k z more notes j (control e) ne h = absurd (ne ((k.fits j (control e) h).0 ∙ sym z))
       others seat_of k z more notes j (worker u) ne h =
           let g = k.fits j (worker u) h in
@@ -190,7 +190,7 @@ module _ (P : Parts) (words : List ℕ) (views : List View) where
 
   pub worker_joins : (id other : ℕ) (c : Control) (v : Worker) → Rule P words views → get_elem? views id ≡ some (control c)
       → (other ≡ id → ⊥) → get_elem? (slice_set views id (control (taken_home c v))) other ≡ some (worker v) → HomeOwes c v
-      → (seat_of : ℕ → ℕ) × IsKept P words (slice_set (slice_set views id (control (taken_home c v))) other spent) (taken_home c v) seat_of
+      → (seat_of : ℕ → ℕ) × IsFramed P words (slice_set (slice_set views id (control (taken_home c v))) other spent) (taken_home c v) seat_of
   worker_joins id other c v s at apart there owes =
       let k = own id c s at in
       let desk = k.1.1.desk in
@@ -216,7 +216,7 @@ module _ (P : Parts) (words : List ℕ) (views : List View) where
         },
       )
     where
-      each_here : (seat_of : ℕ → ℕ) → IsKept P words views c seat_of → id ≡ 0 → seat_of v.number ≡ other → ((u : Worker) → P.of_worker words c u → P.of_worker words (taken_home c v) u) → ((n : Version) → P.of_note words c n → P.of_note words (taken_home c v) n) → (j : ℕ) (u : View) → j ≢ other → get_elem? (slice_set views id (control (taken_home c v))) j ≡ some u → Fits P words (taken_home c v) seat_of j u
+      each_here : (seat_of : ℕ → ℕ) → IsFramed P words views c seat_of → id ≡ 0 → seat_of v.number ≡ other → ((u : Worker) → P.of_worker words c u → P.of_worker words (taken_home c v) u) → ((n : Version) → P.of_note words c n → P.of_note words (taken_home c v) n) → (j : ℕ) (u : View) → j ≢ other → get_elem? (slice_set views id (control (taken_home c v))) j ≡ some u → Fits P words (taken_home c v) seat_of j u
       each_here seat_of k z mine more notes j u ne e = ⊎_elim
           (λ (x : (j ≡ id) × (control (taken_home c v) ≡ u)). subst (Fits P words (taken_home c v) seat_of j) x.1 (x.0 ∙ z, refl))
           (λ (x : (j ≢ id) × (get_elem? views j ≡ some u)). rest j u ne x.0 x.1)

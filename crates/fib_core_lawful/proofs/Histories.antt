@@ -14,7 +14,7 @@ use Rattle.fib_core.specs.Walk.{Place, ply, balance, adjacency, ended, end_at, H
 use Rattle.fib_core.specs.Trails.{Load, visited, place, Follows, Trail, result_of, trail_at, finished, AreLawful, IsEndOf}
 use Rattle.fib_core.proofs.Walks.{arrives_once}
 use Rattle.fib_core_lawful.specs.State.{Log, greater}
-use Rattle.fib_core_lawful.specs.Lawful.{IsTold, IsEndSince, IsAimed, AimsOnce}
+use Rattle.fib_core_lawful.specs.Lawful.{IsTold, IsEndSince, EndsLawfully, AimsOnce}
 
 pub get_front : {A : Type 0} (xs ys : List A) (k : ℕ) → k < length xs → slice_get (xs ++ ys) k ≡ slice_get xs k
 get_front [] ys k lt = absurd (none k lt)
@@ -89,7 +89,7 @@ told_greater now v w s t =
     record { order = omega arith; last = record { settled = omega arith; applied = omega arith } }
 
 -- a pass that has its end and has loaded the version has a right result
-module _ (cells : List ℕ) (l : Log) (lo : Version) (t : List Load) (fits : l.version.applied < length l.history) (order : l.version.settled ≤ l.version.applied) (aimed : IsAimed cells l lo t) where
+module _ (cells : List ℕ) (l : Log) (lo : Version) (t : List Load) (fits : l.version.applied < length l.history) (order : l.version.settled ≤ l.version.applied) (aimed : EndsLawfully cells l lo t) where
   since_spanned : (r : Record) → r.lo ≡ lo → r.hi ≡ l.version → IsEndSince l lo.settled r.end → (r.end ≡ answers.Drop) ⊎ IsSpanned l.history r
   since_spanned r is his s = ⊎_elim (λ (d : r.end ≡ answers.Drop). inl d)
       (λ (x : IsEndOf l.history lo.settled l.version.applied r.end). inr (record { version = x.version; tables = x.tables; from = subst (λ v. v.settled ≤ x.version) (sym is) x.from; to = subst (λ v. x.version ≤ v.applied) (sym his) x.to; held = x.held; end = x.end }))

@@ -6,7 +6,7 @@ use Rattle.fib_core_results.specs.declared.record.Version.{Version}
 use Rattle.fib_core_results.specs.Versions.{packed}
 use Rattle.fib_core_lawful.specs.Layout.{version_word, pass_word, claim_word, cell_word}
 use Rattle.fib_core_lawful.specs.State.{Log, Control, Worker, View, control, worker, note, spent, started, learned, hopped, stopped, claimed, told, put, looked, with_log, picking, sent, new_worker, taken_home}
-use Rattle.fib_core_lawful.specs.Frame.{Parts, HasView, IsKept}
+use Rattle.fib_core_lawful.specs.Frame.{Parts, HasView, IsFramed}
 use Rattle.fib_core_lawful.specs.Lawful.{OfControl, OfWorker}
 use Rattle.fib_core_lawful.specs.Claims.{times, times_in, count_in, total, one_if, outs, IsSeats}
 use Rattle.fib_core_lawful.specs.Rule.{Holds}
@@ -176,7 +176,7 @@ module _ (P : Parts) (words : List ℕ) (views : List View) (id : ℕ) (s : Hold
       left : (a b c d : ℕ) → a + b ≡ c + d → a ≡ 0 → d ≡ 0 → c ≡ b
       left a b c d x y z = omega arith
 
-      other : id ≡ 0 → (seat_of : ℕ → ℕ) → IsKept P words views c seat_of → (j : ℕ) (u : View) → j ≢ id → HasView views j u → f u ≡ 0
+      other : id ≡ 0 → (seat_of : ℕ → ℕ) → IsFramed P words views c seat_of → (j : ℕ) (u : View) → j ≢ id → HasView views j u → f u ≡ 0
       other z seat_of k j (control d) ne e = absurd (ne ((k.fits j (control d) e).0 ∙ sym z))
       other z seat_of k j (worker v) ne e = absurd (true≢false (sym (k.fits j (worker v) e).0.away ∙ home v.number))
       other z seat_of k j (note n) ne e = fn n

@@ -29,7 +29,7 @@ use Rattle.fib_core.proofs.Endings.{walk_ends}
 use Rattle.fib_core_results.specs.Versions.{packed}
 use Rattle.fib_core_lawful.specs.Layout.{version_word, first_cell, cell_word}
 use Rattle.fib_core_lawful.specs.State.{Log, begun, settled}
-use Rattle.fib_core_lawful.specs.Lawful.{IsCopied, IsWithin, IsLog, AnswersAt, IsSettled, HoldsEnds, IsTold, IsEndSince, IsAimed, AimsOnce}
+use Rattle.fib_core_lawful.specs.Lawful.{IsCopied, IsWithin, IsLog, AnswersAt, IsSettled, HoldsEnds, IsTold, IsEndSince, EndsLawfully, AimsOnce}
 use Rattle.fib_core_lawful.proofs.Fresh.{fresh_drops}
 use Rattle.fib_core_lawful.proofs.Histories.{get_front, end_grows, end_widens, told_later}
 
@@ -43,7 +43,7 @@ log_else i n words l low g = record { packed = get_or-set_other words i version_
 
 -- a load of a cell
 
-pub aimed_start : (objects : ℕ) (u : Union) (l : Log) (lo : Version) → 0 < objects → length u.cells ≡ 16 * objects → IsWithin objects u → IsAcyclic (Edge u) → IsSettled u l → IsTold l.version lo → IsAimed u.cells l lo []
+pub aimed_start : (objects : ℕ) (u : Union) (l : Log) (lo : Version) → 0 < objects → length u.cells ≡ 16 * objects → IsWithin objects u → IsAcyclic (Edge u) → IsSettled u l → IsTold l.version lo → EndsLawfully u.cells l lo []
 aimed_start objects u l lo some long within calm settled told = record {
   low = told;
   read = λ a h f. tt;
@@ -51,7 +51,7 @@ aimed_start objects u l lo some long within calm settled told = record {
   right = λ a h k S f is now held. subst (Arrives u.cells a h root) ((settled k S now held).answers a h f) (walk_ends u objects a h some (λ j w g e. within.edges j w (g, inl e)) calm long);
 }
 
-pub aimed_on : (cells : List ℕ) (l : Log) (lo : Version) (t : List Load) (k found : ℕ) → found ≡ slice_index cells k → HoldsEnds cells l → IsAimed cells l lo t → IsAimed cells l lo ((k, found) ∷ t)
+pub aimed_on : (cells : List ℕ) (l : Log) (lo : Version) (t : List Load) (k found : ℕ) → found ≡ slice_index cells k → HoldsEnds cells l → EndsLawfully cells l lo t → EndsLawfully cells l lo ((k, found) ∷ t)
 aimed_on cells l lo t k found is ends old = record {
   low = old.low;
   read = λ a h f. reads_on cells a h (place t) (decoded found) (there a h f.0) f.1 (old.read a h f.2);
@@ -149,7 +149,7 @@ settled_filling u words l zero_is g drops k S now held =
     none : (k : ℕ) → k ≡ 0 → 0 < k → ⊥
     none k e lt = omega arith
 
-pub aimed_stored : (u : Union) (l : Log) (lo : Version) (t : List Load) (n p k w : ℕ) → ((j v o : ℕ) → Goes u j v → decoded v ≡ words.ToAdjacency o → owner k ≢ o) → l.version.settled < l.version.applied → Walked (Usable u n p) t → IsAimed u.cells l lo t → IsAimed (slice_set u.cells k w) l lo t
+pub aimed_stored : (u : Union) (l : Log) (lo : Version) (t : List Load) (n p k w : ℕ) → ((j v o : ℕ) → Goes u j v → decoded v ≡ words.ToAdjacency o → owner k ≢ o) → l.version.settled < l.version.applied → Walked (Usable u n p) t → EndsLawfully u.cells l lo t → EndsLawfully (slice_set u.cells k w) l lo t
 aimed_stored u l lo t n p k w whole lt walked old = record {
   low = old.low;
   read = λ a h f. reads_stored u k w whole (place t) (backed u n p a h t f walked) (old.read a h f);

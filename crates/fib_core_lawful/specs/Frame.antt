@@ -38,14 +38,14 @@ pub record IsDesk (words : List ℕ) (desk : Desk) : Type 0 where
       → slice_index words (pass_word n) ≡ slice_index desk.rests n
 
 -- with this control's view, and this seat for each number that is out
-pub record IsKept (P : Parts) (words : List ℕ) (views : List View) (c : Control) (seat_of : ℕ → ℕ) : Type 0 where
+pub record IsFramed (P : Parts) (words : List ℕ) (views : List View) (c : Control) (seat_of : ℕ → ℕ) : Type 0 where
   pub size : first_cell ≤ length words
   pub desk : IsDesk words c.desk
   pub here : P.of_control words c
   pub fits : (seat : ℕ) (v : View) → get_elem? views seat ≡ some v → Fits P words c seat_of seat v
 
 abbrev pub Rule : Parts → List ℕ → List View → Type 0
-Rule P words views = (c : Control) × (seat_of : ℕ → ℕ) × IsKept P words views c seat_of
+Rule P words views = (c : Control) × (seat_of : ℕ → ℕ) × IsFramed P words views c seat_of
 
 -- two lists of parts as one
 abbrev pub both : Parts → Parts → Parts

@@ -83,7 +83,7 @@ IsEndSince l low e = (e ≡ answers.Drop) ⊎ IsEndOf l.history low l.version.ap
 
 -- a running trail ends lawfully: adjacencies are read whole, the end that it has or will have is one of the versions since
 -- lo, and where lo and the version are one settled version the walk from where it stands ends as resolution does
-pub record IsAimed (cells : List ℕ) (l : Log) (lo : Version) (trail : List Load) : Type 0 where
+pub record EndsLawfully (cells : List ℕ) (l : Log) (lo : Version) (trail : List Load) : Type 0 where
   pub low : IsTold l.version lo
   pub read : (a h : ℕ) → Follows a h trail → ReadsWhole cells (place trail)
   pub heads : (a h : ℕ) → Follows a h trail → Heads (IsEndSince l lo.settled) cells (place trail)
@@ -92,7 +92,7 @@ pub record IsAimed (cells : List ℕ) (l : Log) (lo : Version) (trail : List Loa
 
 abbrev pub AimsOnce : List ℕ → Log → Version → List Load → Type 0
 AimsOnce cells l lo [] = Unit {0}
-AimsOnce cells l lo (load ∷ t) = IsAimed cells l lo (load ∷ t)
+AimsOnce cells l lo (load ∷ t) = EndsLawfully cells l lo (load ∷ t)
 
 -- the facts on a worker's view, beside the control plane's
 pub record OfWorker (objects : ℕ) (words : List ℕ) (c : Control) (w : Worker) : Type 0 where

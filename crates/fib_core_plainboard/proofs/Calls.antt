@@ -30,7 +30,7 @@ use Rattle.fib_core_board.specs.Boards.{Board, Pass}
 use Rattle.fib_core_plainboard.specs.declared.running.Running.{Running}
 use Rattle.fib_core_plainboard.specs.Passes.{IsAlong, pass_of, fresh_plain, IsRunning, IsOnItsWay, HasEnd, pass_begun, pass_hopped, pass_ended, answer_of, loads_in, FoundEdge}
 use Rattle.fib_core_plainboard.specs.inner.Reads.{IsReadable, IsNext}
-use Rattle.fib_core_plainboard.specs.inner.Sits.{IsPlain, IsKept, Keeps, put_at, looked_at, settled_at, begun_with, sent_at, aimed_at, with_hash, ended_at, hopped_at}
+use Rattle.fib_core_plainboard.specs.inner.Sits.{IsPlain, HoldsBoard, Keeps, put_at, looked_at, settled_at, begun_with, sent_at, aimed_at, with_hash, ended_at, hopped_at}
 use Rattle.fib_core_plainboard.proofs.Keeping as keep
 use Rattle.fib_core_plainboard.proofs.Passing as passing
 use Rattle.fib_core_plainboard.proofs.Passing.{some_is, some_none, pass_same, pass_other, inside}
@@ -71,7 +71,7 @@ module _ (objects workers : ℕ) (limits : IsWithinLimits objects workers) where
   both : (r : Option Running) (q : Option Pass) → r ≡ None → q ≡ None → Keeps r q
   both r q x y = subst (λ a. Keeps a q) (sym x) (subst (Keeps None) (sym y) tt)
 
-  pub fresh_kept : IsKept objects workers (replicate 8 None) (fresh_plain objects workers)
+  pub fresh_kept : HoldsBoard objects workers (replicate 8 None) (fresh_plain objects workers)
   fresh_kept = record {
     all = refl;
     crew = refl;
@@ -123,12 +123,12 @@ begun_on p n a h lt =
     let first : Pass = record { addr = a; hash = h; lo = p.log.version; loads = [] } in
     (first, pass_same p.passes n (Some first) lt, tt)
 
-module _ (words : List ℕ) (p : Board) (s : IsPlain words p) (objects workers : ℕ) (running : List (Option Running)) (k : IsKept objects workers running p) where
+module _ (words : List ℕ) (p : Board) (s : IsPlain words p) (objects workers : ℕ) (running : List (Option Running)) (k : HoldsBoard objects workers running p) where
   pub in_words : (i : ℕ) → i < first_cell → i < length words
   in_words i lt = (let long = keep.words_long words p s in omega arith)
 
   abbrev pub Holds : List ℕ → Board → Type 0
-  Holds words' new = IsPlain words' new × IsKept objects workers running new
+  Holds words' new = IsPlain words' new × HoldsBoard objects workers running new
 
   -- the control plane's calls
   pub stored : (cell code : ℕ) (w : Word) (new : Board) → code ≡ encoded w → new ≡ put_at p cell code → MayStore p cell w → Holds (slice_set words (cell_word cell) code) new
@@ -190,10 +190,10 @@ module _ (words : List ℕ) (p : Board) (s : IsPlain words p) (objects workers :
 
     pub begins_kept : (r : ℕ) (kept : Running) (new : Board) → slice_index words (pass_word n) ≡ r → new ≡ aimed_at (sent_at p n a) n h → (a < 2 ^ 32) × (h < 2 ^ 32)
         → kept.addr ≡ a → kept.hash ≡ h → kept.lo ≡ p.log.version → StandsAt h root kept.stage
-        → IsPlain (slice_set words (pass_word n) (r + 1)) new × IsKept objects workers (slice_set running n (Some kept)) new
+        → IsPlain (slice_set words (pass_word n) (r + 1)) new × HoldsBoard objects workers (slice_set running n (Some kept)) new
     begins_kept r kept new is then flow x y z at =
         let in_passes : n < length p.passes = (let long = s.long in let lt = eight in omega arith) in
-        subst (λ q. IsPlain (slice_set words (pass_word n) (r + 1)) q × IsKept objects workers (slice_set running n (Some kept)) q) (sym (then ∙ begun_is p n a h in_passes)) (
+        subst (λ q. IsPlain (slice_set words (pass_word n) (r + 1)) q × HoldsBoard objects workers (slice_set running n (Some kept)) q) (sym (then ∙ begun_is p n a h in_passes)) (
           subst (λ m. IsPlain (slice_set words (pass_word n) (m + 1)) (pass_begun p n a h)) (sym (word_then r is)) (passing.begins words p s n a h known none flow first_room),
           record {
             all = k.all;
@@ -226,8 +226,8 @@ module _ (words : List ℕ) (p : Board) (s : IsPlain words p) (objects workers :
       hop_runs : pass_of new n ≡ Some (pass_hopped p.union.cells q)
       hop_runs = ap (λ (r : Board). pass_of r n) then ∙ hopping.hopped_runs words p s n q runs
 
-      pub hop_kept : IsPlain words new × IsKept objects workers (slice_set running n (Some then_kept)) new
-      hop_kept = subst (λ r. IsPlain words r × IsKept objects workers (slice_set running n (Some then_kept)) r) (sym then) (
+      pub hop_kept : IsPlain words new × HoldsBoard objects workers (slice_set running n (Some then_kept)) new
+      hop_kept = subst (λ r. IsPlain words r × HoldsBoard objects workers (slice_set running n (Some then_kept)) r) (sym then) (
         hopping.hops words p s n q runs kept.stage is_kept.3 going,
         record {
           all = k.all;
@@ -265,8 +265,8 @@ module _ (words : List ℕ) (p : Board) (s : IsPlain words p) (objects workers :
       stage_is = ended_stage q.hash (place q.loads) kept.stage e is_kept.3 at
 
       pub end_kept : (r : ℕ) (new : Board) → slice_index words (pass_word n) ≡ r → new ≡ ended_at p n 0
-          → IsPlain (slice_set words (pass_word n) (r + 1)) new × IsKept objects workers (slice_set running n None) new
-      end_kept r new found then = subst (λ x. IsPlain (slice_set words (pass_word n) (r + 1)) x × IsKept objects workers (slice_set running n None) x) (sym then) (
+          → IsPlain (slice_set words (pass_word n) (r + 1)) new × HoldsBoard objects workers (slice_set running n None) new
+      end_kept r new found then = subst (λ x. IsPlain (slice_set words (pass_word n) (r + 1)) x × HoldsBoard objects workers (slice_set running n None) x) (sym then) (
         subst (λ m. IsPlain (slice_set words (pass_word n) m) (pass_ended p n)) (sym (ap (λ m. m + 1) (last_word r found) ∙ two (slice_index p.rests n))) (ending.ends words p s n q runs),
         record {
           all = k.all;

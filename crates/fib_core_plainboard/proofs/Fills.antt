@@ -23,7 +23,7 @@ use Rattle.fib_core_steady.specs.Names.{LeadsNow}
 use Rattle.fib_core_steady.specs.Rooted.{IsLeaf}
 use Rattle.fib_core_rule.specs.Steady.{MayStoreSteadily}
 use Rattle.fib_core_board.specs.Boards.{Board, IsFresh, as_control, board_of, board_scanned, board_stored}
-use Rattle.fib_core_board.specs.May.{Allows, MayStore, Serves}
+use Rattle.fib_core_board.specs.May.{Allows, MayStore, HoldsPromise}
 use Rattle.fib_core_plainboard.specs.inner.Filled.{Fits, IsForest}
 use Rattle.fib_core_plainboard.specs.inner.Fresh.{after_stores, all_below, cell_at, depth_of, fits_by, forest, is_good, is_leaf, is_ply, is_ply_word, link_cell, number_of, same_word, word_of_store}
 use Rattle.fib_core_plainboard.specs.inner.Filling.{HasStores, IsFilling, IsFirst, IsReady}
@@ -245,10 +245,10 @@ first_allows b f = inr (
 pub first_steadily : (b : Board) (k w : ℕ) → IsFirst b → MayStoreSteadily (as_control b) k w
 first_steadily b k w f begun = absurd (let z : b.log.version.applied ≡ 0 = ap (λ (l : Log). l.version.applied) f.log in let bad : ⊥ = omega arith in bad)
 
-pub first_serves : (b : Board) (Held : ℕ → Type 0) → IsFirst b → Serves b Held
+pub first_serves : (b : Board) (Held : ℕ → Type 0) → IsFirst b → HoldsPromise b Held
 first_serves b Held f begun = absurd (let z : b.log.version.applied ≡ 0 = ap (λ (l : Log). l.version.applied) f.log in let bad : ⊥ = omega arith in bad)
 
-pub stored_serves : (b : Board) (k : ℕ) (w : Word) (Held : ℕ → Type 0) → IsFirst b → Serves (board_stored b k w) Held
+pub stored_serves : (b : Board) (k : ℕ) (w : Word) (Held : ℕ → Type 0) → IsFirst b → HoldsPromise (board_stored b k w) Held
 stored_serves b k w Held f begun = absurd (let z : b.log.version.applied ≡ 0 = ap (λ (l : Log). l.version.applied) f.log in let bad : ⊥ = omega arith in bad)
 
 pub may_fill : (i : ℕ) → i < 254 → (b : Board) → IsFilling i b → MayStore b (cell_at i) (word_of_store i)

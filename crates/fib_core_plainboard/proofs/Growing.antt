@@ -23,7 +23,7 @@ use Rattle.fib_core_steady.proofs.Storing.{IsBeside, aside_stored}
 use Rattle.fib_core_promise.proofs.PlyStores.{linked_promised, placed, placed_promised, sent_promised}
 use Rattle.fib_core_rule.proofs.Named.{names_of}
 use Rattle.fib_core_board.specs.Boards.{Board, as_control, board_begun, board_stored}
-use Rattle.fib_core_board.specs.May.{Allows, MayStore, Serves}
+use Rattle.fib_core_board.specs.May.{Allows, MayStore, HoldsPromise}
 use Rattle.fib_core_plainboard.specs.inner.Filled.{Fits}
 use Rattle.fib_core_plainboard.specs.inner.Fresh.{after_stores, all_below, cell_at, forest, number_of, same_word, word_of_store}
 use Rattle.fib_core_plainboard.specs.inner.Filling.{HasStores, IsChanging, IsGrowing, IsReady}
@@ -111,7 +111,7 @@ module _ (i : ℕ) (b : Board) (g : IsGrowing i b) where
   over_versions : (u : Union) → IsPromised J g.names u → IsPromised (since b.log.history b.log.version.settled) g.names u
   over_versions u ok = subst (λ (l : Log). IsPromised (since l.history l.version.settled) g.names u) (sym g.log) ok
 
-  pub serves : (Held : ℕ → Type 0) → ((o : ℕ) → 14 < o → o < 20 → Held o) → Serves b Held
+  pub serves : (Held : ℕ → Type 0) → ((o : ℕ) → 14 < o → o < 20 → Held o) → HoldsPromise b Held
   serves Held held begun = (
     g.names,
     over_versions b.union g.promised,
@@ -184,15 +184,15 @@ by_store i from lt = elim (cases_lt i 270) [
   | inr late ↦ elim (cases_lt i 271) [ inl first ↦ inr (inl (omega arith)) | inr second ↦ inr (inr (omega arith)) ]
 ]
 
-abbrev IsKept : Board → Names → ℕ → Type 0
-IsKept b n i = IsPromised J n (stored_union (as_control b) (cell_at i) (encoded (word_of_store i)))
+abbrev KeepsPromise : Board → Names → ℕ → Type 0
+KeepsPromise b n i = IsPromised J n (stored_union (as_control b) (cell_at i) (encoded (word_of_store i)))
 
-promise_kept : (i : ℕ) → 254 ≤ i → i < 272 → (b : Board) → (g : IsGrowing i b) → IsKept b g.names i
+promise_kept : (i : ℕ) → 254 ≤ i → i < 272 → (b : Board) → (g : IsGrowing i b) → KeepsPromise b g.names i
 promise_kept i from lt b g = elim (by_store i from lt) [
   | inl early ↦ aside i b g from lt early
   | inr late ↦ elim late [
-    | inl first ↦ (let q : IsGrowing 270 b = subst (λ (n : ℕ). IsGrowing n b) first g in subst (IsKept b g.names) (sym first) (links i b g (filled_then b q) (back 270 b q (omega arith) (omega arith))))
-    | inr second ↦ (let q : IsGrowing 271 b = subst (λ (n : ℕ). IsGrowing n b) second g in subst (IsKept b g.names) (sym second) (sends i b g (back 271 b q (omega arith) (omega arith))))
+    | inl first ↦ (let q : IsGrowing 270 b = subst (λ (n : ℕ). IsGrowing n b) first g in subst (KeepsPromise b g.names) (sym first) (links i b g (filled_then b q) (back 270 b q (omega arith) (omega arith))))
+    | inr second ↦ (let q : IsGrowing 271 b = subst (λ (n : ℕ). IsGrowing n b) second g in subst (KeepsPromise b g.names) (sym second) (sends i b g (back 271 b q (omega arith) (omega arith))))
   ]
 ]
 

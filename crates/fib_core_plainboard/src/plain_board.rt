@@ -51,13 +51,13 @@ impl Drop for PlainBoard {
 
 impl Model for PlainBoard {
     ghost use Rattle.fib_core_board.specs.Boards.{Board as Seen};
-    ghost use Rattle.fib_core_plainboard.specs.inner.Sits.{IsKept, IsPlain};
+    ghost use Rattle.fib_core_plainboard.specs.inner.Sits.{HoldsBoard, IsPlain};
 
     ghost Value = { Seen };
 
     ghost view = { λ b. b.memory };
 
-    ghost invariant = { λ b. IsPlain b.words.items b.memory × IsKept b.objects b.workers b.passes b.memory };
+    ghost invariant = { λ b. IsPlain b.words.items b.memory × HoldsBoard b.objects b.workers b.passes b.memory };
 }
 
 // That many words, each 0.

@@ -13,7 +13,7 @@ use Rattle.fib_resolve.specs.declared.types.PathKind.TheVariants as kinds
 use Rattle.fib_resolve.specs.declared.types.End.{End}
 use Rattle.fib_resolve.specs.declared.types.End.TheVariants as answers
 use Rattle.fib_resolve.specs.declared.types.Tables.{Tables}
-use Rattle.fib_resolve.proofs.Taken.{IsTaken, wanted_taken}
+use Rattle.fib_resolve.proofs.Taken.{IsWanted, wanted_taken}
 use Rattle.fib_core.specs.Walk.{word_at}
 use Rattle.fib_resolve.specs.declared.aims.Aim.{Aim}
 use Rattle.fib_resolve.specs.declared.aims.Aim.TheVariants as aims
@@ -52,7 +52,7 @@ pub bucket_on : (S : Tables) (e t : Prefix) (k : ℕ) → aim S e k ≡ aims.On 
 unfolding aim
 bucket_on S e t k is = aim_on S e t (slice_get (wanted S e) k) (leads S e k) is
 
-aim_hop : (S : Tables) (e : Prefix) (i a : ℕ) (m : Option ℕ) (o : Option Path) → IfSome o (IsTaken S e) → path_aim S e o ≡ aims.Ends (answers.Hop i a m) → HasEnd S e (answers.Hop i a m)
+aim_hop : (S : Tables) (e : Prefix) (i a : ℕ) (m : Option ℕ) (o : Option Path) → IfSome o (IsWanted S e) → path_aim S e o ≡ aims.Ends (answers.Hop i a m) → HasEnd S e (answers.Hop i a m)
 aim_hop S e i a m None t is = absurd (drops is)
   where
     drops : aims.Ends answers.Drop ≡ aims.Ends (answers.Hop i a m) → ⊥
@@ -61,7 +61,7 @@ aim_hop S e i a m (Some p) t is = (p, t.0, is)
 
 pub bucket_hop : (S : Tables) (e : Prefix) (k i a : ℕ) (m : Option ℕ) → aim S e k ≡ aims.Ends (answers.Hop i a m) → HasEnd S e (answers.Hop i a m)
 unfolding aim
-bucket_hop S e k i a m is = aim_hop S e i a m (slice_get (wanted S e) k) (each-at (IsTaken S e) (wanted S e) k (wanted_taken S e)) is
+bucket_hop S e k i a m is = aim_hop S e i a m (slice_get (wanted S e) k) (each-at (IsWanted S e) (wanted S e) k (wanted_taken S e)) is
 
 -- anchors
 

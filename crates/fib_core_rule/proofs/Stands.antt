@@ -28,7 +28,7 @@ use Rattle.fib_resolve.specs.declared.types.End.TheVariants as answers
 use Rattle.fib_resolve.specs.declared.types.Tables.{Tables}
 use Rattle.fib_resolve.proofs.OneList.{each-itself}
 use Rattle.fib_resolve.proofs.PairLaws.{each-unique}
-use Rattle.fib_resolve.proofs.Taken.{IsTaken}
+use Rattle.fib_resolve.proofs.Taken.{IsWanted}
 use Rattle.fib_core.specs.declared.word.Word.TheVariants as words
 use Rattle.fib_union.specs.Unions.{owner}
 use Rattle.fib_core.specs.Words.{decoded}
@@ -136,7 +136,7 @@ module _ (u : Union) (names : Thing → ℕ) (S : Tables) (quiet : u.retired ≡
   attached_aimed e i true listed = (names (adjacency_of (record { interface = i; next_hop = e.bits })), refl, adjacency_says u.cells names S stands i e.bits (listed refl))
   attached_aimed e i false listed = refl
 
-  kind_aimed : (e : Prefix) (p : Path) (kind : PathKind) → p.kind ≡ kind → IsTaken S e p → Leads S e kind → IsAimed (names_of names S).balance u.cells (kind_aim S e kind) (kind_word names S e kind)
+  kind_aimed : (e : Prefix) (p : Path) (kind : PathKind) → p.kind ≡ kind → IsWanted S e p → Leads S e kind → IsAimed (names_of names S).balance u.cells (kind_aim S e kind) (kind_word names S e kind)
   kind_aimed e p kinds.Drop is t l = refl
   kind_aimed e p kinds.Local is t l = refl
   kind_aimed e p (kinds.Attached i) is t l = attached_aimed e i (e.len == 32) (λ host_is. adjacency_listed S e p (record { interface = i; next_hop = e.bits }) t.0 (rw is (rw host_is (first_in (record { interface = i; next_hop = e.bits }) []))))
@@ -144,7 +144,7 @@ module _ (u : Union) (names : Thing → ℕ) (S : Tables) (quiet : u.retired ≡
   kind_aimed e p (kinds.Recursive a) is t l = (names (balance_of (host a)), refl, balance_is (host a) l)
   kind_aimed e p kinds.Cover is t l = (names (balance_of (cover S e.bits)), refl, balance_is (cover S e.bits) l)
 
-  path_aimed : (e : Prefix) (o : Option Path) → IfSome o (IsTaken S e) → IfSome o (λ p. Leads S e p.kind) → IsAimed (names_of names S).balance u.cells (path_aim S e o) (bucket_word names S e o)
+  path_aimed : (e : Prefix) (o : Option Path) → IfSome o (IsWanted S e) → IfSome o (λ p. Leads S e p.kind) → IsAimed (names_of names S).balance u.cells (path_aim S e o) (bucket_word names S e o)
   path_aimed e None t l = refl
   path_aimed e (Some p) t l = kind_aimed e p p.kind refl t l
 

@@ -14,15 +14,15 @@ MayClear c o =
     → (n : Names) × IsPromised (versions c.log) n c.union × ((e : Prefix) → IsLasting (versions c.log) e → n.balance e ≡ Some o → ⊥)
 
 -- what each call that stores or clears asks and keeps: for some names the promise holds, and the balance of each entry of all versions is held
-abbrev pub Serves : Control → (ℕ → Type 0) → Type 0
-Serves c Held =
+abbrev pub HoldsPromise : Control → (ℕ → Type 0) → Type 0
+HoldsPromise c Held =
     IsBegun c.log
     → (n : Names) × IsPromised (versions c.log) n c.union
     × ((e : Prefix) (o : ℕ) → IsLasting (versions c.log) e → n.balance e ≡ Some o → Held o)
 
 -- the same, and the promise for the same names after a store of w into the cell k
-abbrev pub ServesStored : Control → (ℕ → Type 0) → ℕ → ℕ → Type 0
-ServesStored c Held k w =
+abbrev pub HoldsPromiseStored : Control → (ℕ → Type 0) → ℕ → ℕ → Type 0
+HoldsPromiseStored c Held k w =
     IsBegun c.log
     → (n : Names) × IsPromised (versions c.log) n c.union
     × ((e : Prefix) (o : ℕ) → IsLasting (versions c.log) e → n.balance e ≡ Some o → Held o)

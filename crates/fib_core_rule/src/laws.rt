@@ -22,7 +22,7 @@ ghost use Rattle.fib_core_lawful.specs.Claims.{one_if, times};
 ghost use Rattle.fib_core_rule.specs.Steady.{AreSteady, MayStoreSteadily};
 ghost use Rattle.fib_core_rule.specs.Rule.{IsLawful};
 ghost use Rattle.fib_core_rule.specs.May.{MayStore};
-ghost use Rattle.fib_core_rule.specs.Serving.{MayClear, Serves};
+ghost use Rattle.fib_core_rule.specs.Serving.{MayClear, HoldsPromise};
 ghost use Rattle.fib_core_rule.specs.Change.{IsReached, MayChange, MayPlace};
 
 /// A running pass visits no object twice and only objects that there are; a walk that makes its loads stands where it
@@ -197,7 +197,7 @@ pub fn two_halves_are_all_that_a_store_asks()
 pub fn clearing_keeps_what_is_served()
     ensures { (c : Control) (held : ℕ → Bool) (k : ℕ)
         → owner k ≢ 0 → ((j v : ℕ) → Goes c.union j v → target v ≡ owner k → ⊥) → held (owner k) ≡ false
-        → Serves c (λ o. held o ≡ true) → Serves (put c k 0) (λ o. held o ≡ true) }
+        → HoldsPromise c (λ o. held o ≡ true) → HoldsPromise (put c k 0) (λ o. held o ≡ true) }
 {}
 
 /// The claim word never wraps.

@@ -13,7 +13,7 @@ use Rattle.fib_resolve.specs.declared.types.Path.{Path}
 use Rattle.fib_resolve.specs.declared.types.PathKind.{PathKind}
 use Rattle.fib_resolve.specs.declared.types.PathKind.TheVariants as kinds
 use Rattle.fib_resolve.specs.declared.types.Tables.{Tables}
-use Rattle.fib_resolve.proofs.Taken.{IsTaken}
+use Rattle.fib_resolve.proofs.Taken.{IsWanted}
 use Rattle.fib_core.specs.declared.word.Word.TheVariants as words
 use Rattle.fib_core.specs.Words.{value_of}
 use Rattle.fib_core.specs.Walk.{word_at, Place, balance, adjacency, ended, halved, mac_in, hop_of, from_balance, adjacency_end, after, end_at}
@@ -62,7 +62,7 @@ module _ (cells : List ℕ) (names : Thing → ℕ) (S : Tables) (stands : Stand
     attached_so n m e i x false is c at = ends_so n (answers.Glean i) x at
 
     -- one path is taken
-    kind_so : (n m : ℕ) (e : Prefix) (x : End) (g : ℕ) (go : Prefix → ℕ → Trip) (p : Path) (kind : PathKind) → p.kind ≡ kind → IsTaken S e p
+    kind_so : (n m : ℕ) (e : Prefix) (x : End) (g : ℕ) (go : Prefix → ℕ → Trip) (p : Path) (kind : PathKind) → p.kind ≡ kind → IsWanted S e p
         → ((t : Prefix) → Contains (entries S) t → after cells a h n (balance (names (balance_of t)) (suc m)) ≡ ended x → (go t (g / 2)).end ≡ x)
         → after cells a h n (from_balance m (kind_word names S e kind)) ≡ ended x
         → (take_kind S go e g kind).end ≡ x
@@ -74,7 +74,7 @@ module _ (cells : List ℕ) (names : Thing → ℕ) (S : Tables) (stands : Stand
     kind_so n m e x g go p (kinds.Recursive b) k t rest at = rest (host b) (recursive_entry S e p b t k) at
     kind_so n m e x g go p kinds.Cover k t rest at = rest (cover S e.bits) (cover_entry S e p t k) at
 
-    path_so : (n m : ℕ) (e : Prefix) (x : End) (g : ℕ) (go : Prefix → ℕ → Trip) (o : Option Path) → IfSome o (IsTaken S e)
+    path_so : (n m : ℕ) (e : Prefix) (x : End) (g : ℕ) (go : Prefix → ℕ → Trip) (o : Option Path) → IfSome o (IsWanted S e)
         → ((t : Prefix) → Contains (entries S) t → after cells a h n (balance (names (balance_of t)) (suc m)) ≡ ended x → (go t (g / 2)).end ≡ x)
         → after cells a h n (from_balance m (bucket_word names S e o)) ≡ ended x
         → (take_path S go e g o).end ≡ x

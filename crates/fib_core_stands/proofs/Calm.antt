@@ -27,7 +27,7 @@ use Rattle.fib_resolve.specs.declared.types.PathKind.{PathKind}
 use Rattle.fib_resolve.specs.declared.types.PathKind.TheVariants as kinds
 use Rattle.fib_resolve.specs.declared.types.Tables.{Tables}
 use Rattle.fib_resolve.proofs.KeptEdges.{kept_acyclic}
-use Rattle.fib_resolve.proofs.Taken.{IsTaken}
+use Rattle.fib_resolve.proofs.Taken.{IsWanted}
 use Rattle.fib_union.specs.Unions.{owner}
 use Rattle.fib_core.specs.declared.word.Word.{Word}
 use Rattle.fib_core.specs.declared.word.Word.TheVariants as words
@@ -71,13 +71,13 @@ covering_entry S q = elim (longest_one q.bits (filter (λ e. nat_le e.len q.len)
 ]
 
 -- a taken path that goes on has an edge that is left without looped paths
-recursive_kept : (S : Tables) (e : Prefix) (p : Path) (a : ℕ) → IsTaken S e p → p.kind ≡ kinds.Recursive a → Kept S e (host a)
+recursive_kept : (S : Tables) (e : Prefix) (p : Path) (a : ℕ) → IsWanted S e p → p.kind ≡ kinds.Recursive a → Kept S e (host a)
 unfolding usable
 recursive_kept S e p a t k =
     let u = subst (λ kind. usable_kind S (forwards S) e p.need kind ≡ true) k t.1 in
     (p, t.0, rw k ((and_both _ _ u).0), rw k (first_in (host a) []))
 
-cover_kept : (S : Tables) (e : Prefix) (p : Path) → IsTaken S e p → p.kind ≡ kinds.Cover → Kept S e (cover S e.bits)
+cover_kept : (S : Tables) (e : Prefix) (p : Path) → IsWanted S e p → p.kind ≡ kinds.Cover → Kept S e (cover S e.bits)
 cover_kept S e p t k = (p, t.0, rw k refl, rw k (first_in (cover S e.bits) []))
 
 -- one thing's words lead to the other
@@ -131,7 +131,7 @@ module _ (cells : List ℕ) (names : Thing → ℕ) (S : Tables) (stands : Stand
   }
   ply_next p s false is = record { to = balance_of (covering S (below p s)); counted = covering_entry S (below p s); named = refl; under = tt }
 
-  attached_next : (e : Prefix) (p : Path) (i : ℕ) (b : Bool) → IsTaken S e p → p.kind ≡ kinds.Attached i → (e.len == 32) ≡ b
+  attached_next : (e : Prefix) (p : Path) (i : ℕ) (b : Bool) → IsWanted S e p → p.kind ≡ kinds.Attached i → (e.len == 32) ≡ b
       → is_edge (if b then words.ToAdjacency (names (adjacency_of (record { interface = i; next_hop = e.bits }))) else words.Glean i) ≡ true
       → Next (balance_of e) (if b then words.ToAdjacency (names (adjacency_of (record { interface = i; next_hop = e.bits }))) else words.Glean i)
   attached_next e p i true t k is edge = record {
@@ -142,7 +142,7 @@ module _ (cells : List ℕ) (names : Thing → ℕ) (S : Tables) (stands : Stand
   }
   attached_next e p i false t k is edge = absurd (false≢true edge)
 
-  kind_next : (e : Prefix) (p : Path) (kind : PathKind) → p.kind ≡ kind → IsTaken S e p → is_edge (kind_word names S e kind) ≡ true → Next (balance_of e) (kind_word names S e kind)
+  kind_next : (e : Prefix) (p : Path) (kind : PathKind) → p.kind ≡ kind → IsWanted S e p → is_edge (kind_word names S e kind) ≡ true → Next (balance_of e) (kind_word names S e kind)
   kind_next e p kinds.Drop k t edge = absurd (false≢true edge)
   kind_next e p kinds.Local k t edge = absurd (false≢true edge)
   kind_next e p (kinds.Attached i) k t edge = attached_next e p i (e.len == 32) t k refl edge
@@ -165,7 +165,7 @@ module _ (cells : List ℕ) (names : Thing → ℕ) (S : Tables) (stands : Stand
     under = edge_reaches (Kept S) e (cover S e.bits) (cover_kept S e p t k);
   }
 
-  bucket_next : (e : Prefix) (o : Option Path) → IfSome o (IsTaken S e) → is_edge (bucket_word names S e o) ≡ true → Next (balance_of e) (bucket_word names S e o)
+  bucket_next : (e : Prefix) (o : Option Path) → IfSome o (IsWanted S e) → is_edge (bucket_word names S e o) ≡ true → Next (balance_of e) (bucket_word names S e o)
   bucket_next e None t edge = absurd (false≢true edge)
   bucket_next e (Some p) t edge = kind_next e p p.kind refl t edge
 

@@ -28,7 +28,7 @@ use Rattle.fib_resolve.specs.declared.types.Tables.{Tables}
 use Rattle.fib_resolve.proofs.Answering.{forwards_is_usable}
 use Rattle.fib_resolve.proofs.Covering.{unique_in, filter_in}
 use Rattle.fib_resolve.proofs.Entries.{chosen-no_entry}
-use Rattle.fib_resolve.proofs.Taken.{IsTaken, wanted_taken}
+use Rattle.fib_resolve.proofs.Taken.{IsWanted, wanted_taken}
 
 pub member_is : (S : Tables) (e : Prefix) → is_member same_prefix (entries S) e ≡ true → Contains (entries S) e
 member_is S e is = Contains-from_any (λ x y. (same_prefix-Decides x y).0) e (entries S) is
@@ -54,17 +54,17 @@ kind_target S e need kind u t (inl c) = subst (Contains (entries S)) (sym c.1) (
 kind_target S e need kind u t (inr r) = subst (Contains (entries S)) (sym r.2) (forwarding_entry S (host r.0) (and_both _ _ (and_both _ _ (subst (λ k. usable_kind S (forwards S) e need k ≡ true) r.1 u)).1).1)
 
 -- the targets of wanted paths are entries
-pub recursive_entry : (S : Tables) (e : Prefix) (p : Path) (a : ℕ) → IsTaken S e p → p.kind ≡ kinds.Recursive a → Contains (entries S) (host a)
+pub recursive_entry : (S : Tables) (e : Prefix) (p : Path) (a : ℕ) → IsWanted S e p → p.kind ≡ kinds.Recursive a → Contains (entries S) (host a)
 unfolding usable
 recursive_entry S e p a t is = kind_target S e p.need p.kind t.1 (host a) (inr (a, is, refl))
 
-pub cover_entry : (S : Tables) (e : Prefix) (p : Path) → IsTaken S e p → p.kind ≡ kinds.Cover → Contains (entries S) (cover S e.bits)
+pub cover_entry : (S : Tables) (e : Prefix) (p : Path) → IsWanted S e p → p.kind ≡ kinds.Cover → Contains (entries S) (cover S e.bits)
 unfolding usable
 cover_entry S e p t is = kind_target S e p.need p.kind t.1 (cover S e.bits) (inl (is, refl))
 
 -- what stands in a bucket
-pub at_bucket : (S : Tables) (e : Prefix) (k : ℕ) → IfSome (slice_get (wanted S e) k) (IsTaken S e)
-at_bucket S e k = each-at (IsTaken S e) (wanted S e) k (wanted_taken S e)
+pub at_bucket : (S : Tables) (e : Prefix) (k : ℕ) → IfSome (slice_get (wanted S e) k) (IsWanted S e)
+at_bucket S e k = each-at (IsWanted S e) (wanted S e) k (wanted_taken S e)
 
 -- the adjacency of a chosen path is listed
 same_adjacency_equiv : IsEquivalence same_adjacency
@@ -82,7 +82,7 @@ adjacency_listed S e p x c k = (unique_in same_adjacency same_adjacency_equiv ad
 later_in : {X : Type 0} (x y : X) (xs : List X) → Contains xs y → Contains (x ∷ xs) y
 later_in x y xs h = (suc h.0, omega (arith, h.1), h.2)
 
-pub end_possible : (S : Tables) (e : Prefix) (p : Path) (end : End) → IsTaken S e p → Contains (kind_end S e p.kind) end → Contains (ends S) end
+pub end_possible : (S : Tables) (e : Prefix) (p : Path) (end : End) → IsWanted S e p → Contains (kind_end S e p.kind) end → Contains (ends S) end
 unfolding ends
 end_possible S e p end taken c =
     later_in answers.Drop end (flat_map (entry_ends S) (entries S))

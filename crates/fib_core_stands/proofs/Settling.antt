@@ -16,7 +16,7 @@ use Rattle.fib_resolve.specs.declared.types.Path.{Path}
 use Rattle.fib_resolve.specs.declared.types.PathKind.{PathKind}
 use Rattle.fib_resolve.specs.declared.types.PathKind.TheVariants as kinds
 use Rattle.fib_resolve.specs.declared.types.Tables.{Tables}
-use Rattle.fib_resolve.proofs.Taken.{IsTaken}
+use Rattle.fib_resolve.proofs.Taken.{IsWanted}
 use Rattle.fib_core.specs.declared.word.Word.TheVariants as words
 use Rattle.fib_core.specs.Words.{decoded}
 use Rattle.fib_core.specs.Walk.{word_at, EndsIn}
@@ -31,12 +31,12 @@ module _ (cells : List ℕ) (names : Thing → ℕ) (S : Tables) (stands : Stand
   ply_ends true x y = tt
   ply_ends false x y = tt
 
-  attached_ends : (e : Prefix) (p : Path) (i : ℕ) (b : Bool) → IsTaken S e p → p.kind ≡ kinds.Attached i → (e.len == 32) ≡ b → EndsIn P cells (if b then words.ToAdjacency (names (adjacency_of (record { interface = i; next_hop = e.bits }))) else words.Glean i)
+  attached_ends : (e : Prefix) (p : Path) (i : ℕ) (b : Bool) → IsWanted S e p → p.kind ≡ kinds.Attached i → (e.len == 32) ≡ b → EndsIn P cells (if b then words.ToAdjacency (names (adjacency_of (record { interface = i; next_hop = e.bits }))) else words.Glean i)
   attached_ends e p i true t k is = subst P (sym (adjacency_says cells names S stands i e.bits (adjacency_listed S e p (record { interface = i; next_hop = e.bits }) t.0 (rw k (rw is (first_in (record { interface = i; next_hop = e.bits }) []))))))
       (possible (hop_end S i e.bits) (end_possible S e p (hop_end S i e.bits) t (subst (Contains (kind_end S e p.kind)) (ap (λ b. if b then hop_end S i e.bits else answers.Glean i) is) (rw k (first_in (attached_end S e i) [])))))
   attached_ends e p i false t k is = possible (answers.Glean i) (end_possible S e p (answers.Glean i) t (subst (Contains (kind_end S e p.kind)) (ap (λ b. if b then hop_end S i e.bits else answers.Glean i) is) (rw k (first_in (attached_end S e i) []))))
 
-  kind_ends : (e : Prefix) (p : Path) (kind : PathKind) → p.kind ≡ kind → IsTaken S e p → EndsIn P cells (kind_word names S e kind)
+  kind_ends : (e : Prefix) (p : Path) (kind : PathKind) → p.kind ≡ kind → IsWanted S e p → EndsIn P cells (kind_word names S e kind)
   kind_ends e p kinds.Drop k t = tt
   kind_ends e p kinds.Local k t = possible answers.Receive (end_possible S e p answers.Receive t (rw k (first_in answers.Receive [])))
   kind_ends e p (kinds.Attached i) k t = attached_ends e p i (e.len == 32) t k refl
@@ -45,7 +45,7 @@ module _ (cells : List ℕ) (names : Thing → ℕ) (S : Tables) (stands : Stand
   kind_ends e p (kinds.Recursive a) k t = tt
   kind_ends e p kinds.Cover k t = tt
 
-  bucket_ends : (e : Prefix) (o : Option Path) → IfSome o (IsTaken S e) → EndsIn P cells (bucket_word names S e o)
+  bucket_ends : (e : Prefix) (o : Option Path) → IfSome o (IsWanted S e) → EndsIn P cells (bucket_word names S e o)
   bucket_ends e None t = tt
   bucket_ends e (Some p) t = kind_ends e p p.kind refl t
 

@@ -21,7 +21,7 @@ use Rattle.fib_resolve.specs.declared.types.Need.{Need}
 use Rattle.fib_resolve.specs.declared.types.FibSource.TheVariants as sources
 use Rattle.fib_resolve.specs.declared.types.Tables.{Tables}
 use Rattle.fib_resolve.proofs.FollowLimit.{follow-steady}
-use Rattle.fib_resolve.proofs.Taken.{IsTaken, wanted_taken}
+use Rattle.fib_resolve.proofs.Taken.{IsWanted, wanted_taken}
 use Rattle.fib_resolve.proofs.Steady.{never}
 use Rattle.fib_resolve.proofs.Covering.{unique_in}
 use Rattle.fib_resolve.proofs.Touching.{same_pair-Decides, same_pair_equiv}
@@ -107,13 +107,13 @@ kind_leads S e need (kinds.Hop a i) u = tt
 kind_leads S e need (kinds.Recursive a) u = forwarding_entry S (host a) (and_both _ _ (and_both _ _ u).1).1
 kind_leads S e need kinds.Cover u = forwarding_entry S (cover S e.bits) u
 
-taken_leads : (S : Tables) (e : Prefix) (o : Option Path) → IfSome o (IsTaken S e) → IfSome o (λ p. Leads S e p.kind)
+taken_leads : (S : Tables) (e : Prefix) (o : Option Path) → IfSome o (IsWanted S e) → IfSome o (λ p. Leads S e p.kind)
 unfolding usable
 taken_leads S e None t = tt
 taken_leads S e (Some p) t = kind_leads S e p.need p.kind t.1
 
 pub leads : (S : Tables) (e : Prefix) (k : ℕ) → IfSome (slice_get (wanted S e) k) (λ p. Leads S e p.kind)
-leads S e k = taken_leads S e (slice_get (wanted S e) k) (each-at (IsTaken S e) (wanted S e) k (wanted_taken S e))
+leads S e k = taken_leads S e (slice_get (wanted S e) k) (each-at (IsWanted S e) (wanted S e) k (wanted_taken S e))
 
 -- the way from its so manieth entry on
 abbrev pub later : ℕ → Trip → Trip

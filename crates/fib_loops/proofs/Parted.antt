@@ -21,17 +21,17 @@ unset_suc v xs i h l e =
     subst (λ (w : ℕ). unset (set xs i w) + 1 ≡ unset xs) is (unset_less xs i (v - 1) l e)
 
 -- what a step keeps: numbers stay, the members stay in front, and each new one had no number
-pub record IsTaken (parts members parts' members' : List ℕ) : Type 0 where
+pub record GrowsParts (parts members parts' members' : List ℕ) : Type 0 where
   pub kept : (x : ℕ) → 0 < get_or parts x 0 → 0 < get_or parts' x 0
   pub sized : unset parts' + length members' ≡ unset parts + length members
   pub longer : length members ≤ length members'
   pub front : (x : ℕ) → Contains members x → Contains members' x
   pub same : (k : ℕ) → k < length members → get_or members' k 0 ≡ get_or members k 0
 
-pub taken_none : (parts members : List ℕ) → IsTaken parts members parts members
+pub taken_none : (parts members : List ℕ) → GrowsParts parts members parts members
 taken_none parts members = record { kept = λ x h. h; sized = refl; longer = omega arith; front = λ x c. c; same = λ k l. refl }
 
-taken_then : (p m p' m' p'' m'' : List ℕ) → IsTaken p m p' m' → IsTaken p' m' p'' m'' → IsTaken p m p'' m''
+taken_then : (p m p' m' p'' m'' : List ℕ) → GrowsParts p m p' m' → GrowsParts p' m' p'' m'' → GrowsParts p m p'' m''
 taken_then p m p' m' p'' m'' a b = record {
   kept = λ x h. b.kept x (a.kept x h);
   sized = omega (arith, a.sized, b.sized);
@@ -131,7 +131,7 @@ module _ (E : ℕ → ℕ → Type 0) (n : ℕ) (starts ranks order : List ℕ) 
       done_low = omega (arith, v.done_low, length-append members (s ∷ []));
     }
 
-    pub taken_new : IsTaken parts members later (members ++ s ∷ [])
+    pub taken_new : GrowsParts parts members later (members ++ s ∷ [])
     taken_new = record {
       kept = numbered_kept;
       sized = omega (arith, unset_suc number parts s some (omega (arith, inside, v.parts_len)) new, length-append members (s ∷ []));
@@ -144,7 +144,7 @@ module _ (E : ℕ → ℕ → Type 0) (n : ℕ) (starts ranks order : List ℕ) 
     taken_at = omega (arith, part_at s refl, some)
 
   -- a node that leads to a member, with or without a number
-  taken_step : (s : List ℕ × List ℕ) (done x z : ℕ) → IsGrowing E n starts ranks number root s.0 s.1 done → x < n → Contains s.1 z → E x z → IsGrowing E n starts ranks number root (take_one number s x).0 (take_one number s x).1 done × IsTaken s.0 s.1 (take_one number s x).0 (take_one number s x).1 × (0 < get_or (take_one number s x).0 x 0)
+  taken_step : (s : List ℕ × List ℕ) (done x z : ℕ) → IsGrowing E n starts ranks number root s.0 s.1 done → x < n → Contains s.1 z → E x z → IsGrowing E n starts ranks number root (take_one number s x).0 (take_one number s x).1 done × GrowsParts s.0 s.1 (take_one number s x).0 (take_one number s x).1 × (0 < get_or (take_one number s x).0 x 0)
   taken_step s done x z v inside member edge =
       elim (either (eqb (get_or s.0 x 0) 0)) [
         | inl is ↦ (let new = (Decides-eqb (get_or s.0 x 0) 0).0 is in
@@ -159,7 +159,7 @@ module _ (E : ℕ → ℕ → Type 0) (n : ℕ) (starts ranks order : List ℕ) 
       ]
 
   -- all nodes of a list that lead to a member
-  pub taken_all : (sources : List ℕ) (s : List ℕ × List ℕ) (done z : ℕ) → ((x : ℕ) → Contains sources x → (x < n) × E x z) → IsGrowing E n starts ranks number root s.0 s.1 done → Contains s.1 z → IsGrowing E n starts ranks number root (fold (take_one number) s sources).0 (fold (take_one number) s sources).1 done × IsTaken s.0 s.1 (fold (take_one number) s sources).0 (fold (take_one number) s sources).1 × ((x : ℕ) → Contains sources x → 0 < get_or (fold (take_one number) s sources).0 x 0)
+  pub taken_all : (sources : List ℕ) (s : List ℕ × List ℕ) (done z : ℕ) → ((x : ℕ) → Contains sources x → (x < n) × E x z) → IsGrowing E n starts ranks number root s.0 s.1 done → Contains s.1 z → IsGrowing E n starts ranks number root (fold (take_one number) s sources).0 (fold (take_one number) s sources).1 done × GrowsParts s.0 s.1 (fold (take_one number) s sources).0 (fold (take_one number) s sources).1 × ((x : ℕ) → Contains sources x → 0 < get_or (fold (take_one number) s sources).0 x 0)
   taken_all [] s done z lead v member = (v, taken_none s.0 s.1, λ x c. absurd (omega (arith, c.1)))
   taken_all (x ∷ xs) s done z lead v member =
       let t = take_one number s x in
@@ -168,7 +168,7 @@ module _ (E : ℕ → ℕ → Type 0) (n : ℕ) (starts ranks order : List ℕ) 
       let rest = taken_all xs t done z (λ y c. lead y (suc c.0, omega (arith, c.1), c.2)) one.0 (one.1.front z member) in
       (rest.0, taken_then s.0 s.1 t.0 t.1 (fold (take_one number) t xs).0 (fold (take_one number) t xs).1 one.1 rest.1, λ y c. each y c one.2 rest.1 rest.2)
     where
-      each : (y : ℕ) → Contains (x ∷ xs) y → 0 < get_or (take_one number s x).0 x 0 → IsTaken (take_one number s x).0 (take_one number s x).1 (fold (take_one number) (take_one number s x) xs).0 (fold (take_one number) (take_one number s x) xs).1 → ((q : ℕ) → Contains xs q → 0 < get_or (fold (take_one number) (take_one number s x) xs).0 q 0) → 0 < get_or (fold (take_one number) (take_one number s x) xs).0 y 0
+      each : (y : ℕ) → Contains (x ∷ xs) y → 0 < get_or (take_one number s x).0 x 0 → GrowsParts (take_one number s x).0 (take_one number s x).1 (fold (take_one number) (take_one number s x) xs).0 (fold (take_one number) (take_one number s x) xs).1 → ((q : ℕ) → Contains xs q → 0 < get_or (fold (take_one number) (take_one number s x) xs).0 q 0) → 0 < get_or (fold (take_one number) (take_one number s x) xs).0 y 0
       each y (zero, l, e) here t all = subst (λ (k : ℕ). 0 < get_or (fold (take_one number) (take_one number s x) xs).0 k 0) e (t.kept x here)
       each y (suc k, l, e) here t all = all y (k, omega (arith, l), e)
 
@@ -199,7 +199,7 @@ module _ (E : ℕ → ℕ → Type 0) (n : ℕ) (starts ranks order : List ℕ) 
     abbrev taken : List ℕ × List ℕ
     taken = fold (take_one number) (parts, members) sources
 
-    done_all : IsGrowing E n starts ranks number root taken.0 taken.1 place × IsTaken parts members taken.0 taken.1 × ((x : ℕ) → Contains sources x → 0 < get_or taken.0 x 0)
+    done_all : IsGrowing E n starts ranks number root taken.0 taken.1 place × GrowsParts parts members taken.0 taken.1 × ((x : ℕ) → Contains sources x → 0 < get_or taken.0 x 0)
     done_all = taken_all sources (parts, members) place z lead v (place, here, sym is)
 
     pub step_grows : IsGrowing E n starts ranks number root taken.0 taken.1 (place + 1)

@@ -26,11 +26,11 @@ use Rattle.fib_core_rule.proofs.Steps.{zero_version}
 use Rattle.fib_pool.specs.declared.object.Kind.TheVariants as kinds
 use Rattle.fib_pool.specs.declared.object.Object.{Object}
 use Rattle.fib_pool.specs.declared.object.AdjacencyRecord.{AdjacencyRecord}
-use Rattle.fib_pool.specs.Objects.{at, count_in, count_of, with_count, as_new, IsTaken, IsLive}
+use Rattle.fib_pool.specs.Objects.{at, count_in, count_of, with_count, as_new, TookObject, IsLive}
 use Rattle.fib_pool.specs.Records.{AreAdjacencies, IsKeptAs}
 use Rattle.fib_pool.proofs.Pools.{none_some}
 use Rattle.fib_core_board.specs.Boards.{Board, as_control, edge_of, union_of, word_in, board_stored}
-use Rattle.fib_core_board.specs.May.{Allows, MayChange, MayStore, Serves}
+use Rattle.fib_core_board.specs.May.{Allows, MayChange, MayStore, HoldsPromise}
 use Rattle.fib_core_board.specs.Told.{IsBoard}
 use Rattle.fib_core_board.proofs.Serving.{edge_none, edge_at_drop, serves_held}
 use Rattle.fib_plane.specs.Planes.{Plane, IsHeld, released, counted_more, uncounted}
@@ -143,7 +143,7 @@ module _ (b : Board) (u : edges.Kept) (xs : List (Option Object)) (o s n : ℕ) 
   held_same : (z : ℕ) → HoldsBut b xs o z → HoldsBut (board_stored b k w) xs o z
   held_same z h = (let i = into_same z in let held = h.0 in (omega arith, h.1))
 
-  served : Serves (board_stored b k w) (HoldsBut (board_stored b k w) xs o)
+  served : HoldsPromise (board_stored b k w) (HoldsBut (board_stored b k w) xs o)
   served = serves_held (board_stored b k w) (HoldsBut b xs o) (HoldsBut (board_stored b k w) xs o) held_same
       (λ begun. (let names = idle.serves begun in (
         names.0,
@@ -164,7 +164,7 @@ module _ (b : Board) (u : edges.Kept) (xs : List (Option Object)) (o s n : ℕ) 
   })
 
 -- just after the object was taken
-module _ (b : Board) (u : edges.Kept) (xs ys : List (Option Object)) (rows : List (interned.Kept AdjacencyRecord)) (ds : List ℕ) (room o : ℕ) (p : IsAtRest b u xs rows ds room) (taken : IsTaken xs ys o kinds.Adjacency) where
+module _ (b : Board) (u : edges.Kept) (xs ys : List (Option Object)) (rows : List (interned.Kept AdjacencyRecord)) (ds : List ℕ) (room o : ℕ) (p : IsAtRest b u xs rows ds room) (taken : TookObject xs ys o kinds.Adjacency) where
   free : count_of xs o ≡ 0
   free = ap count_in taken.free
 
@@ -186,7 +186,7 @@ module _ (b : Board) (u : edges.Kept) (xs ys : List (Option Object)) (rows : Lis
   with_new : IsAtRest b u ys rows ds room
   with_new = subst (λ (zs : List (Option Object)). IsAtRest b u zs rows ds room) (sym taken.taken) (taken_plane b u xs rows ds room p o kinds.Adjacency taken.inside taken.free)
 
-  pub fresh_idle : Allows b → Serves b (IsHeld b xs) → IsIdle b u ys o
+  pub fresh_idle : Allows b → HoldsPromise b (IsHeld b xs) → IsIdle b u ys o
   fresh_idle allowed serves = record {
     joined = with_new.joined;
     acyclic = p.acyclic;
@@ -236,7 +236,7 @@ module _ (b : Board) (o : ℕ) (r : AdjacencyRecord) (long : 16 * o + 16 ≤ len
       ∙ empty (suc (suc (suc s))) lt
 
 -- a fresh record
-pub records_fresh : (b c : Board) (xs ys : List (Option Object)) (rows new : List (interned.Kept AdjacencyRecord)) (o : ℕ) (r : AdjacencyRecord) → AreRecords b xs rows → interned.Takes rows new r o → IsTaken xs ys o kinds.Adjacency → AreAdjacencies new ys
+pub records_fresh : (b c : Board) (xs ys : List (Option Object)) (rows new : List (interned.Kept AdjacencyRecord)) (o : ℕ) (r : AdjacencyRecord) → AreRecords b xs rows → interned.Takes rows new r o → TookObject xs ys o kinds.Adjacency → AreAdjacencies new ys
     → ((z : ℕ) → into (union_of c) z ≡ into (union_of b) z) → into (union_of b) o ≡ 0 → o ≢ 0 → ((k : ℕ) → owner k ≢ o → word_in c k ≡ word_in b k) → ((s : ℕ) → s < 16 → word_in c (16 * o + s) ≡ record_word r s) → IsInRange r → AreRecords c ys new
 records_fresh b c xs ys rows new o r ok takes taken adjacencies same none other beside filled range = record {
   adjacencies = adjacencies;
@@ -260,7 +260,7 @@ records_fresh b c xs ys rows new o r ok takes taken adjacencies same none other 
 }
 
 -- a plane with a fresh record
-pub fresh_rest : (b c : Board) (u v : edges.Kept) (xs ys : List (Option Object)) (rows new : List (interned.Kept AdjacencyRecord)) (ds : List ℕ) (room o : ℕ) (r : AdjacencyRecord) → IsAtRest b u xs rows ds room → IsTaken xs ys o kinds.Adjacency → interned.Takes rows new r o → AreAdjacencies new ys
+pub fresh_rest : (b c : Board) (u v : edges.Kept) (xs ys : List (Option Object)) (rows new : List (interned.Kept AdjacencyRecord)) (ds : List ℕ) (room o : ℕ) (r : AdjacencyRecord) → IsAtRest b u xs rows ds room → TookObject xs ys o kinds.Adjacency → interned.Takes rows new r o → AreAdjacencies new ys
     → c ≡ board_filled b o r → IsIdle c v ys o → ((z : ℕ) → into (union_of c) z ≡ into (union_of b) z) → r.interface < 2 ^ 32 → r.next_hop < 2 ^ 32 → IsRoomy (mac_word r.mac) → IfSome r.mac (λ m. m < 2 ^ 48) → IsAtRest c v ys new ds room
 fresh_rest b c u v xs ys rows new ds room o r p taken takes adjacencies filled idle counts interface next_hop mac few = record {
   joined = idle.joined;
@@ -329,5 +329,5 @@ given_same p o more = ap (λ (t : Bool). if t then released p o else p.objects) 
     not_one n ne = grind (arith, nat_tests)
 
 -- a free object is no record's
-pub taken_apart : (b : Board) (xs ys : List (Option Object)) (rows : List (interned.Kept AdjacencyRecord)) (o : ℕ) → AreRecords b xs rows → IsTaken xs ys o kinds.Adjacency → (k : interned.Kept AdjacencyRecord) → interned.kept_of rows o ≡ Some k → ⊥
+pub taken_apart : (b : Board) (xs ys : List (Option Object)) (rows : List (interned.Kept AdjacencyRecord)) (o : ℕ) → AreRecords b xs rows → TookObject xs ys o kinds.Adjacency → (k : interned.Kept AdjacencyRecord) → interned.kept_of rows o ≡ Some k → ⊥
 taken_apart b xs ys rows o ok taken k e = (let a = ok.adjacencies o k e in none_some (sym taken.free ∙ a.taken))

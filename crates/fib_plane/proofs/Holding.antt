@@ -7,7 +7,7 @@ use Rattle.fib_core_board.specs.Boards.{Board, HasNoPly, union_of, board_scanned
 use Rattle.fib_plane.specs.Planes.{IsHeld, IsSwept}
 use Rattle.fib_plane.specs.inner.Joined.{IsJoined, IsDropped}
 use Rattle.fib_union.specs.Unions.{times}
-use Rattle.fib_core_board.specs.May.{Serves}
+use Rattle.fib_core_board.specs.May.{HoldsPromise}
 use Rattle.fib_core_board.specs.Told.{IsBoard}
 use Rattle.fib_core_board.proofs.Serving.{serves_scanned, hangs_aside}
 use Rattle.fib_plane.proofs.Boarding.{dying_count}
@@ -19,7 +19,7 @@ pub dying_not_held : (b : Board) (xs : List (Option Object)) (o slot : ℕ) → 
 dying_not_held b xs o slot lt d h = (let c = dying_count xs o d in let own : owner (16 * o + slot) ≡ o = omega arith in let e = ap (λ (q : ℕ). count_of xs q) own in absurd (let bad : ⊥ = omega arith in bad))
 
 -- looks
-pub scans_serve : (Held : ℕ → Type 0) (n : ℕ) (ws : List ℕ) (b : Board) → Serves b Held → Serves (board_scans n ws b) Held
+pub scans_serve : (Held : ℕ → Type 0) (n : ℕ) (ws : List ℕ) (b : Board) → HoldsPromise b Held → HoldsPromise (board_scans n ws b) Held
 scans_serve Held n [] b s = s
 scans_serve Held n (w ∷ ws) b s = scans_serve Held (n + 1) ws (board_scanned n w b) (serves_scanned b Held n w s)
 

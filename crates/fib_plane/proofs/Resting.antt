@@ -7,7 +7,7 @@ use Rattle.fib_reach.specs.Walks.{Leads, IsAcyclic}
 use Rattle.fib_union.specs.Unions.{Union, owner, Edge, into, left_at_once, Kept}
 use Rattle.fib_pool.specs.declared.object.Kind.{Kind}
 use Rattle.fib_pool.specs.declared.object.Object.{Object}
-use Rattle.fib_pool.specs.Objects.{at, count_in, count_of, with_count, as_new, IsTaken, IsLive, IsDying}
+use Rattle.fib_pool.specs.Objects.{at, count_in, count_of, with_count, as_new, TookObject, IsLive, IsDying}
 use Rattle.fib_core.specs.declared.word.Word.{Word}
 use Rattle.fib_core.specs.declared.word.Word.TheVariants as words
 use Rattle.fib_core_board.specs.Boards.{Board, HasNoPly, edge_of, word_in, union_of, board_stored, board_begun, board_settled}
@@ -15,7 +15,7 @@ use Rattle.fib_core_board.specs.May.{MayStore}
 use Rattle.fib_plane.specs.Planes.{IsHeld, IsSwept, counted_more, uncounted}
 use Rattle.fib_plane_view.specs.declared.put.Put.{Put}
 use Rattle.fib_plane_view.specs.declared.put.Put.TheVariants as puts
-use Rattle.fib_plane.specs.Puts.{MayPut, Closes, IsPut, IsStored}
+use Rattle.fib_plane.specs.Puts.{MayPut, Closes, IsPlanePut, IsStored}
 use Rattle.fib_plane.specs.Views.{plane_of}
 use Rattle.fib_plane.specs.Sound.{IsCounted}
 use Rattle.fib_plane.specs.inner.Joined.{IsJoined, AreDying, IsAtRest}
@@ -100,7 +100,7 @@ module _ (b : Board) (u : Kept) (xs : List (Option Object)) (rows : List (intern
       records = taken_records;
     }
 
-  pub take_plane : (kind : Kind) (r : Option ℕ) (ys : List (Option Object)) → IfSome r (λ o. IsTaken xs ys o kind) → IfNone r (ys ≡ xs) → IsAtRest b u ys rows ds room
+  pub take_plane : (kind : Kind) (r : Option ℕ) (ys : List (Option Object)) → IfSome r (λ o. TookObject xs ys o kind) → IfNone r (ys ≡ xs) → IsAtRest b u ys rows ds room
   take_plane kind None ys m n = subst (λ (l : List (Option Object)). IsAtRest b u l rows ds room) (sym n) p
   take_plane kind (Some o) ys m n = subst (λ (l : List (Option Object)). IsAtRest b u l rows ds room) (sym m.taken) (taken_plane o kind m.inside m.free)
 
@@ -251,7 +251,7 @@ all_told b u xs rows ds room spare p told kept = record {
     above o x is = by_count o x x.count is refl
 
 -- a taken object
-pub plies_taken : (b : Board) (u : Kept) (xs ys : List (Option Object)) (kind : Kind) (r : Option ℕ) → IsJoined b u xs → IsBoard b → IfSome r (λ o. IsTaken xs ys o kind) → IfSome r (λ o. HasNoPly b o)
+pub plies_taken : (b : Board) (u : Kept) (xs ys : List (Option Object)) (kind : Kind) (r : Option ℕ) → IsJoined b u xs → IsBoard b → IfSome r (λ o. TookObject xs ys o kind) → IfSome r (λ o. HasNoPly b o)
 plies_taken b u xs ys kind None h told m = tt
 plies_taken b u xs ys kind (Some o) h told m = free_plies b u xs h told o m.free
 
@@ -292,7 +292,7 @@ put_word b c u xs ys o s w h small source target roomy swept held =
 -- a change of a cell, and what it frees
 pub change_rest : (b c : Board) (u v : Kept) (xs ys : List (Option Object)) (rows : List (interned.Kept AdjacencyRecord)) (ds es : List ℕ) (room more : ℕ) (o s : ℕ) (w : Word) (answer : Put)
     → IsAtRest b u xs rows ds room → s < 16 → IsLive xs o → ((y : ℕ) → edge_of w ≡ Some y → IsLive xs y) → interned.kept_of rows o ≡ None → word_in b (16 * o + s) ≢ w
-    → IsPut (plane_of b u xs []) (plane_of c v ys []) (16 * o + s) w answer
+    → IsPlanePut (plane_of b u xs []) (plane_of c v ys []) (16 * o + s) w answer
     → IsJoined c v ys → IsAcyclic (Edge (union_of c)) → AreDying ys [] → es ≡ [] → c.objects ≤ more → IsAtRest c v ys rows es more
 change_rest b c u v xs ys rows ds es room more o s w puts.Same p small source target apart other put joined acyclic none empty roomy = absurd (other put.0)
 change_rest b c u v xs ys rows ds es room more o s w puts.Stored p small source target apart other put joined acyclic none empty roomy =
@@ -318,7 +318,7 @@ module _ (b c : Board) (u v : Kept) (xs ys : List (Option Object)) (rows : List 
   stored_rows : (w : Word) → IsStored (plane_of b u xs []) (plane_of c v ys []) k w → IsStored (plane_of b u xs rows) (plane_of c v ys rows) k w
   stored_rows w s = record { swept = s.swept; records = refl; spare = s.spare; spared = s.spared }
 
-  pub put_rows : (w : Word) (answer : Put) → IsPut (plane_of b u xs []) (plane_of c v ys []) k w answer → IsPut (plane_of b u xs rows) (plane_of c v ys rows) k w answer
+  pub put_rows : (w : Word) (answer : Put) → IsPlanePut (plane_of b u xs []) (plane_of c v ys []) k w answer → IsPlanePut (plane_of b u xs rows) (plane_of c v ys rows) k w answer
   put_rows w puts.Same put = (put.0, ap with_rows put.1)
   put_rows w puts.Stored put = (put.0, put.1, stored_rows w put.2)
   put_rows w puts.Dropped put = (

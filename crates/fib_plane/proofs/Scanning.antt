@@ -18,7 +18,7 @@ use Rattle.fib_pool.specs.Objects.{at, count_of, with_count, IsLive}
 use Rattle.fib_core_board.specs.Boards.{Board, union_of, board_scanned, board_scans}
 use Rattle.fib_core_board.specs.May.{Allows}
 use Rattle.fib_plane.specs.Planes.{with_cells}
-use Rattle.fib_plane.specs.Planes.{AreAtRest, IsUncounted, IsSwept, IsScanned, Plane, left_after}
+use Rattle.fib_plane.specs.Planes.{AreAtRest, IsUncounted, IsSwept, IsPlaneScanned, Plane, left_after}
 use Rattle.fib_plane.specs.inner.Joined.{IsJoined, IsLoose, IsDropped, AreDying}
 use Rattle.fib_union.specs.Unions.{times}
 use Rattle.fib_union.proofs.Scans.{into-scanned, acyclic-scanned}
@@ -224,7 +224,7 @@ no_copies [] n e f = refl
 no_copies (x ∷ xs) n e f = absurd (let bad : ⊥ = omega arith in bad)
 
 -- where nothing is retired, a scan changes nothing
-pub scanned_nothing : (p : Plane) → p.board.union.retired ≡ [] → IsScanned p p
+pub scanned_nothing : (p : Plane) → p.board.union.retired ≡ [] → IsPlaneScanned p p
 scanned_nothing p e =
     let ws : List ℕ = replicate p.board.workers 0 in
     let same : board_scans 0 ws p.board ≡ p.board = scans_none 0 ws p.board e in

@@ -102,7 +102,7 @@ abbrev pub left_after : ℕ → List ℕ → List Retired → List Retired
 left_after n ws rs = map (looked_copy n ws) (filter (stays n ws) rs)
 
 -- the workers' pass words were looked at, the edges that left were counted no more, and what that freed was cleared and given back
-pub record IsScanned (p q : Plane) : Type 0 where
+pub record IsPlaneScanned (p q : Plane) : Type 0 where
   pub words : List ℕ
   pub each : length words ≡ p.board.workers
   pub rests : AreAtRest p.board words

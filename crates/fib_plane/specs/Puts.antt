@@ -7,7 +7,7 @@ use Rattle.fib_core.specs.declared.word.Word.TheVariants as words
 use Rattle.fib_core.specs.Words.{IsRoomy}
 use Rattle.fib_pool.specs.declared.object.Object.{Object}
 use Rattle.fib_core_board.specs.Boards.{Board, edge_of, union_of, word_in, board_stored}
-use Rattle.fib_core_board.specs.May.{Allows, IsReached, MayChange, MayEmpty, Serves}
+use Rattle.fib_core_board.specs.May.{Allows, IsReached, MayChange, MayEmpty, HoldsPromise}
 use Rattle.fib_plane_view.specs.declared.put.Put.{Put}
 use Rattle.fib_plane_view.specs.declared.put.Put.TheVariants as puts
 use Rattle.fib_plane.specs.Planes.{Plane, Holds, IsSwept, counted_more, uncounted}
@@ -28,10 +28,10 @@ pub record IsStored (p q : Plane) (k : ℕ) (w : Word) : Type 0 where
   -- where no pass can come nothing is retired
   pub spared : must_retire (union_of p.board) k ≡ false → p.spare ≤ q.spare
 
-abbrev pub IsPut : Plane → Plane → ℕ → Word → Put → Type 0
-IsPut p q k w puts.Same = (word_in p.board k ≡ w) × (q ≡ p)
-IsPut p q k w puts.Stored = (word_in p.board k ≢ w) × (Closes p.board k w → ⊥) × IsStored p q k w
-IsPut p q k w puts.Dropped =
+abbrev pub IsPlanePut : Plane → Plane → ℕ → Word → Put → Type 0
+IsPlanePut p q k w puts.Same = (word_in p.board k ≡ w) × (q ≡ p)
+IsPlanePut p q k w puts.Stored = (word_in p.board k ≢ w) × (Closes p.board k w → ⊥) × IsStored p q k w
+IsPlanePut p q k w puts.Dropped =
     (word_in p.board k ≢ w)
     × Closes p.board k w
     × (((word_in p.board k ≡ words.Drop) × (q ≡ p)) ⊎ ((word_in p.board k ≢ words.Drop) × IsStored p q k words.Drop))
@@ -54,4 +54,4 @@ pub record MayPut (p : Plane) (k : ℕ) (w : Word) : Type 0 where
   pub dropped : Closes p.board k w → IsReached p.board (owner k) → MayChange p.board k words.Drop
   pub aside : word_in p.board k ≢ w → (w ≡ words.Drop) ⊎ Closes p.board k w → (IsReached p.board (owner k) → ⊥) → MayEmpty p.board k
   -- the promise of steady traffic holds after the store too, for names whose balances are held
-  pub serves : (z : Word) → Puts p.board k w z → word_in p.board k ≢ z → Serves (board_stored p.board k z) (Holds p)
+  pub serves : (z : Word) → Puts p.board k w z → word_in p.board k ≢ z → HoldsPromise (board_stored p.board k z) (Holds p)

@@ -6,7 +6,7 @@ use Rattle.fib_core.specs.StandsFor.{mac_word}
 use Rattle.fib_pool.specs.declared.object.Kind.TheVariants as kinds
 use Rattle.fib_pool.specs.declared.object.Object.{Object}
 use Rattle.fib_pool.specs.declared.object.AdjacencyRecord.{AdjacencyRecord}
-use Rattle.fib_pool.specs.Objects.{IsTaken}
+use Rattle.fib_pool.specs.Objects.{TookObject}
 use Rattle.fib_core_board.specs.Boards.{Board, board_stored}
 use Rattle.fib_plane.specs.Planes.{Plane, IsSwept, released}
 
@@ -19,7 +19,7 @@ board_filled b o r =
 pub record TookRecord (p q : Plane) (r : AdjacencyRecord) (x : ℕ) : Type 0 where
   pub takes : Takes p.records q.records r x
   pub shared : (k : Kept AdjacencyRecord) → kept_of p.records x ≡ Some k → (q.board ≡ p.board) × (q.objects ≡ p.objects)
-  pub fresh : kept_of p.records x ≡ None → IsTaken p.objects q.objects x kinds.Adjacency × (q.board ≡ board_filled p.board x r)
+  pub fresh : kept_of p.records x ≡ None → TookObject p.objects q.objects x kinds.Adjacency × (q.board ≡ board_filled p.board x r)
   pub spare : p.spare ≤ q.spare
 
 -- with the last user the hold of the record's object ends

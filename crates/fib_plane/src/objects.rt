@@ -86,7 +86,7 @@ impl<B: Board> Objects for Plane<B> {
         ensures stores { StoresEach (λ x s. ((x ≡ object) × (s ≡ slot)) ⊎ IsFreed (view_of self.old.plane) (view_of self.new.plane) x)
             (view_of self.old.plane) (view_of self.new.plane) }
         ensures promise { promise_of self.new.plane.board ≡ promise_of self.old.plane.board }
-        ensures plane { puts.IsPut self.old.plane self.new.plane (16 * object + slot) word result }
+        ensures plane { puts.IsPlanePut self.old.plane self.new.plane (16 * object + slot) word result }
     {
         self.board.tells();
         let _ = self.table.count();
@@ -113,7 +113,7 @@ impl<B: Board> Objects for Plane<B> {
         ensures same { IfNone result (view_of self.new.plane ≡ view_of self.old.plane) }
         ensures promise { promise_of self.new.plane.board ≡ promise_of self.old.plane.board }
         ensures plane { self.new.plane ≡ record self.old.plane { objects = self.new.plane.objects } }
-        ensures taken { IfSome result (λ o. pool.IsTaken self.old.plane.objects self.new.plane.objects o kind) }
+        ensures taken { IfSome result (λ o. pool.TookObject self.old.plane.objects self.new.plane.objects o kind) }
         ensures plies { IfSome result (λ o. HasNoPly self.new.plane.board o) }
         ensures untouched { IfNone result (self.new.plane ≡ self.old.plane) }
     {
@@ -212,7 +212,7 @@ impl<B: Board> Objects for Plane<B> {
         ensures alone { (promise_of self.old.plane.board).alone ≡ true → (view_of self.new.plane).retired ≡ [] }
         ensures scanned { IsScanned (view_of self.old.plane) (view_of self.new.plane) result }
         ensures promise { promise_of self.new.plane.board ≡ promise_of self.old.plane.board }
-        ensures plane { planes.IsScanned self.old.plane self.new.plane }
+        ensures plane { planes.IsPlaneScanned self.old.plane self.new.plane }
     {
         self.board.tells();
         let _ = self.table.count();

@@ -7,7 +7,7 @@ ghost use Rattle.fib_core.specs.StandsFor.{mac_word};
 ghost use Rattle.fib_core.specs.Words.{IsRoomy};
 ghost use Rattle.fib_pool.specs.Objects.{IsLive};
 ghost use Rattle.fib_core_board.specs.Boards.{board_stored, union_of, word_in};
-ghost use Rattle.fib_core_board.specs.May.{Allows, Serves};
+ghost use Rattle.fib_core_board.specs.May.{Allows, HoldsPromise};
 ghost use Rattle.fib_core_board.specs.Told.{IsBoard};
 ghost use Rattle.fib_plane.specs.Records.{board_filled};
 ghost use Rattle.fib_plane.specs.inner.Joined.{HoldsBut, IsIdle, IsJoined};

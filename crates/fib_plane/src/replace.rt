@@ -5,10 +5,10 @@ ghost use Rattle.fib_union.specs.Unions.{Edge, left_at_once, must_retire};
 ghost use Rattle.fib_core.specs.Words.{IsRoomy};
 ghost use Rattle.fib_pool.specs.Objects.{IsLive, count_of};
 ghost use Rattle.fib_core_board.specs.Boards.{board_stored, edge_of, union_of, word_in};
-ghost use Rattle.fib_core_board.specs.May.{MayStore, Serves};
+ghost use Rattle.fib_core_board.specs.May.{MayStore, HoldsPromise};
 ghost use Rattle.fib_core_board.specs.Told.{IsBoard};
 ghost use Rattle.fib_plane.specs.Planes.{IsHeld, IsSwept, counted_more, leads_from, uncounted};
-ghost use Rattle.fib_plane.specs.Puts.{IsPut, MayPut};
+ghost use Rattle.fib_plane.specs.Puts.{IsPlanePut, MayPut};
 ghost use Rattle.fib_plane.specs.Views.{plane_of};
 ghost use Rattle.fib_plane.specs.inner.Joined.{AreDying, IsJoined};
 
@@ -53,7 +53,7 @@ pub(crate) fn replace<B: Board>(
     requires acyclic { IsAcyclic (Edge (union_of board.old)) }
     requires word { IsRoomy word }
     requires may { MayStore board.old (16 * cell.object + cell.slot) word }
-    requires serves { Serves (board_stored board.old (16 * cell.object + cell.slot) word) (IsHeld board.old pool.old) }
+    requires serves { HoldsPromise (board_stored board.old (16 * cell.object + cell.slot) word) (IsHeld board.old pool.old) }
     requires source { IsLive pool.old cell.object }
     requires target { (y : ℕ) → edge_of word ≡ Some y → IsLive pool.old y }
     requires spare { (y : ℕ) → leads_from board.old (16 * cell.object + cell.slot) ≡ Some y → 0 < union.old.spare }
@@ -63,7 +63,7 @@ pub(crate) fn replace<B: Board>(
     ensures told { IsBoard board.new }
     ensures roomy { board.new.objects ≤ vec_capacity dying.new }
     ensures acyclic { IsAcyclic (Edge (union_of board.new)) }
-    ensures serves { Serves board.new (IsHeld board.new pool.new) }
+    ensures serves { HoldsPromise board.new (IsHeld board.new pool.new) }
     ensures swept { IsSwept (board_stored board.old (16 * cell.object + cell.slot) word) board.new
         (uncounted (left_at_once (union_of board.old) (16 * cell.object + cell.slot)) (counted_more (edge_of word) pool.old)) pool.new }
     ensures spare { union.old.spare ≤ union.new.spare + 1 }
@@ -103,7 +103,7 @@ pub(crate) fn change<B: Board>(
     ensures told { IsBoard board.new }
     ensures roomy { board.new.objects ≤ vec_capacity dying.new }
     ensures acyclic { IsAcyclic (Edge (union_of board.new)) }
-    ensures put { IsPut (plane_of board.old union.old pool.old []) (plane_of board.new union.new pool.new [])
+    ensures put { IsPlanePut (plane_of board.old union.old pool.old []) (plane_of board.new union.new pool.new [])
         (16 * cell.object + cell.slot) word result }
 {
     board.tells();

@@ -3,7 +3,7 @@ ghost use Rattle.std.specs.Prelude.{IsTrue, List, Some, length, vec_capacity, �
 ghost use Rattle.fib_core.specs.declared.word.Word.TheVariants as words;
 ghost use Rattle.fib_pool.specs.Objects.{IsDying, IsLive, free_in};
 ghost use Rattle.fib_core_board.specs.Boards.{word_in};
-ghost use Rattle.fib_core_board.specs.May.{Allows, Serves};
+ghost use Rattle.fib_core_board.specs.May.{Allows, HoldsPromise};
 ghost use Rattle.fib_core_board.specs.Told.{IsBoard};
 ghost use Rattle.fib_plane.specs.Planes.{IsHeld, IsSwept, uncounted};
 ghost use Rattle.fib_plane.specs.inner.Joined.{AreDying, IsJoined};
@@ -53,11 +53,11 @@ fn clear_cell<B: Board>(
     requires joined { IsJoined board.old union.old pool.old }
     requires dying { AreDying pool.old (cell.object ∷ dying.old.items) }
     requires allowed { Allows board.old }
-    requires serves { Serves board.old (IsHeld board.old pool.old) }
+    requires serves { HoldsPromise board.old (IsHeld board.old pool.old) }
     requires room { length pool.old ≤ vec_capacity dying.old }
     ensures joined { IsJoined board.new union.new pool.new }
     ensures dying { AreDying pool.new (cell.object ∷ dying.new.items) }
-    ensures serves { Serves board.new (IsHeld board.new pool.new) }
+    ensures serves { HoldsPromise board.new (IsHeld board.new pool.new) }
     ensures swept { IsSwept board.old board.new pool.old pool.new }
     ensures cleared { word_in board.new (16 * cell.object + cell.slot) ≡ words.Drop }
     ensures others { (k : ℕ) → k ≢ 16 * cell.object + cell.slot → word_in board.new k ≡ word_in board.old k }
@@ -84,11 +84,11 @@ fn clear<B: Board>(
     requires joined { IsJoined board.old union.old pool.old }
     requires dying { AreDying pool.old (object ∷ dying.old.items) }
     requires allowed { Allows board.old }
-    requires serves { Serves board.old (IsHeld board.old pool.old) }
+    requires serves { HoldsPromise board.old (IsHeld board.old pool.old) }
     requires room { length pool.old ≤ vec_capacity dying.old }
     ensures joined { IsJoined board.new union.new pool.new }
     ensures dying { AreDying pool.new dying.new.items }
-    ensures serves { Serves board.new (IsHeld board.new pool.new) }
+    ensures serves { HoldsPromise board.new (IsHeld board.new pool.new) }
     ensures swept { IsSwept board.old board.new pool.old pool.new }
     ensures spare { union.old.spare ≤ union.new.spare }
     ensures room { vec_capacity dying.old ≤ vec_capacity dying.new }
@@ -112,13 +112,13 @@ pub(crate) fn sweep<B: Board>(
     requires joined { IsJoined board.old union.old pool.old }
     requires dying { AreDying pool.old dying.old.items }
     requires allowed { Allows board.old }
-    requires serves { Serves board.old (IsHeld board.old pool.old) }
+    requires serves { HoldsPromise board.old (IsHeld board.old pool.old) }
     requires room { length pool.old ≤ vec_capacity dying.old }
     ensures joined { IsJoined board.new union.new pool.new }
     ensures dying { AreDying pool.new dying.new.items }
     ensures empty { dying.new.items ≡ [] }
     ensures told { IsBoard board.new }
-    ensures serves { Serves board.new (IsHeld board.new pool.new) }
+    ensures serves { HoldsPromise board.new (IsHeld board.new pool.new) }
     ensures swept { IsSwept board.old board.new pool.old pool.new }
     ensures spare { union.old.spare ≤ union.new.spare }
     ensures room { vec_capacity dying.old ≤ vec_capacity dying.new }

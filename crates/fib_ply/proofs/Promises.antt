@@ -20,7 +20,7 @@ use Rattle.fib_plane_view.specs.View.{View, Retired, Goes, Edge, Kinds, IsPut, I
 use Rattle.fib_plane_view.proofs.Frames.{beside_put, buckets_beside}
 use Rattle.fib_reach.specs.Walks.{Leads}
 use Rattle.fib_ply.specs.Prefixes.{Look}
-use Rattle.fib_ply.specs.Served.{Paths, IsRight, IsServed, Watch, Wanted, IsKept, names_of}
+use Rattle.fib_ply.specs.Served.{Paths, IsRight, IsServed, Watch, Wanted, KeepsBeside, names_of}
 use Rattle.fib_ply.specs.inner.View.{IsSent}
 use Rattle.fib_ply.specs.inner.Change.{IsCalm}
 use Rattle.fib_ply.specs.Plies.{IsSound}
@@ -66,8 +66,8 @@ pub record IsNew (wants : Watch) (u : View) (w : Word) : Type 0 where
   pub apart : (o : ℕ) → w ≡ ToBalance o → u.is_ply o ≡ false
   pub still : wants.promise.applied ≡ 0 → (o t : ℕ) → w ≡ ToBalance o → t < 16 → u.cell o t ≡ Drop
 
-module _ (wants : Watch) (u v : View) (kept : IsKept wants u) where
-  pub kept_by : Beside u v → (wants.promise.applied ≡ 0 → IsStill v) → IsKept wants v
+module _ (wants : Watch) (u v : View) (kept : KeepsBeside wants u) where
+  pub kept_by : Beside u v → (wants.promise.applied ≡ 0 → IsStill v) → KeepsBeside wants v
   kept_by beside still = record {
     allowed = kept.allowed;
     newest = kept.newest;
@@ -77,7 +77,7 @@ module _ (wants : Watch) (u v : View) (kept : IsKept wants u) where
     still = still;
   }
 
-  pub kept_sent : (x s : ℕ) (w : Word) → Kinds u → u.is_ply x ≡ true → IsNew wants u w → Beside u v → IsSent u v x s w → IsKept wants v
+  pub kept_sent : (x s : ℕ) (w : Word) → Kinds u → u.is_ply x ≡ true → IsNew wants u w → Beside u v → IsSent u v x s w → KeepsBeside wants v
   kept_sent x s w kinds is new beside put = kept_by beside (λ z y r o t g lt. ⊎_elim
       (λ (old : Goes u y r (ToBalance o)). same o t (kinds.balance y r o old).0 (y, r, ToBalance o, refl, g) ∙ kept.still z y r o t old lt)
       (λ (q : (y ≡ x) × (r ≡ s) × (ToBalance o ≡ w)). same o t (new.apart o (sym q.2)) (y, r, ToBalance o, refl, g) ∙ new.still z o t (sym q.2) lt)
@@ -86,17 +86,17 @@ module _ (wants : Watch) (u v : View) (kept : IsKept wants u) where
       same : (o t : ℕ) → u.is_ply o ≡ false → (y : ℕ) × (r : ℕ) × (z : Word) × leads z o × Goes v y r z → v.cell o t ≡ u.cell o t
       same o t ne g = put.others o t (λ e _. true≢false (sym is ∙ sym (ap u.is_ply e) ∙ ne)) (inr (inr (inr g)))
 
-  pub kept_taken : (c : ℕ) → Beside u v → IsTaken u v kinds.Ply c → IsKept wants v
+  pub kept_taken : (c : ℕ) → Beside u v → IsTaken u v kinds.Ply c → KeepsBeside wants v
   kept_taken c beside take = kept_by beside (λ z y r o t g lt. take.cells o t ∙ kept.still z y r o t (back y r o g) lt)
     where
       back : (y r o : ℕ) → Goes v y r (ToBalance o) → Goes u y r (ToBalance o)
       back y r o (inl e) = inl (sym (take.cells y r) ∙ e)
       back y r o (inr h) = inr (subst (λ (rs : List Retired). Contains rs (record { from = y; slot = r; word = ToBalance o })) take.retired h)
 
-  pub kept_let_go : (c : ℕ) → Beside u v → IsLetGo u v c → IsKept wants v
+  pub kept_let_go : (c : ℕ) → Beside u v → IsLetGo u v c → KeepsBeside wants v
   kept_let_go c beside go = kept_by beside (λ z y r o t g lt. go.swept.cells o t (inr (inr (inr (y, r, ToBalance o, refl, g)))) ∙ kept.still z y r o t (go.swept.edges y r o (ToBalance o) refl g) lt)
 
-module _ (wants : Watch) (u : View) (kept : IsKept wants u) (n : Paths) where
+module _ (wants : Watch) (u : View) (kept : KeepsBeside wants u) (n : Paths) where
   begun_true : IsBegun wants.promise → nat_lt 0 wants.promise.applied ≡ true
   begun_true b = grind (arith, nat_tests)
 
@@ -126,7 +126,7 @@ module _ (wants : Watch) (u : View) (kept : IsKept wants u) (n : Paths) where
     still = kept.still;
   }
 
-module _ (wants : Watch) (u : View) (kept : IsKept wants u) (n : Paths) where
+module _ (wants : Watch) (u : View) (kept : KeepsBeside wants u) (n : Paths) where
   pub may_put : (x s : ℕ) (w : Word) → IsServed (Wanted wants) n u → Kinds u → u.is_ply x ≡ true → IsCalm u x w → IsNew wants u w
       → ((v : View) → IsSent u v x s w → IsServed (Wanted wants) n v) → KeepsRooted u x s w → EndsIn wants.promise u w → MayPut wants.promise u x s w
   may_put x s w ok kinds is calm new send rooted ends = record {
@@ -138,7 +138,7 @@ module _ (wants : Watch) (u : View) (kept : IsKept wants u) (n : Paths) where
     ends = ends;
   }
     where
-      serves_after : (v : View) → IsKept wants v → IsServed (Wanted wants) n v → Serves wants.promise (names_of wants n) v
+      serves_after : (v : View) → KeepsBeside wants v → IsServed (Wanted wants) n v → Serves wants.promise (names_of wants n) v
       serves_after v k served = serves_of wants v k n served
 
   pub may_let_go : (c : ℕ) → u.is_ply c ≡ true → IsServed (Wanted wants) n u → MayLetGo wants.promise u c

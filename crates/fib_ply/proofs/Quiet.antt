@@ -9,11 +9,11 @@ use Rattle.fib_plane_view.specs.View.{View, IsLive, Kinds}
 use Rattle.fib_ply.specs.Rows.{held}
 use Rattle.fib_ply.specs.Tables.{Table, Stands, watch_of}
 use Rattle.fib_ply.specs.Plies.{IsMine, IsSound, IsTable}
-use Rattle.fib_ply.specs.Served.{Paths, Watch, IsKept, IsWalked, Wanted}
+use Rattle.fib_ply.specs.Served.{Paths, Watch, KeepsBeside, IsWalked, Wanted}
 use Rattle.fib_ply.proofs.Rewatching.{right_fewer}
 use Rattle.fib_ply.proofs.Stores.{walked_live}
 
-module _ (w w' : Watch) (fewer : (a p : ℕ) → Wanted w' a p → Wanted w a p) (f : Prefix → Option ℕ) (there : ℕ → ℕ → Bool) (n : Paths) (u v : View) (table : IsTable w (look_of f) there n u) (quiet : IsQuiet f u v) (kinds : Kinds v) (kept : IsKept w' v) (still : w'.promise.applied ≡ 0 → (l c o t : ℕ) → look_of f l c ≡ Some o → t < 16 → v.cell o t ≡ Drop) where
+module _ (w w' : Watch) (fewer : (a p : ℕ) → Wanted w' a p → Wanted w a p) (f : Prefix → Option ℕ) (there : ℕ → ℕ → Bool) (n : Paths) (u v : View) (table : IsTable w (look_of f) there n u) (quiet : IsQuiet f u v) (kinds : Kinds v) (kept : KeepsBeside w' v) (still : w'.promise.applied ≡ 0 → (l c o t : ℕ) → look_of f l c ≡ Some o → t < 16 → v.cell o t ≡ Drop) where
   holds : (x : ℕ) → n.is_in x ≡ true → (v.is_ply x ≡ true) × ((x ≡ 0) ⊎ (v.is_held x ≡ true))
   holds x is = let h = table.at.fits.held x is in ⊎_elim
       (λ (z : x ≡ 0). (subst (λ (i : ℕ). v.is_ply i ≡ u.is_ply i) (sym z) quiet.root ∙ h.0, inl z))
@@ -70,11 +70,11 @@ quiet_mine : (f : Prefix → Option ℕ) (n : Paths) (u v : View) → IsQuiet f 
 quiet_mine f n u v quiet mine x is h = mine x (quiet.plies x is (inr (inl h))).0 (quiet.held x is h)
 
 -- within one change
-pub quiet_stands : (p : Promise) (t : Table) (u v : View) → Stands p t u → IsQuiet (held t.rows.members) u v → Kinds v → IsKept (watch_of p t) v
+pub quiet_stands : (p : Promise) (t : Table) (u v : View) → Stands p t u → IsQuiet (held t.rows.members) u v → Kinds v → KeepsBeside (watch_of p t) v
     → (p.applied ≡ 0 → (l c o k : ℕ) → look_of (held t.rows.members) l c ≡ Some o → k < 16 → v.cell o k ≡ Drop) → Stands p t v
 quiet_stands p t u v s quiet kinds kept still = (s.0, s.1, quiet_table (watch_of p t) (watch_of p t) (λ a o h. h) (held t.rows.members) s.0 s.1 u v s.2 quiet kinds kept still, s.3, quiet_mine (held t.rows.members) s.1 u v quiet s.4)
 
 -- from one promise to the next, by which no more addresses are undisturbed
-pub next_stands : (p q : Promise) (t : Table) (u v : View) → ((a o : ℕ) → Wanted (watch_of q t) a o → Wanted (watch_of p t) a o) → Stands p t u → IsQuiet (held t.rows.members) u v → Kinds v → IsKept (watch_of q t) v
+pub next_stands : (p q : Promise) (t : Table) (u v : View) → ((a o : ℕ) → Wanted (watch_of q t) a o → Wanted (watch_of p t) a o) → Stands p t u → IsQuiet (held t.rows.members) u v → Kinds v → KeepsBeside (watch_of q t) v
     → (q.applied ≡ 0 → (l c o k : ℕ) → look_of (held t.rows.members) l c ≡ Some o → k < 16 → v.cell o k ≡ Drop) → Stands q t v
 next_stands p q t u v fewer s quiet kinds kept still = (s.0, s.1, quiet_table (watch_of p t) (watch_of q t) fewer (held t.rows.members) s.0 s.1 u v s.2 quiet kinds kept still, s.3, quiet_mine (held t.rows.members) s.1 u v quiet s.4)

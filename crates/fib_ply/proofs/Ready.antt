@@ -20,7 +20,7 @@ use Rattle.fib_ply.specs.Tables.{Stands}
 use Rattle.fib_ply.specs.declared.rows.Row.{Row}
 use Rattle.fib_ply.specs.Blank.{IsBlank}
 use Rattle.fib_ply.specs.Plies.{Mixed, Has, IsListed, IsSound, IsTable}
-use Rattle.fib_ply.specs.Served.{Paths, IsRight, IsServed, IsWalked, IsKept, Watch, Wanted}
+use Rattle.fib_ply.specs.Served.{Paths, IsRight, IsServed, IsWalked, KeepsBeside, Watch, Wanted}
 use Rattle.fib_ply.specs.Fitting.{Fits, IsFilled}
 use Rattle.fib_ply.proofs.Blanks.{no_ply, blank_still}
 
@@ -101,7 +101,7 @@ module _ (f : Prefix → Option ℕ) (o : ℕ) (is : f ≡ added (λ e. None) ev
       still = λ z l c r t h lt. ap (λ i. u.cell i t) (length_none l c r h).1 ∙ blank.drops t lt;
     }
 
-    kept : IsKept (record { promise = p; balance = f }) u
+    kept : KeepsBeside (record { promise = p; balance = f }) u
     kept = record {
       allowed = inr blank.early;
       newest = blank.versions.0;

@@ -21,7 +21,7 @@ use Rattle.fib_plane_view.specs.View.{View}
 use Rattle.fib_ply.specs.Prefixes.{Look}
 use Rattle.fib_ply.specs.Plies.{IsSound, IsTable}
 use Rattle.fib_ply.specs.inner.Change.{IsPromised}
-use Rattle.fib_ply.specs.Served.{Paths, IsRight, IsServed, IsKept, Watch, Wanted}
+use Rattle.fib_ply.specs.Served.{Paths, IsRight, IsServed, KeepsBeside, Watch, Wanted}
 use Rattle.fib_ply.proofs.Rowing.{not_true}
 
 -- less is promised
@@ -38,7 +38,7 @@ module _ (W V : ℕ → ℕ → Type 0) (fewer : (a p : ℕ) → V a p → W a p
   served_fewer : (u : View) → IsServed W n u → IsServed V n u
   served_fewer u ok = record { root = ok.root; paths = ok.paths; right = λ x s walked lt. right_fewer x s (u.cell x s) (ok.right x s walked lt) }
 
-pub rewatch : (w v : Watch) → ((a p : ℕ) → Wanted v a p → Wanted w a p) → (v.promise.applied ≡ 0 → w.promise.applied ≡ 0) → (look : Look) (there : ℕ → ℕ → Bool) (n : Paths) (u : View) → IsKept v u → IsTable w look there n u → IsTable v look there n u
+pub rewatch : (w v : Watch) → ((a p : ℕ) → Wanted v a p → Wanted w a p) → (v.promise.applied ≡ 0 → w.promise.applied ≡ 0) → (look : Look) (there : ℕ → ℕ → Bool) (n : Paths) (u : View) → KeepsBeside v u → IsTable w look there n u → IsTable v look there n u
 rewatch w v fewer begun look there n u kept table = record {
   at = record {
     fits = table.at.fits;
@@ -80,7 +80,7 @@ module _ (p : Promise) (f g : Prefix → Option ℕ) (same : IsBegun p → (e : 
   lt_begun : (z : ℕ) → nat_lt 0 z ≡ true → 0 < z
   lt_begun z h = grind (arith, nat_tests)
 
-  kept_same : (u : View) → IsKept was u → IsKept now u
+  kept_same : (u : View) → KeepsBeside was u → KeepsBeside now u
   kept_same u k = record { allowed = k.allowed; newest = k.newest; older = k.older; versions = k.versions; buckets = λ b. buckets_same p.versions f g (same b) u (k.buckets b); still = k.still }
 
   wanted_same : (S : Tables) (J : List Tables) → p.versions ≡ S ∷ J → (a o : ℕ) → Wanted now a o → Wanted was a o

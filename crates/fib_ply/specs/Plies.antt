@@ -4,7 +4,7 @@ use Rattle.fib_core.specs.declared.word.Word.TheVariants.{Drop}
 use Rattle.fib_reach.specs.Walks.{AllDiffer}
 use Rattle.fib_plane_view.specs.View.{View, Kinds, IsBalance}
 use Rattle.fib_ply.specs.Prefixes.{Look, IsAnswer, Needs}
-use Rattle.fib_ply.specs.Served.{Paths, IsServed, Watch, Wanted, IsKept}
+use Rattle.fib_ply.specs.Served.{Paths, IsServed, Watch, Wanted, KeepsBeside}
 use Rattle.fib_ply.specs.Fitting.{Fits}
 
 -- addresses below pos are answered as after the change, the others as before it
@@ -44,7 +44,7 @@ pub record IsAt (wants : Watch) (there : ℕ → ℕ → Bool) (old new : Look) 
   pub promised : (a p : ℕ) → a < 2 ^ 32 → Wanted wants a p → IsAnswer old a p × IsAnswer new a p
   pub was : IsSound wants old u
   pub sound : IsSound wants new u
-  pub kept : IsKept wants u
+  pub kept : KeepsBeside wants u
   pub list : IsListed n
 
 -- the table stands for this set of prefixes

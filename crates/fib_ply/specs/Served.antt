@@ -55,7 +55,7 @@ abbrev pub Wanted : Watch → ℕ → ℕ → Type 0
 Wanted w a p = wants_of w a ≡ Some p
 
 -- what is kept beside the plies
-pub record IsKept (w : Watch) (u : View) : Type 0 where
+pub record KeepsBeside (w : Watch) (u : View) : Type 0 where
   pub allowed : Allows w.promise
   pub newest : Tables
   pub older : List Tables

@@ -9,7 +9,7 @@ use Rattle.fib_base_interned.proofs.Finding.{find_place, contains_at, none_some}
 use Rattle.fib_pool.specs.declared.object.Kind.TheVariants as kinds
 use Rattle.fib_pool.specs.declared.object.Object.{Object}
 use Rattle.fib_pool.specs.declared.object.AdjacencyRecord.{AdjacencyRecord}
-use Rattle.fib_pool.specs.declared.object.Taken.{Taken}
+use Rattle.fib_pool.specs.declared.object.TakenRecord.{TakenRecord}
 use Rattle.fib_pool.specs.contracts.object.AdjacencyRecordPartialEq.TheImpl.{eq-value}
 use Rattle.fib_pool.specs.contracts.object.AdjacencyRecordEq.TheImpl.Laws as laws
 use Rattle.fib_pool.specs.Objects.{at, recount, with_count, as_new}
@@ -66,7 +66,7 @@ adjacencies-given old new objects o g are other k e = elim (cases_eq other o) [
       | inr apart ↦ are other k (sym (g.others other apart) ∙ e)
     ]
 
-pub none_both : (r : Result (Option Taken) AllocError) (P Q : Type 0) → Q → IfOk r (λ o. IfNone o P) → IfOk r (λ o. IfNone o (Q × P))
+pub none_both : (r : Result (Option TakenRecord) AllocError) (P Q : Type 0) → Q → IfOk r (λ o. IfNone o P) → IfOk r (λ o. IfNone o (Q × P))
 none_both (Ok None) P Q q h = (q, h)
 none_both (Ok (Some t)) P Q q h = tt
 none_both (Err e) P Q q h = tt

@@ -47,7 +47,7 @@ abbrev pub as_new : Kind → Option Object
 as_new kind = Some (record { kind = kind; count = 1 })
 
 -- o was free, and is taken as this kind; all else stays
-pub record IsTaken (old new : List (Option Object)) (o : ℕ) (kind : Kind) : Type 0 where
+pub record TookObject (old new : List (Option Object)) (o : ℕ) (kind : Kind) : Type 0 where
   pub inside : o < length old
   pub free : at old o ≡ None
   pub taken : new ≡ slice_set old o (as_new kind)

@@ -4,8 +4,8 @@ use Rattle.fib_base_interned.specs.Interned.{Kept, kept_of, Takes}
 use Rattle.fib_pool.specs.declared.object.Kind.TheVariants as kinds
 use Rattle.fib_pool.specs.declared.object.Object.{Object}
 use Rattle.fib_pool.specs.declared.object.AdjacencyRecord.{AdjacencyRecord}
-use Rattle.fib_pool.specs.declared.object.Taken.{Taken}
-use Rattle.fib_pool.specs.Objects.{at, IsTaken}
+use Rattle.fib_pool.specs.declared.object.TakenRecord.{TakenRecord}
+use Rattle.fib_pool.specs.Objects.{at, TookObject}
 
 abbrev pub adjacency : ℕ → ℕ → Option ℕ → AdjacencyRecord
 adjacency interface next_hop mac = record { interface = interface; next_hop = next_hop; mac = mac }
@@ -34,10 +34,10 @@ IsKeptAs rows r o = (k : Kept AdjacencyRecord) × (kept_of rows o ≡ Some k) ×
 
 -- a fresh object was free and is an adjacency; else the record was kept, and the objects stay
 abbrev pub ObjectsFollow : Bool → List (Kept AdjacencyRecord) → AdjacencyRecord → List (Option Object) → List (Option Object) → ℕ → Type 0
-ObjectsFollow true rows r before after o = IsNew rows r × IsTaken before after o kinds.Adjacency
+ObjectsFollow true rows r before after o = IsNew rows r × TookObject before after o kinds.Adjacency
 ObjectsFollow false rows r before after o = IsKeptAs rows r o × (after ≡ before)
 
 -- the record has one user more, and the objects follow
-pub record TakesRecord (old new : List (Kept AdjacencyRecord)) (before after : List (Option Object)) (r : AdjacencyRecord) (t : Taken) : Type 0 where
+pub record TakesRecord (old new : List (Kept AdjacencyRecord)) (before after : List (Option Object)) (r : AdjacencyRecord) (t : TakenRecord) : Type 0 where
   pub takes : Takes old new r t.object
   pub objects : ObjectsFollow t.fresh old r before after t.object

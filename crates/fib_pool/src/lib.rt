@@ -7,6 +7,6 @@ mod object;
 mod pool;
 mod table;
 
-pub use object::{AdjacencyRecord, Kind, Object, Taken};
+pub use object::{AdjacencyRecord, Kind, Object, TakenRecord};
 pub use pool::Pool;
 pub use table::AdjTable;

@@ -31,7 +31,7 @@ pub struct AdjacencyRecord {
 
 /// The object of an adjacency record that was taken.
 #[derive(Clone, Copy, Debug, PartialEq, Eq)]
-pub struct Taken {
+pub struct TakenRecord {
     pub object: u32,
     /// No equal record was kept: the object was free, and its cells are to be stored.
     pub fresh: bool,

@@ -1,6 +1,6 @@
 // Objects by number.
 ghost use Rattle.std.specs.Prelude.{◌≡◌, ℕ, ◌+◌, ◌-◌, ◌<◌, ◌≤◌, ◌^◌, ◌↔◌, length, slice_set, Some, None, IfOk, IfSome, IfNone, IsTrue};
-ghost use Rattle.fib_pool.specs.Objects.{at, count_of, free_in, IsTaken, IsLive, IsDying, with_count, as_new, fresh_objects};
+ghost use Rattle.fib_pool.specs.Objects.{at, count_of, free_in, TookObject, IsLive, IsDying, with_count, as_new, fresh_objects};
 
 use crate::object::{Kind, Object};
 use std::alloc::{AllocError, Global};
@@ -28,10 +28,10 @@ impl Drop for Pool {
 
 impl Model for Pool {
     ghost use Rattle.std.specs.Prelude.{List, Option, vec_capacity};
-    ghost use Rattle.fib_pool.specs.declared.object.Object.{Object as Taken};
+    ghost use Rattle.fib_pool.specs.declared.object.Object.{Object as TakenObject};
     ghost use Rattle.fib_pool.specs.inner.Idle.{IsPool};
 
-    ghost Value = { List (Option Taken) };
+    ghost Value = { List (Option TakenObject) };
 
     ghost view = { λ p. p.objects.items };
 
@@ -58,7 +58,7 @@ impl Pool {
 
     /// An object that was free, now with this kind and count 1. None exactly where none is free.
     pub fn take(&mut self, kind: Kind) -> Option<u32>
-        ensures taken { IfSome result (λ o. IsTaken self.old self.new o kind) }
+        ensures taken { IfSome result (λ o. TookObject self.old self.new o kind) }
         ensures free { IfSome result (λ o. free_in self.new + 1 ≡ free_in self.old) }
         ensures none { IfNone result (free_in self.old ≡ 0) }
         ensures same { IfNone result (self.new ≡ self.old) }

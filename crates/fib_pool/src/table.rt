@@ -6,7 +6,7 @@ ghost use Rattle.fib_pool.specs.Objects.{free_in};
 ghost use Rattle.fib_pool.specs.declared.object.AdjacencyRecord.{AdjacencyRecord as TheRecord};
 ghost use Rattle.fib_pool.specs.Records.{adjacency, AreAdjacencies, IsNew, IsUsedLess, TakesRecord};
 
-use crate::object::{AdjacencyRecord, Kind, Taken};
+use crate::object::{AdjacencyRecord, Kind, TakenRecord};
 use crate::pool::Pool;
 use fib_addr::{Addr, Mac};
 use fib_base_interned::Interned;
@@ -89,7 +89,7 @@ impl AdjTable {
         interface: u32,
         next_hop: Addr,
         mac: Option<Mac>,
-    ) -> Result<Option<Taken>, AllocError>
+    ) -> Result<Option<TakenRecord>, AllocError>
         requires few { IsUsedLess self.old (adjacency interface next_hop mac) (2 ^ 32 - 1) }
         requires live { AreAdjacencies self.old pool.old }
         ensures taken { IfOk result (λ o. IfSome o
@@ -121,7 +121,7 @@ impl AdjTable {
         self.records.give(object as u64)
     }
 
-    fn share(&mut self, pool: &Pool, object: u64) -> Taken
+    fn share(&mut self, pool: &Pool, object: u64) -> TakenRecord
         requires kept { IsSome (kept_of self.old object) }
         requires few { users_of self.old object < 2 ^ 32 - 1 }
         requires live { AreAdjacencies self.old pool.now }
@@ -132,7 +132,7 @@ impl AdjTable {
     {
         let _ = pool.len();
         self.records.hold(object);
-        Taken {
+        TakenRecord {
             object: object as u32,
             fresh: false,
         }
@@ -142,7 +142,7 @@ impl AdjTable {
         &mut self,
         pool: &mut Pool,
         wanted: AdjacencyRecord,
-    ) -> Result<Option<Taken>, AllocError>
+    ) -> Result<Option<TakenRecord>, AllocError>
         requires absent { IsNew self.old wanted }
         requires live { AreAdjacencies self.old pool.old }
         ensures taken { IfOk result (λ o. IfSome o (λ t. TakesRecord self.old self.new pool.old pool.new wanted t)) }
@@ -161,7 +161,7 @@ impl AdjTable {
             pool.put_back(object);
             return Err(AllocError);
         }
-        Ok(Some(Taken {
+        Ok(Some(TakenRecord {
             object,
             fresh: true,
         }))

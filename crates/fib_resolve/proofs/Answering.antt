@@ -24,7 +24,7 @@ use Rattle.fib_resolve.specs.declared.types.PathKind.TheVariants as kinds
 use Rattle.fib_resolve.specs.declared.types.Tables.{Tables}
 use Rattle.fib_resolve.proofs.Entries.{chosen-no_entry}
 use Rattle.fib_resolve.proofs.Steady.{one_more}
-use Rattle.fib_resolve.proofs.Taken.{IsTaken, wanted_taken}
+use Rattle.fib_resolve.proofs.Taken.{IsWanted, wanted_taken}
 use Rattle.fib_resolve.proofs.KeptEdges.{not_true}
 
 forwards_suc : (S : Tables) (n : ℕ) (e : Prefix) → forwards_in S (suc n) e ≡ list_any (usable_by S (forwards_in S n) e) (chosen S e)
@@ -45,13 +45,13 @@ looped_unusable S e p (kinds.Hop a i) h = refl
 looped_unusable S e p (kinds.Recursive a) h = not_true (looped S e a) (and_both _ _ h).0
 looped_unusable S e p kinds.Cover h = refl
 
-pub taken_not_looped : (S : Tables) (e : Prefix) (p : Path) → IsTaken S e p → looped_kind S e p.kind ≡ false
+pub taken_not_looped : (S : Tables) (e : Prefix) (p : Path) → IsWanted S e p → looped_kind S e p.kind ≡ false
 unfolding usable
 taken_not_looped S e p h = looped_unusable S e p p.kind h.1
 
 -- no wanted path is looped
 pub wanted_not_looped : (S : Tables) (e : Prefix) (p : Path) → Contains (wanted S e) p → looped_kind S e p.kind ≡ false
-wanted_not_looped S e p c = taken_not_looped S e p (All-contains (IsTaken S e) (wanted S e) p (All-from_recursion (IsTaken S e) (wanted S e) (wanted_taken S e)) c)
+wanted_not_looped S e p c = taken_not_looped S e p (All-contains (IsWanted S e) (wanted S e) p (All-from_recursion (IsWanted S e) (wanted S e) (wanted_taken S e)) c)
 
 pub none_pass : {X : Type 0} (test : X → Bool) (xs : List X) → list_any test xs ≡ false → filter test xs ≡ []
 none_pass test [] h = refl
@@ -114,14 +114,14 @@ has_path_is_entry S e p c =
       | inr isnt ↦ absurd (Contains-nil p (rw (chosen-no_entry S e isnt) at c))
     ]
 
-end_possible : (S : Tables) (e : Prefix) (p : Path) (end : End) → IsTaken S e p → Contains (kind_end S e p.kind) end → IsPossible S end
+end_possible : (S : Tables) (e : Prefix) (p : Path) (end : End) → IsWanted S e p → Contains (kind_end S e p.kind) end → IsPossible S end
 unfolding ends
 end_possible S e p end taken c =
     later_in answers.Drop end (flat_map (entry_ends S) (entries S))
     (Contains-flat_map (entry_ends S) (entries S) e end (has_path_is_entry S e p taken.0)
     (Contains-flat_map (λ q. kind_end S e q.kind) (filter (usable S e) (chosen S e)) p end (usable_in (usable S e) (chosen S e) p taken.0 taken.1) c))
 
-kind_possible : (S : Tables) (e : Prefix) (h : ℕ) (go : Prefix → ℕ → Trip) → ((to : Prefix) (k : ℕ) → IsPossible S (go to k).end) → (p : Path) (kind : PathKind) → p.kind ≡ kind → IsTaken S e p → IsPossible S (take_kind S go e h kind).end
+kind_possible : (S : Tables) (e : Prefix) (h : ℕ) (go : Prefix → ℕ → Trip) → ((to : Prefix) (k : ℕ) → IsPossible S (go to k).end) → (p : Path) (kind : PathKind) → p.kind ≡ kind → IsWanted S e p → IsPossible S (take_kind S go e h kind).end
 kind_possible S e h go rest p kinds.Drop k t = drop_possible S
 kind_possible S e h go rest p kinds.Local k t = end_possible S e p _ t (rw k (first_in _ []))
 kind_possible S e h go rest p (kinds.Attached i) k t = end_possible S e p _ t (rw k (first_in _ []))
@@ -129,14 +129,14 @@ kind_possible S e h go rest p (kinds.Hop a i) k t = end_possible S e p _ t (rw k
 kind_possible S e h go rest p (kinds.Recursive a) k t = rest (host a) (h / 2)
 kind_possible S e h go rest p kinds.Cover k t = rest (cover S e.bits) (h / 2)
 
-path_possible : (S : Tables) (e : Prefix) (h : ℕ) (go : Prefix → ℕ → Trip) → ((to : Prefix) (k : ℕ) → IsPossible S (go to k).end) → (o : Option Path) → IfSome o (IsTaken S e) → IsPossible S (take_path S go e h o).end
+path_possible : (S : Tables) (e : Prefix) (h : ℕ) (go : Prefix → ℕ → Trip) → ((to : Prefix) (k : ℕ) → IsPossible S (go to k).end) → (o : Option Path) → IfSome o (IsWanted S e) → IsPossible S (take_path S go e h o).end
 path_possible S e h go rest None t = drop_possible S
 path_possible S e h go rest (Some p) t = kind_possible S e h go rest p p.kind refl t
 
 follow_possible : (S : Tables) (n : ℕ) (e : Prefix) (h : ℕ) → IsPossible S (follow S n e h).end
 unfolding follow
 follow_possible S zero e h = drop_possible S
-follow_possible S (suc n) e h = path_possible S e h (follow S n) (follow_possible S n) (slice_get (wanted S e) (h % 16)) (each-at (IsTaken S e) (wanted S e) (h % 16) (wanted_taken S e))
+follow_possible S (suc n) e h = path_possible S e h (follow S n) (follow_possible S n) (slice_get (wanted S e) (h % 16)) (each-at (IsWanted S e) (wanted S e) (h % 16) (wanted_taken S e))
 
 -- every answer is a possible end
 pub resolve_possible : (S : Tables) (a h : ℕ) → Contains (ends S) (resolve S a h)

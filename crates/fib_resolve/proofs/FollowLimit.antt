@@ -16,7 +16,7 @@ use Rattle.fib_resolve.specs.declared.types.PathKind.{PathKind}
 use Rattle.fib_resolve.specs.declared.types.PathKind.TheVariants as kinds
 use Rattle.fib_resolve.specs.declared.types.Tables.{Tables}
 use Rattle.fib_resolve.proofs.KeptEdges.{short_way}
-use Rattle.fib_resolve.proofs.Taken.{IsTaken, wanted_taken}
+use Rattle.fib_resolve.proofs.Taken.{IsWanted, wanted_taken}
 
 -- a path on which the answer goes on has an edge that is left
 abbrev pub Leads : Tables → Prefix → PathKind → Type 0
@@ -60,7 +60,7 @@ lead_kind S e p (kinds.Hop a i) k c u = tt
 lead_kind S e p (kinds.Recursive a) k c u = (p, c, rw k ((and_both _ _ u).0), rw k (0, omega arith, refl))
 lead_kind S e p kinds.Cover k c u = (p, c, rw k refl, rw k (0, omega arith, refl))
 
-leads : (S : Tables) (e : Prefix) (p : Path) → IsTaken S e p → Leads S e p.kind
+leads : (S : Tables) (e : Prefix) (p : Path) → IsWanted S e p → Leads S e p.kind
 unfolding usable
 leads S e p taken = lead_kind S e p p.kind refl taken.0 taken.1
 
@@ -69,7 +69,7 @@ unfolding follow
 same_or_way S zero e h = inr (e, refl)
 same_or_way S (suc n) e h =
     by_path S n e h (slice_get (wanted S e) (h % 16))
-    (each-at (λ p. Leads S e p.kind) (wanted S e) (h % 16) (each-weaker (IsTaken S e) (λ p. Leads S e p.kind) (leads S e) (wanted S e) (wanted_taken S e)))
+    (each-at (λ p. Leads S e p.kind) (wanted S e) (h % 16) (each-weaker (IsWanted S e) (λ p. Leads S e p.kind) (leads S e) (wanted S e) (wanted_taken S e)))
     (λ t. same_or_way S n t (h / 2))
 
 one_step : (S : Tables) → IsSound S → (n : ℕ) (e : Prefix) (h : ℕ) → limit S ≤ n → follow S n e h ≡ follow S (suc n) e h

@@ -22,13 +22,13 @@ each-at_places P ps (j ∷ js) h =
     each-append P (option_to_list (slice_get ps j)) (flat_map (λ k. option_to_list (slice_get ps k)) js) (option_each P (slice_get ps j) (each-at P ps j h)) (each-at_places P ps js h)
 
 -- what holds of a path that is wanted
-abbrev pub IsTaken : Tables → Prefix → Path → Type 0
-IsTaken S e p = Contains (chosen S e) p × (usable S e p ≡ true)
+abbrev pub IsWanted : Tables → Prefix → Path → Type 0
+IsWanted S e p = Contains (chosen S e) p × (usable S e p ≡ true)
 
-pub wanted_taken : (S : Tables) (e : Prefix) → AllByRecursion (IsTaken S e) (wanted S e)
+pub wanted_taken : (S : Tables) (e : Prefix) → AllByRecursion (IsWanted S e) (wanted S e)
 unfolding wanted used
 wanted_taken S e =
     let good = filter (usable S e) (chosen S e) in
-    let usables : AllByRecursion (IsTaken S e) good = each-filter (Contains (chosen S e)) (usable S e) (chosen S e) (recursion_from_All (Contains (chosen S e)) (chosen S e) (All-contains_itself (chosen S e))) in
-    let least : AllByRecursion (IsTaken S e) (of_least_preference good) = each-weaker _ (IsTaken S e) (λ x k. k.0) (of_least_preference good) (each-filter (IsTaken S e) _ good usables) in
-    each-at_places (IsTaken S e) (of_least_preference good) (buckets (map (λ p. p.weight) (of_least_preference good))) least
+    let usables : AllByRecursion (IsWanted S e) good = each-filter (Contains (chosen S e)) (usable S e) (chosen S e) (recursion_from_All (Contains (chosen S e)) (chosen S e) (All-contains_itself (chosen S e))) in
+    let least : AllByRecursion (IsWanted S e) (of_least_preference good) = each-weaker _ (IsWanted S e) (λ x k. k.0) (of_least_preference good) (each-filter (IsWanted S e) _ good usables) in
+    each-at_places (IsWanted S e) (of_least_preference good) (buckets (map (λ p. p.weight) (of_least_preference good))) least

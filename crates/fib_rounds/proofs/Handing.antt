@@ -33,12 +33,12 @@ laid_pairs ps at to places i s kept lt is some le me laid =
     ∙ ap (λ t. t ++ numbered next (span ps next to) rest) (sym here.0.list))))
 
 -- what was taken, and then what is left, is the whole
-abbrev pub Taken : Option Pairs → Option Pairs → Pairs → Pairs → Type 0
-Taken before now rest whole = (done : Pairs) × Takes before now done × (done ++ rest ≡ whole)
+abbrev pub HasHanded : Option Pairs → Option Pairs → Pairs → Pairs → Type 0
+HasHanded before now rest whole = (done : Pairs) × Takes before now done × (done ++ rest ≡ whole)
 
 -- the tap took one frame's results more
 pub pairs_more : (before mid now : Option Pairs) (ps : List Packet) (at next to : ℕ) (places : List (Option Kept)) (i : ℕ) (s : Option Kept) (kept : Kept) (whole : Pairs) → i < length places → s ≡ slice_index_or places i s → s ≡ Some kept → at ≤ to → to ≤ length ps → AreLaid ps at to (drop i places)
-    → next ≡ at + min (to - at) 256 → Taken before mid (rest_of ps at to (drop i places)) whole → Takes mid now kept.list → Taken before now (rest_of ps next to (drop (i + 1) places)) whole
+    → next ≡ at + min (to - at) 256 → HasHanded before mid (rest_of ps at to (drop i places)) whole → Takes mid now kept.list → HasHanded before now (rest_of ps next to (drop (i + 1) places)) whole
 pairs_more before mid now ps at next to places i s kept whole lt is some le me laid same w took =
     let rest = rest_of ps next to (drop (i + 1) places) in
     let all : rest_of ps at to (drop i places) ≡ kept.list ++ rest =
@@ -47,14 +47,14 @@ pairs_more before mid now ps at next to places i s kept whole lt is some le me l
 
 -- it failed within a frame
 pub pairs_cut : (before mid now : Option Pairs) (ps : List Packet) (at to : ℕ) (places : List (Option Kept)) (i : ℕ) (s : Option Kept) (kept : Kept) (whole : Pairs) → i < length places → s ≡ slice_index_or places i s → s ≡ Some kept → at ≤ to → to ≤ length ps → AreLaid ps at to (drop i places)
-    → Taken before mid (rest_of ps at to (drop i places)) whole → TakesSome mid now kept.list → TakesSome before now whole
+    → HasHanded before mid (rest_of ps at to (drop i places)) whole → TakesSome mid now kept.list → TakesSome before now whole
 pairs_cut before mid now ps at to places i s kept whole lt is some le me laid w took =
     let rest = rest_of ps (at + min (to - at) 256) to (drop (i + 1) places) in
     Takes-cut before mid now w.0 kept.list rest whole w.1 took (ap (λ t. w.0 ++ t) (sym (laid_pairs ps at to places i s kept lt is some le me laid)) ∙ w.2)
 
 -- no frame is left
 pub pairs_end : (before now : Option Pairs) (ps : List Packet) (at to : ℕ) (places : List (Option Kept)) (i : ℕ) (whole : Pairs) → length places ≤ i → AreLaid ps at to (drop i places)
-    → Taken before now (rest_of ps at to (drop i places)) whole → Takes before now whole
+    → HasHanded before now (rest_of ps at to (drop i places)) whole → Takes before now whole
 pairs_end before now ps at to places i whole le laid w =
     let here : at ≡ to = subst (AreLaid ps at to) (drop_all i places le) laid in
     let none : rest_of ps at to (drop i places) ≡ [] = ap (λ qs. numbered at qs (joined (parts_of (drop i places)))) (ap (λ (k : ℕ). span ps k to) here ∙ span_none ps to) in

@@ -3,13 +3,13 @@ use Rattle.std.proofs.Common.{◌≡◌, ◌+◌, ◌<◌, ◌≤◌, ℕ, Optio
 use Rattle.std.specs.Prelude.{IfSome}
 use Rattle.fib_rounds_turns.specs.declared.progress.Batch.{Batch}
 use Rattle.fib_rounds_turns.specs.Routers.{Progress, begun_in, counted, new_batch, one_refused, with_kept}
-use Rattle.fib_rounds_turns.specs.inner.Kept.{AnyFits, Fits, IsProgress, Taken}
+use Rattle.fib_rounds_turns.specs.inner.Kept.{AnyFits, Fits, IsProgress, FitsLast}
 
-taken_of : (p : Progress) (o : Option Batch) → AnyFits p o → IfSome o (λ b. Taken (counted p) b)
+taken_of : (p : Progress) (o : Option Batch) → AnyFits p o → IfSome o (λ b. FitsLast (counted p) b)
 taken_of p None f = tt
 taken_of p (Some b) f = record { written = f.written; few = omega (arith, f.few); fewer = omega (arith, f.fewer) }
 
-pub taken_next : (p : Progress) → IsProgress p → IfSome p.batch (λ b. Taken (counted p) b)
+pub taken_next : (p : Progress) → IsProgress p → IfSome p.batch (λ b. FitsLast (counted p) b)
 taken_next p k = taken_of p p.batch k.batch
 
 pub counted_kept : (p : Progress) → IsProgress p → IsProgress (counted p)

@@ -6,7 +6,7 @@ ghost use Rattle.fib_print.specs.Lines.{message};
 ghost use Rattle.fib_rounds_turns.specs.Routers.{applied_in, one_refused, router_of, spoiled, with_edit, with_kept};
 ghost use Rattle.fib_rounds_turns.specs.Turns.{line_at, commit_turn, within};
 ghost use Rattle.fib_rounds_turns.specs.inner.Done.{HasTurned};
-ghost use Rattle.fib_rounds_turns.specs.inner.Kept.{Taken};
+ghost use Rattle.fib_rounds_turns.specs.inner.Kept.{FitsLast};
 
 use crate::changes::{Unmade, apply_all, walk_on};
 use crate::means::Means;
@@ -42,7 +42,7 @@ fn commit<R: Wait, G: Gate, B: Board>(
     out: &mut Vec<u8>,
 ) -> Result<(), AllocError>
     requires few { applied_in control.old < progress.old.lines }
-    requires taken { Taken progress.old batch.now }
+    requires taken { FitsLast progress.old batch.now }
     requires alone { progress.old.batch ≡ None }
     ensures did { HasTurned (router_of control.old progress.old)
         (commit_turn progress.old.lines
@@ -75,7 +75,7 @@ fn spoil(
     out: &mut Vec<u8>,
     text: &str,
 ) -> Result<(), AllocError>
-    requires taken { Taken progress.old batch }
+    requires taken { FitsLast progress.old batch }
     requires alone { progress.old.batch ≡ None }
     ensures progress { progress.new ≡ with_kept (one_refused progress.old) (spoiled batch) }
     ensures text { OnOk result (out.new.items ≡ out.old.items ++ message progress.old.lines text.now) }
@@ -90,7 +90,7 @@ fn spoil(
 // Keeps the edit of a line until the batch is committed.
 fn keep(progress: &mut Progress, batch: Batch, edit: Edit) -> Result<(), AllocError>
     requires written { IsWritten edit }
-    requires taken { Taken progress.old batch }
+    requires taken { FitsLast progress.old batch }
     ensures progress { OnOk result (progress.new ≡ with_kept progress.old (with_edit batch progress.old.lines edit)) }
     ensures lines { progress.new.lines ≡ progress.old.lines }
 {
@@ -116,7 +116,7 @@ pub fn within<R: Wait, G: Gate, B: Board>(
 ) -> Result<(), AllocError>
     requires written { IfSome said IsWrittenLine }
     requires few { applied_in control.old < progress.old.lines }
-    requires taken { Taken progress.old batch }
+    requires taken { FitsLast progress.old batch }
     requires alone { progress.old.batch ≡ None }
     ensures did { HasTurned (router_of control.old progress.old)
         (within progress.old.lines

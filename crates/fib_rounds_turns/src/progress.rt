@@ -1,7 +1,7 @@
 // What is kept of a script between two lines.
 ghost use Rattle.std.specs.Prelude.{IfSome, None, Some, ◌+◌, ◌-◌, ◌<◌, ◌^◌, ◌≡◌};
 ghost use Rattle.fib_rounds_turns.specs.Routers.{begun_in, counted, new_batch, new_progress, one_refused, with_kept};
-ghost use Rattle.fib_rounds_turns.specs.inner.Kept.{Fits, Taken};
+ghost use Rattle.fib_rounds_turns.specs.inner.Kept.{Fits, FitsLast};
 
 use fib_resolve::{Edit, List};
 use std::alloc::Global;
@@ -84,7 +84,7 @@ impl Progress {
         requires { self.old.lines < 2 ^ 32 - 1 }
         ensures counted { self.new ≡ counted self.old }
         ensures batch { result ≡ self.old.batch }
-        ensures taken { IfSome result (λ b. Taken self.new b) }
+        ensures taken { IfSome result (λ b. FitsLast self.new b) }
         ensures fewer { self.new.refused < self.new.lines }
     {
         self.lines += 1;

@@ -19,7 +19,7 @@ use Rattle.fib_resolve.specs.declared.types.Path.{Path}
 use Rattle.fib_resolve.specs.declared.types.PathKind.{PathKind}
 use Rattle.fib_resolve.specs.declared.types.PathKind.TheVariants as kinds
 use Rattle.fib_resolve.specs.declared.types.Tables.{Tables}
-use Rattle.fib_resolve.proofs.Taken.{IsTaken}
+use Rattle.fib_resolve.proofs.Taken.{IsWanted}
 use Rattle.fib_core_stands.proofs.Listed.{at_bucket, end_possible, first_in}
 use Rattle.fib_resolve_changes.specs.Wanted.{aim_by}
 use Rattle.fib_stack.proofs.Aiming.{bucket_end}
@@ -37,7 +37,7 @@ drop_possible : (S : Tables) → Contains (ends S) answers.Drop
 unfolding ends
 drop_possible S = first_in answers.Drop (flat_map (entry_ends S) (entries S))
 
-kind_possible : (S : Tables) (e : Prefix) (p : Path) (kind : PathKind) → p.kind ≡ kind → IsTaken S e p → (end : End) → kind_aim S e kind ≡ aims.Ends end → Contains (ends S) end
+kind_possible : (S : Tables) (e : Prefix) (p : Path) (kind : PathKind) → p.kind ≡ kind → IsWanted S e p → (end : End) → kind_aim S e kind ≡ aims.Ends end → Contains (ends S) end
 kind_possible S e p kinds.Drop k t end is = subst (Contains (ends S)) (end_is answers.Drop end is) (drop_possible S)
 kind_possible S e p kinds.Local k t end is = subst (Contains (ends S)) (end_is answers.Receive end is) (end_possible S e p answers.Receive t (rw k (first_in answers.Receive [])))
 kind_possible S e p (kinds.Attached i) k t end is = subst (Contains (ends S)) (end_is (attached_end S e i) end is) (end_possible S e p (attached_end S e i) t (rw k (first_in (attached_end S e i) [])))
@@ -45,7 +45,7 @@ kind_possible S e p (kinds.Hop a i) k t end is = subst (Contains (ends S)) (end_
 kind_possible S e p (kinds.Recursive a) k t end is = absurd (cc)
 kind_possible S e p kinds.Cover k t end is = absurd (cc)
 
-path_possible : (S : Tables) (e : Prefix) (o : Option Path) → IfSome o (IsTaken S e) → (end : End) → path_aim S e o ≡ aims.Ends end → Contains (ends S) end
+path_possible : (S : Tables) (e : Prefix) (o : Option Path) → IfSome o (IsWanted S e) → (end : End) → path_aim S e o ≡ aims.Ends end → Contains (ends S) end
 path_possible S e None t end is = subst (Contains (ends S)) (end_is answers.Drop end is) (drop_possible S)
 path_possible S e (Some p) t end is = kind_possible S e p p.kind refl t end is
 

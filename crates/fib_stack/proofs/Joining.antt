@@ -10,7 +10,7 @@ use Rattle.fib_stack_ledger.specs.declared.ledger.Use.{Use}
 use Rattle.fib_stack_ledger.specs.Ledgers.{record_used}
 use Rattle.fib_ply.specs.Rows.{held}
 use Rattle.fib_ply.specs.Tables.{Table, Stands, watch_of}
-use Rattle.fib_ply.specs.Served.{IsKept}
+use Rattle.fib_ply.specs.Served.{KeepsBeside}
 use Rattle.fib_ply.proofs.Promises.{serves_of}
 use Rattle.fib_ply.proofs.Quiet.{quiet_stands}
 use Rattle.fib_ply.proofs.Rewatching.{rewatch}
@@ -38,7 +38,7 @@ pub may_clear : (p : Promise) (n : Names) (v : View) → p.settled < p.applied �
 may_clear p n v lt s = (inl lt, (n, s))
 
 -- what is kept beside the plies, for names of the table
-pub kept_by : (p q : Promise) (t : Table) (u v : View) (n : Names) → Allows q → q.applied ≡ p.applied → q.versions ≡ p.versions → IsKept (watch_of p t) u → n.balance ≡ held t.rows.members → Serves q n v → IsKept (watch_of q t) v
+pub kept_by : (p q : Promise) (t : Table) (u v : View) (n : Names) → Allows q → q.applied ≡ p.applied → q.versions ≡ p.versions → KeepsBeside (watch_of p t) u → n.balance ≡ held t.rows.members → Serves q n v → KeepsBeside (watch_of q t) v
 kept_by p q t u v n allowed applied versions k names s = record {
   allowed = allowed;
   newest = k.newest;

@@ -16,13 +16,13 @@ use Rattle.fib_stack.specs.Steps.{IsLeast, Removed}
 use Rattle.fib_stack.specs.Turns.{HasRun, IsRestacked}
 
 -- a prefix of the least rank was taken
-abbrev pub IsTaken : Tables → (Prefix → ℕ) → Prefix → State → State → Type 0
-IsTaken S rank e s t = IsLeast rank s e × (((has_entry S e ≡ true) × IsRestacked S e s t) ⊎ ((has_entry S e ≡ false) × Removed e s t))
+abbrev pub HadItsTurn : Tables → (Prefix → ℕ) → Prefix → State → State → Type 0
+HadItsTurn S rank e s t = IsLeast rank s e × (((has_entry S e ≡ true) × IsRestacked S e s t) ⊎ ((has_entry S e ≡ false) × Removed e s t))
 
 -- idle exactly where nothing is queued
 abbrev pub TurnDone : Tables → (Prefix → ℕ) → Turn → State → State → Type 0
 TurnDone S rank turns.Idle s t = (t ≡ s) × ((d : Prefix) → s.queued d ≡ false)
-TurnDone S rank (turns.Restacked e stores dropped) s t = IsTaken S rank e s t
+TurnDone S rank (turns.Restacked e stores dropped) s t = HadItsTurn S rank e s t
 
 -- the turn of an entry has its run of puts, from the plane before it to the plane after it
 abbrev pub RunDone : Tables → Turn → View → View → State → Type 0

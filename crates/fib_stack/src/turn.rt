@@ -9,7 +9,7 @@ ghost use Rattle.fib_entries_rows.specs.Known.{StandsFor, rank_of};
 ghost use Rattle.fib_plane_view.specs.Frames.{IsQuiet};
 ghost use Rattle.fib_plane_view.specs.Stores.{StoresEach};
 ghost use Rattle.fib_ply.specs.Tables.{object_in};
-ghost use Rattle.fib_stack.specs.Done.{IsCounted, IsStored, IsTaken, RunDone, StoresDiffering, TurnDone};
+ghost use Rattle.fib_stack.specs.Done.{IsCounted, IsStored, HadItsTurn, RunDone, StoresDiffering, TurnDone};
 ghost use Rattle.fib_stack.specs.Joined.{Joined};
 ghost use Rattle.fib_stack.specs.Records.{SamePlane};
 ghost use Rattle.fib_stack.specs.Room.{HasRoomLeft, Took};
@@ -149,7 +149,7 @@ fn take<P: Objects>(
     ensures turn { (S : TablesValue) → StandsFor entries.now S → Joined S (rank_of entries.now.rows) (P.promise on.old) (P.view on.old)
         (parts_of table.old stack.old queue.old) → IsLeast (rank_of entries.now.rows)
         (state_at (P.view on.old) table.old stack.old queue.old) entry
-        → OnOk result (IsTaken S (rank_of entries.now.rows) entry (state_at (P.view on.old) table.old stack.old queue.old)
+        → OnOk result (HadItsTurn S (rank_of entries.now.rows) entry (state_at (P.view on.old) table.old stack.old queue.old)
         (state_at (P.view on.new) table.new stack.new queue.new)) }
     ensures joined { (S : TablesValue) → StandsFor entries.now S
         → Joined S (rank_of entries.now.rows) (P.promise on.old) (P.view on.old) (parts_of table.old stack.old queue.old)

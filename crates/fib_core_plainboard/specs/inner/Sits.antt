@@ -70,7 +70,7 @@ Keeps None (Some q) = ⊥
 Keeps (Some r) None = ⊥
 Keeps (Some r) (Some q) = (r.addr ≡ q.addr) × (r.hash ≡ q.hash) × (r.lo ≡ q.lo) × StandsAt q.hash (place q.loads) r.stage
 
-pub record IsKept (objects workers : ℕ) (running : List (Option Running)) (p : Board) : Type 0 where
+pub record HoldsBoard (objects workers : ℕ) (running : List (Option Running)) (p : Board) : Type 0 where
   pub all : p.objects ≡ objects
   pub crew : p.workers ≡ workers
   pub long : length running ≡ 8

@@ -78,7 +78,7 @@ looks_end workers (w ∷ v ∷ ws) n b long some even all =
     looks_end workers (v ∷ ws) (n + 1) (board_scanned n w b) (omega arith) (omega arith) (λ i lt. even (suc i) (omega arith))
     (looks_seen workers n w (omega arith) (even 0 (omega arith)) b.union.retired all)
 
-pub scanned_alone : (p q : Plane) → sound.IsPlane p → plane.IsScanned p q → is_alone p.board ≡ true → (view_of q).retired ≡ []
+pub scanned_alone : (p q : Plane) → sound.IsPlane p → plane.IsPlaneScanned p q → is_alone p.board ≡ true → (view_of q).retired ≡ []
 scanned_alone p q told s alone =
     let each = s.each in
     let some = told.board.limits.some in

@@ -314,7 +314,7 @@ module _ (p : Plane) (told : sound.IsPlane p) (was : IsPlane (view_of p)) (x s :
     promised_down c v (λ y t l. cell_is c y t l) (goes_up q) (versions b.log) n later.paths (later.promised begun),
   )
 
-  pub serves_stored : may.Serves c (Holds p)
+  pub serves_stored : may.HoldsPromise c (Holds p)
   serves_stored begun = (
     n,
     promised_down c v (λ y t l. cell_is c y t l) (goes_up q) (versions b.log) n later.paths (later.promised begun),

@@ -175,7 +175,7 @@ module _ (p : Plane) (told : sound.IsPlane p) (all : AreRecorded p) (q : Plane) 
   nothing : q ≡ p → StoresEach P (view_of p) (view_of q)
   nothing same = stores_none P (view_of p) (view_of q) (λ y t. ap (λ (a : Plane). (view_of a).cell y t) same) (ap (λ (a : Plane). a.board.stored) same)
 
-  pub put_stores : (w : Word) → IsRoomy w → (a : Put) → plane.IsPut p q (16 * x + s) w a → IsPut (view_of p) (view_of q) x s w a → StoresEach P (view_of p) (view_of q)
+  pub put_stores : (w : Word) → IsRoomy w → (a : Put) → plane.IsPlanePut p q (16 * x + s) w a → IsPut (view_of p) (view_of q) x s w a → StoresEach P (view_of p) (view_of q)
   put_stores w fits puts.Same h seen = nothing h.1
   put_stores w fits puts.Stored h seen = one w fits h.0 h.2 seen.answered.1 seen.others
   put_stores w fits puts.Dropped h seen = ⊎_elim
@@ -203,7 +203,7 @@ module _ (p q : Plane) (told : sound.IsPlane p) (after : sound.IsPlane q) (r : A
   abbrev New : ℕ → ℕ → Type 0
   New y t = Is y × (IsLive (view_of p) y → ⊥)
 
-  module _ (taken : pool.IsTaken p.objects q.objects x kinds.Adjacency) (full : q.board ≡ board_filled p.board x r) where
+  module _ (taken : pool.TookObject p.objects q.objects x kinds.Adjacency) (full : q.board ≡ board_filled p.board x r) where
     word_now : (t : ℕ) → t < 16 → (view_of q).cell x t ≡ sound.record_word r t
     word_now t lt = cell_is q.board x t lt ∙ after.records.words x t (record { id = x; content = r; users = users_of p.records x + 1 }) took.takes.taken lt
 

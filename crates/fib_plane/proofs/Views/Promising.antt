@@ -85,7 +85,7 @@ allows_down b (inr q) = inr (q.0, alone_home b q.1)
 -- steady traffic rests on what the control plane holds
 pub serves_down : (p : Plane) (n : Names) → Serves (promise_of p.board) n (view_of p) → (Held : ℕ → Type 0)
     → (0 < p.board.log.version.applied → (e : Prefix) (o : ℕ) → IsLasting (versions p.board.log) e → n.balance e ≡ Some o → (view_of p).is_held o ≡ true → Held o)
-    → may.Serves p.board Held
+    → may.HoldsPromise p.board Held
 serves_down p n s Held held begun =
     let h = s.promised begun in (
       n,

@@ -148,9 +148,9 @@ module _ (p : Plane) (told : sound.IsPlane p) (was : IsPlane (view_of p)) (x s :
           (λ (closes : plane.Closes p.board (16 * x + s) w). may_steadily p told was x s lt here words.Drop tt asked.names asked.before (later_drop (closes_up p x s lt w roomy told closes)))
           either_way;
       serves = λ z stores other. ⊎_elim
-          (λ (q : (z ≡ w) × (plane.Closes p.board (16 * x + s) w → ⊥)). subst (λ (a : Word). may.Serves (board_stored p.board (16 * x + s) a) (Holds p)) (sym q.0)
+          (λ (q : (z ≡ w) × (plane.Closes p.board (16 * x + s) w → ⊥)). subst (λ (a : Word). may.HoldsPromise (board_stored p.board (16 * x + s) a) (Holds p)) (sym q.0)
           (serves_stored p told was x s lt here w roomy asked.names asked.before (later_word (λ e. other (e ∙ sym q.0)) (λ c. q.1 (closes_down p x s lt w roomy c)))))
-          (λ (q : (z ≡ words.Drop) × plane.Closes p.board (16 * x + s) w). subst (λ (a : Word). may.Serves (board_stored p.board (16 * x + s) a) (Holds p)) (sym q.0)
+          (λ (q : (z ≡ words.Drop) × plane.Closes p.board (16 * x + s) w). subst (λ (a : Word). may.HoldsPromise (board_stored p.board (16 * x + s) a) (Holds p)) (sym q.0)
           (serves_stored p told was x s lt here words.Drop tt asked.names asked.before (later_drop (closes_up p x s lt w roomy told q.1))))
           stores;
     }
@@ -274,7 +274,7 @@ module _ (p : Plane) (told : sound.IsPlane p) (was : IsPlane (view_of p)) (x s :
     target_drop y e = absurd (edge_named words.Drop tt y e)
 
     module _ (target : (y : ℕ) → leads w y → IsLive u y) where
-      pub put_seen : (answer : Put) → plane.IsPut p q (16 * x + s) w answer → IsPut u v x s w answer
+      pub put_seen : (answer : Put) → plane.IsPlanePut p q (16 * x + s) w answer → IsPut u v x s w answer
       put_seen puts.Same h = nothing puts.Same h.1 (λ y l ne. absurd (ne refl)) (cell_is p.board x s lt ∙ h.0, cell_is p.board x s lt ∙ h.0)
       put_seen puts.Stored h = stored_seen w roomy (target_down p told w roomy target) h.2 puts.Stored stored_not ((λ e. h.0 (sym (cell_is p.board x s lt) ∙ e)), refl, λ c. h.1 (closes_down p x s lt w roomy c)) (λ d l. refl)
       put_seen puts.Dropped h =
@@ -285,7 +285,7 @@ module _ (p : Plane) (told : sound.IsPlane p) (was : IsPlane (view_of p)) (x s :
           (λ (n : (word_in p.board (16 * x + s) ≢ words.Drop) × plane.IsStored p q (16 * x + s) words.Drop). stored_seen words.Drop tt target_drop n.1 puts.Dropped dropped_not (ne, refl, closes) (λ d l. absurd (drop_leads d l)))
           h.2
 
-      pub put_sound : (answer : Put) → plane.IsPut p q (16 * x + s) w answer → IsPlane v
+      pub put_sound : (answer : Put) → plane.IsPlanePut p q (16 * x + s) w answer → IsPlane v
       put_sound puts.Same h = subst (λ (a : Plane). IsPlane (view_of a)) (sym h.1) was
       put_sound puts.Stored h = stored_sound w roomy (target_down p told w roomy target) h.2 kind
       put_sound puts.Dropped h = ⊎_elim
@@ -293,7 +293,7 @@ module _ (p : Plane) (told : sound.IsPlane p) (was : IsPlane (view_of p)) (x s :
           (λ (n : (word_in p.board (16 * x + s) ≢ words.Drop) × plane.IsStored p q (16 * x + s) words.Drop). stored_sound words.Drop tt target_drop n.1 (flat (closes_up p x s lt w roomy told h.1)))
           h.2
 
-      pub put_recorded : AreRecorded p → (answer : Put) → plane.IsPut p q (16 * x + s) w answer → AreRecorded q
+      pub put_recorded : AreRecorded p → (answer : Put) → plane.IsPlanePut p q (16 * x + s) w answer → AreRecorded q
       put_recorded all puts.Same h = subst AreRecorded (sym h.1) all
       put_recorded all puts.Stored h = recorded_by p q all (stored_adjacencies w roomy (target_down p told w roomy target) h.2) h.2.records
       put_recorded all puts.Dropped h = ⊎_elim
@@ -301,7 +301,7 @@ module _ (p : Plane) (told : sound.IsPlane p) (was : IsPlane (view_of p)) (x s :
           (λ (n : (word_in p.board (16 * x + s) ≢ words.Drop) × plane.IsStored p q (16 * x + s) words.Drop). recorded_by p q all (stored_adjacencies words.Drop tt target_drop n.1) n.1.records)
           h.2
 
-      pub put_promise : (answer : Put) → plane.IsPut p q (16 * x + s) w answer → promise_of q.board ≡ promise_of p.board
+      pub put_promise : (answer : Put) → plane.IsPlanePut p q (16 * x + s) w answer → promise_of q.board ≡ promise_of p.board
       put_promise puts.Same h = ap (λ (a : Plane). promise_of a.board) h.1
       put_promise puts.Stored h = ap promise_of h.2.swept.frame
       put_promise puts.Dropped h = ⊎_elim

@@ -140,7 +140,7 @@ module _ (p q : Plane) (told : sound.IsPlane p) (after : sound.IsPlane q) (r : A
     (let e : free_in q.objects ≡ free_in p.objects = ap free_in objects in let f : q.board.stored ≡ p.board.stored = ap (λ (b : Board). b.stored) board in record { more = omega arith; few = omega arith }),
   )
 
-  module _ (taken : pool.IsTaken p.objects q.objects x kinds.Adjacency) (filled : q.board ≡ board_filled p.board x r) where
+  module _ (taken : pool.TookObject p.objects q.objects x kinds.Adjacency) (filled : q.board ≡ board_filled p.board x r) where
     pub none_here : count_of p.objects x ≡ 0
     none_here = ap count_in taken.free
 

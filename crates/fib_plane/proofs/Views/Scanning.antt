@@ -40,7 +40,7 @@ scans_fewer : (n : ℕ) (ws : List ℕ) (b : Board) (e : Retired) → Contains (
 scans_fewer n [] b e c = c
 scans_fewer n (w ∷ ws) b e c = look_fewer n w b.union.retired e (scans_fewer (n + 1) ws (board_scanned n w b) e c)
 
-module _ (p q : Plane) (told : sound.IsPlane p) (after : sound.IsPlane q) (s : plane.IsScanned p q) where
+module _ (p q : Plane) (told : sound.IsPlane p) (after : sound.IsPlane q) (s : plane.IsPlaneScanned p q) where
   abbrev looked_at : Board
   looked_at = board_scans 0 s.words p.board
 

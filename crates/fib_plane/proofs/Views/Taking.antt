@@ -44,7 +44,7 @@ eqb_not x ne = ne_eqb x 0 ne
 
 -- a free object is taken
 module _ (p q : Plane) (kind : Kind) (c : ℕ) (other : kind ≡ kinds.Adjacency → ⊥) (told : sound.IsPlane p) (after : sound.IsPlane q) (board : q.board ≡ p.board) (records : q.records ≡ p.records) (spare : q.spare ≡ p.spare)
-    (taken : pool.IsTaken p.objects q.objects c kind) (free : free_in q.objects + 1 ≡ free_in p.objects) (plies : HasNoPly q.board c) where
+    (taken : pool.TookObject p.objects q.objects c kind) (free : free_in q.objects + 1 ≡ free_in p.objects) (plies : HasNoPly q.board c) where
   abbrev u : View
   u = view_of p
 
@@ -239,23 +239,23 @@ unrecorded p told c held = by_kept (kept_of p.records c) refl
 
 -- the same of what a take answers
 module _ (p q : Plane) (kind : Kind) (r : Option ℕ) (other : kind ≡ kinds.Adjacency → ⊥) (told : sound.IsPlane p) (after : sound.IsPlane q) (board : q.board ≡ p.board) (records : q.records ≡ p.records) (spare : q.spare ≡ p.spare) where
-  pub take_seen : IfSome r (λ c. pool.IsTaken p.objects q.objects c kind) → IfSome r (λ c. free_in q.objects + 1 ≡ free_in p.objects) → IfSome r (λ c. HasNoPly q.board c) → IfSome r (λ c. IsTaken (view_of p) (view_of q) kind c)
+  pub take_seen : IfSome r (λ c. pool.TookObject p.objects q.objects c kind) → IfSome r (λ c. free_in q.objects + 1 ≡ free_in p.objects) → IfSome r (λ c. HasNoPly q.board c) → IfSome r (λ c. IsTaken (view_of p) (view_of q) kind c)
   take_seen taken free plies = by_answer r taken free plies
     where
-      by_answer : (o : Option ℕ) → IfSome o (λ c. pool.IsTaken p.objects q.objects c kind) → IfSome o (λ c. free_in q.objects + 1 ≡ free_in p.objects) → IfSome o (λ c. HasNoPly q.board c) → IfSome o (λ c. IsTaken (view_of p) (view_of q) kind c)
+      by_answer : (o : Option ℕ) → IfSome o (λ c. pool.TookObject p.objects q.objects c kind) → IfSome o (λ c. free_in q.objects + 1 ≡ free_in p.objects) → IfSome o (λ c. HasNoPly q.board c) → IfSome o (λ c. IsTaken (view_of p) (view_of q) kind c)
       by_answer None t f n = tt
       by_answer (Some c) t f n = taken_seen p q kind c other told after board records spare t f n
 
-  pub take_recorded : IfSome r (λ c. pool.IsTaken p.objects q.objects c kind) → IfSome r (λ c. free_in q.objects + 1 ≡ free_in p.objects) → IfSome r (λ c. HasNoPly q.board c) → IfNone r (q ≡ p) → AreRecorded p → AreRecorded q
+  pub take_recorded : IfSome r (λ c. pool.TookObject p.objects q.objects c kind) → IfSome r (λ c. free_in q.objects + 1 ≡ free_in p.objects) → IfSome r (λ c. HasNoPly q.board c) → IfNone r (q ≡ p) → AreRecorded p → AreRecorded q
   take_recorded taken free plies same all = by_answer r taken free plies same
     where
-      by_answer : (o : Option ℕ) → IfSome o (λ c. pool.IsTaken p.objects q.objects c kind) → IfSome o (λ c. free_in q.objects + 1 ≡ free_in p.objects) → IfSome o (λ c. HasNoPly q.board c) → IfNone o (q ≡ p) → AreRecorded q
+      by_answer : (o : Option ℕ) → IfSome o (λ c. pool.TookObject p.objects q.objects c kind) → IfSome o (λ c. free_in q.objects + 1 ≡ free_in p.objects) → IfSome o (λ c. HasNoPly q.board c) → IfNone o (q ≡ p) → AreRecorded q
       by_answer None t f n e = subst AreRecorded (sym e) all
       by_answer (Some c) t f n e = taken_recorded p q kind c other told after board records spare t f n all
 
-  pub take_sound : IfSome r (λ c. pool.IsTaken p.objects q.objects c kind) → IfSome r (λ c. free_in q.objects + 1 ≡ free_in p.objects) → IfSome r (λ c. HasNoPly q.board c) → IfNone r (q ≡ p) → IsPlane (view_of p) → IsPlane (view_of q)
+  pub take_sound : IfSome r (λ c. pool.TookObject p.objects q.objects c kind) → IfSome r (λ c. free_in q.objects + 1 ≡ free_in p.objects) → IfSome r (λ c. HasNoPly q.board c) → IfNone r (q ≡ p) → IsPlane (view_of p) → IsPlane (view_of q)
   take_sound taken free plies same was = by_answer r taken free plies same
     where
-      by_answer : (o : Option ℕ) → IfSome o (λ c. pool.IsTaken p.objects q.objects c kind) → IfSome o (λ c. free_in q.objects + 1 ≡ free_in p.objects) → IfSome o (λ c. HasNoPly q.board c) → IfNone o (q ≡ p) → IsPlane (view_of q)
+      by_answer : (o : Option ℕ) → IfSome o (λ c. pool.TookObject p.objects q.objects c kind) → IfSome o (λ c. free_in q.objects + 1 ≡ free_in p.objects) → IfSome o (λ c. HasNoPly q.board c) → IfNone o (q ≡ p) → IsPlane (view_of q)
       by_answer None t f n e = subst (λ (x : Plane). IsPlane (view_of x)) (sym e) was
       by_answer (Some c) t f n e = taken_sound p q kind c other told after board records spare t f n was

@@ -9,7 +9,7 @@ use Rattle.fib_pool.specs.declared.object.Object.{Object}
 use Rattle.fib_pool.specs.declared.object.AdjacencyRecord.{AdjacencyRecord}
 use Rattle.fib_pool.specs.Objects.{at, count_of, IsLive, IsDying}
 use Rattle.fib_core_board.specs.Boards.{Board, union_of, word_in}
-use Rattle.fib_core_board.specs.May.{Allows, Serves}
+use Rattle.fib_core_board.specs.May.{Allows, HoldsPromise}
 use Rattle.fib_plane.specs.Planes.{IsHeld}
 use Rattle.fib_plane.specs.Sound.{IsCounted, AreRecords}
 
@@ -71,4 +71,4 @@ pub record IsIdle (b : Board) (u : edges.Kept) (objects : List (Option Object)) 
   pub other : x ≢ 0
   pub alone : into (union_of b) x ≡ 0
   pub allowed : Allows b
-  pub serves : Serves b (HoldsBut b objects x)
+  pub serves : HoldsPromise b (HoldsBut b objects x)

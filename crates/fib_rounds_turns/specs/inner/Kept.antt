@@ -12,7 +12,7 @@ pub record Fits (p : Progress) (b : Batch) : Type 0 where
   pub fewer : p.refused < p.lines
 
 -- the same of a batch in which the line stands that was counted last: it may have one edit more, or be refused
-pub record Taken (p : Progress) (b : Batch) : Type 0 where
+pub record FitsLast (p : Progress) (b : Batch) : Type 0 where
   pub written : AllByRecursion IsWritten b.edits
   pub few : length b.edits + 1 < p.lines
   pub fewer : p.refused + 1 < p.lines

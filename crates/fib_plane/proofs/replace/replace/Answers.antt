@@ -5,7 +5,7 @@ use Rattle.fib_pool.specs.declared.object.Object.{Object}
 use Rattle.fib_pool.specs.Objects.{IsLive}
 use Rattle.fib_core_board.specs.Boards.{Board, edge_of, board_stored, union_of}
 use Rattle.fib_plane.specs.Planes.{IsHeld, uncounted, counted_more}
-use Rattle.fib_core_board.specs.May.{Serves}
+use Rattle.fib_core_board.specs.May.{HoldsPromise}
 use Rattle.fib_plane.specs.inner.Joined.{AreDying}
 use Rattle.fib_core_board.proofs.Serving.{serves_held}
 use Rattle.fib_plane.proofs.Storing.{count_small, left_live, stored_joined, more_dying, stored_acyclic, swept_acyclic, owner_is, hold_stored}
@@ -69,7 +69,7 @@ sweep-requires-clause-serves g c =
     let ys : List (Option Object) = uncounted (left_at_once (union_of b) k) (counted_more (edge_of c.args.word) xs) in
     let m : Board = board_stored b k c.args.word in
     let after = serves_held m (IsHeld b xs) (IsHeld m ys) (hold_stored b u xs c.requires.joined k c.args.word here source c.requires.target) c.requires.serves in
-    subst (λ (l : List (Option Object)). Serves n (IsHeld n l)) (sym pool) (subst (λ (q : Board). Serves q (IsHeld q ys)) (sym c.store.ensures) after)
+    subst (λ (l : List (Option Object)). HoldsPromise n (IsHeld n l)) (sym pool) (subst (λ (q : Board). HoldsPromise q (IsHeld q ys)) (sym c.store.ensures) after)
 
 pub returns-clause-spared : goal.returns-clause-spared
 returns-clause-spared g c = λ none.

@@ -10,7 +10,7 @@ use Rattle.fib_plane.specs.Planes.{IsHeld, leads_from, uncounted}
 use Rattle.fib_core_board.specs.Boards.{Board, board_stored}
 use Rattle.fib_plane.proofs.Clearing.{not_root, no_edge}
 use Rattle.fib_plane.proofs.Holding.{held_stays, dying_not_held}
-use Rattle.fib_core_board.specs.May.{Serves}
+use Rattle.fib_core_board.specs.May.{HoldsPromise}
 use Rattle.fib_core_board.proofs.Serving.{serves_clear, serves_cleared, serves_held}
 use Rattle.fib_plane.proofs.sweep.clear_cell.Goals as goal
 
@@ -78,4 +78,4 @@ returns-clause-serves g c =
     let swept = returns-clause-swept g c in
     let n = c.store.new.self in
     let stored = serves_cleared b (IsHeld b xs) k (not_root b u xs c.requires.joined c.args.cell.object c.args.cell.slot c.requires.slot d) (no_edge b u xs c.requires.joined c.args.cell.object c.args.cell.slot c.requires.slot d) (dying_not_held b xs c.args.cell.object c.args.cell.slot c.requires.slot d) c.requires.serves in
-    serves_held n (IsHeld b xs) (IsHeld n c.drop_edge.new.pool) (held_stays b n xs c.drop_edge.new.pool swept) (subst (λ (q : Board). Serves q (IsHeld b xs)) (sym c.store.ensures) stored)
+    serves_held n (IsHeld b xs) (IsHeld n c.drop_edge.new.pool) (held_stays b n xs c.drop_edge.new.pool swept) (subst (λ (q : Board). HoldsPromise q (IsHeld b xs)) (sym c.store.ensures) stored)

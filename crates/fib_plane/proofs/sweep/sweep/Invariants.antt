@@ -1,6 +1,6 @@
 use Rattle.std.proofs.Common.{◌≤◌, ◌-◌, length, vec_capacity}
 use Rattle.fib_pool.specs.Objects.{free_in}
-use Rattle.fib_core_board.specs.May.{Serves, Allows}
+use Rattle.fib_core_board.specs.May.{HoldsPromise, Allows}
 use Rattle.fib_plane.specs.Planes.{IsHeld, IsSwept}
 use Rattle.fib_plane.specs.inner.Joined.{IsJoined, AreDying}
 use Rattle.fib_plane.proofs.sweep.sweep.Given as goal
@@ -12,7 +12,7 @@ invariant-loop-object g l = record {
   allowed : Allows l.board;
   room : length l.pool ≤ vec_capacity l.dying;
   swept : IsSwept l.fn.board l.board l.fn.pool l.pool;
-  serves : Serves l.board (IsHeld l.board l.pool);
+  serves : HoldsPromise l.board (IsHeld l.board l.pool);
   spare : l.fn.union.spare ≤ l.union.spare;
   kept : vec_capacity l.fn.dying ≤ vec_capacity l.dying;
 }

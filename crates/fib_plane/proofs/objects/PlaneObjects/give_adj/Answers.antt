@@ -4,7 +4,7 @@ use Rattle.std.proofs.lemmas.Bool.{false≢true}
 use Rattle.fib_base_interned.specs.Interned.{kept_of, users_of}
 use Rattle.fib_pool.specs.declared.object.Object.{Object}
 use Rattle.fib_pool.specs.Objects.{IsLive}
-use Rattle.fib_core_board.specs.May.{Allows, Serves}
+use Rattle.fib_core_board.specs.May.{Allows, HoldsPromise}
 use Rattle.fib_plane.specs.Planes.{Plane, IsHeld, IsSwept}
 use Rattle.fib_plane.specs.Records.{GaveRecord, given_objects}
 use Rattle.fib_plane.specs.Sound.{IsPlane}
@@ -209,9 +209,9 @@ sweep-requires-clause-serves g c =
     let there : IsSome (kept_of rows o) = subst (λ (v : Plane). IsSome (kept_of v.records o)) (sym is) (ap is_some (record_down p.records told.interned m o e).1) in
     let one : users_of rows o ≡ 1 = c.if-not-give_adj.ensures.last.0 refl in
     let may = c.requires.promise in
-    let asked : Serves p.board (IsHeld p.board (given_objects p o)) = serves_down p may.1.0 may.1.1 (IsHeld p.board (given_objects p o)) (λ begun x y lasting at held. held_given p told m o e y held) in
-    let before : Serves b (IsHeld b (given_objects (plane_of b u xs rows) o)) = subst (λ (v : Plane). Serves v.board (IsHeld v.board (given_objects v o))) (sym is) asked in
-    subst (λ (l : List (Option Object)). Serves b (IsHeld b l)) (given_released (plane_of b u xs rows) o one ∙ sym c.drop_edge.ensures.pool) before
+    let asked : HoldsPromise p.board (IsHeld p.board (given_objects p o)) = serves_down p may.1.0 may.1.1 (IsHeld p.board (given_objects p o)) (λ begun x y lasting at held. held_given p told m o e y held) in
+    let before : HoldsPromise b (IsHeld b (given_objects (plane_of b u xs rows) o)) = subst (λ (v : Plane). HoldsPromise v.board (IsHeld v.board (given_objects v o))) (sym is) asked in
+    subst (λ (l : List (Option Object)). HoldsPromise b (IsHeld b l)) (given_released (plane_of b u xs rows) o one ∙ sym c.drop_edge.ensures.pool) before
 
 pub invariant_of-self-2 : goal.invariant_of-self-2
 invariant_of-self-2 g c =

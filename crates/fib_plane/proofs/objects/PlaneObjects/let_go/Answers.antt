@@ -2,7 +2,7 @@ use Rattle.std.proofs.Common.{arith, ◌≡◌, ◌≤◌, ◌∙◌, List, ℕ,
 use Rattle.fib_base_interned.specs.Interned.{kept_of}
 use Rattle.fib_pool.specs.declared.object.Object.{Object}
 use Rattle.fib_pool.specs.Objects.{IsLive}
-use Rattle.fib_core_board.specs.May.{Allows, Serves}
+use Rattle.fib_core_board.specs.May.{Allows, HoldsPromise}
 use Rattle.fib_plane.specs.Planes.{Plane, IsHeld, IsSwept, released}
 use Rattle.fib_plane.specs.Sound.{AreRecords, IsPlane}
 use Rattle.fib_plane.specs.Views.{Whole, plane_of, promise_of}
@@ -78,7 +78,7 @@ sweep-requires-clause-serves g c =
     let told : IsPlane p = told_of p b u xs rows ds size is c.self.invariant c.tells.ensures c.count.ensures.interned in
     let may = c.requires.promise in
     let asked = serves_down p may.1.0 may.1.1 (IsHeld p.board (released p o)) (λ begun e x lasting at held. held_released p o c.requires.held x (λ same. may.1.2 begun e lasting (at ∙ ap (λ (i : ℕ). Some i) same)) held) in
-    subst (λ (l : List (Option Object)). Serves b (IsHeld b l)) (sym c.drop_edge.ensures.pool) (subst (λ (v : Plane). Serves v.board (IsHeld v.board (released v o))) (sym is) asked)
+    subst (λ (l : List (Option Object)). HoldsPromise b (IsHeld b l)) (sym c.drop_edge.ensures.pool) (subst (λ (v : Plane). HoldsPromise v.board (IsHeld v.board (released v o))) (sym is) asked)
 
 pub invariant_of-self : goal.invariant_of-self
 invariant_of-self g c =

@@ -6,7 +6,7 @@ use Rattle.fib_core_board.specs.Boards.{edge_of, word_in}
 use Rattle.fib_plane_view.specs.declared.put.Put.TheVariants as puts
 use Rattle.fib_plane_view.specs.View.{HasKind}
 use Rattle.fib_plane.specs.Planes.{Plane, leads_from}
-use Rattle.fib_plane.specs.Puts.{IsPut, MayPut}
+use Rattle.fib_plane.specs.Puts.{IsPlanePut, MayPut}
 use Rattle.fib_plane.specs.Sound.{IsPlane}
 use Rattle.fib_plane.specs.Views.{Whole, plane_of, view_of}
 use Rattle.fib_plane.proofs.Resting.{change_rest, few_copies, may_rows, put_rows, told_of}
@@ -121,7 +121,7 @@ invariant_of-self-inside g c =
     c.self.invariant c.requires.slot source target apart other e.put e.joined e.acyclic e.none e.empty e.roomy in
     let q : Plane = plane_of n.board n.union n.pool rows in
     let after : IsPlane q = told_of q n.board n.union n.pool rows n.dying.items (vec_capacity n.dying) refl rest e.told c.count.ensures.interned in
-    let put = subst (λ (v : Plane). IsPut v q k c.args.word c.change.result) is (put_rows b n.board u n.union xs n.pool rows k c.args.word c.change.result e.put) in (
+    let put = subst (λ (v : Plane). IsPlanePut v q k c.args.word c.change.result) is (put_rows b n.board u n.union xs n.pool rows k c.args.word c.change.result e.put) in (
       put_sound p told c.args.self.now.sound c.args.object c.args.slot c.requires.slot c.requires.standing c.args.word c.has_room.ensures c.requires.kind c.requires.calm
           q after (few_copies p b u xs rows is c.self.invariant.joined) c.requires.target c.change.result put,
       (
@@ -151,7 +151,7 @@ returns-clause-put g c =
     c.self.invariant c.requires.slot source target apart other e.put e.joined e.acyclic e.none e.empty e.roomy in
     let q : Plane = plane_of n.board n.union n.pool rows in
     let after : IsPlane q = told_of q n.board n.union n.pool rows n.dying.items (vec_capacity n.dying) refl rest e.told c.count.ensures.interned in
-    let put = subst (λ (v : Plane). IsPut v q k c.args.word c.change.result) is (put_rows b n.board u n.union xs n.pool rows k c.args.word c.change.result e.put) in
+    let put = subst (λ (v : Plane). IsPlanePut v q k c.args.word c.change.result) is (put_rows b n.board u n.union xs n.pool rows k c.args.word c.change.result e.put) in
     put_seen p told c.args.self.now.sound c.args.object c.args.slot c.requires.slot c.requires.standing c.args.word c.has_room.ensures c.requires.kind c.requires.calm
     q after (few_copies p b u xs rows is c.self.invariant.joined) c.requires.target c.change.result put
 
@@ -175,7 +175,7 @@ returns-clause-promise g c =
     c.self.invariant c.requires.slot source target apart other e.put e.joined e.acyclic e.none e.empty e.roomy in
     let q : Plane = plane_of n.board n.union n.pool rows in
     let after : IsPlane q = told_of q n.board n.union n.pool rows n.dying.items (vec_capacity n.dying) refl rest e.told c.count.ensures.interned in
-    let put = subst (λ (v : Plane). IsPut v q k c.args.word c.change.result) is (put_rows b n.board u n.union xs n.pool rows k c.args.word c.change.result e.put) in
+    let put = subst (λ (v : Plane). IsPlanePut v q k c.args.word c.change.result) is (put_rows b n.board u n.union xs n.pool rows k c.args.word c.change.result e.put) in
     put_promise p told c.args.self.now.sound c.args.object c.args.slot c.requires.slot c.requires.standing c.args.word c.has_room.ensures c.requires.kind c.requires.calm
     q after (few_copies p b u xs rows is c.self.invariant.joined) c.requires.target c.change.result put
 
@@ -199,7 +199,7 @@ returns-clause-plane g c =
     c.self.invariant c.requires.slot source target apart other e.put e.joined e.acyclic e.none e.empty e.roomy in
     let q : Plane = plane_of n.board n.union n.pool rows in
     let after : IsPlane q = told_of q n.board n.union n.pool rows n.dying.items (vec_capacity n.dying) refl rest e.told c.count.ensures.interned in
-    let put = subst (λ (v : Plane). IsPut v q k c.args.word c.change.result) is (put_rows b n.board u n.union xs n.pool rows k c.args.word c.change.result e.put) in
+    let put = subst (λ (v : Plane). IsPlanePut v q k c.args.word c.change.result) is (put_rows b n.board u n.union xs n.pool rows k c.args.word c.change.result e.put) in
     put
 
 pub returns-then-same-clause-stores : goal.returns-then-same-clause-stores
@@ -234,5 +234,5 @@ returns-clause-stores g c =
     c.self.invariant c.requires.slot source target apart other e.put e.joined e.acyclic e.none e.empty e.roomy in
     let q : Plane = plane_of n.board n.union n.pool rows in
     let after : IsPlane q = told_of q n.board n.union n.pool rows n.dying.items (vec_capacity n.dying) refl rest e.told c.count.ensures.interned in
-    let put = subst (λ (v : Plane). IsPut v q k c.args.word c.change.result) is (put_rows b n.board u n.union xs n.pool rows k c.args.word c.change.result e.put) in
+    let put = subst (λ (v : Plane). IsPlanePut v q k c.args.word c.change.result) is (put_rows b n.board u n.union xs n.pool rows k c.args.word c.change.result e.put) in
     put_stores p told c.args.self.now.recorded q after c.args.object c.args.slot c.requires.slot (in_cells p told c.args.object c.requires.standing c.args.slot c.requires.slot) c.args.word c.has_room.ensures c.change.result put (returns-clause-put g c)

@@ -2,9 +2,9 @@ use Rattle.std.proofs.Common.{arith, ◌≡◌, ◌≤◌, ◌∙◌, [], refl, 
 use Rattle.fib_reach.specs.Walks.{IsAcyclic}
 use Rattle.fib_union.specs.Unions.{Edge}
 use Rattle.fib_core_board.specs.Boards.{Board, union_of}
-use Rattle.fib_core_board.specs.May.{Allows, Serves}
+use Rattle.fib_core_board.specs.May.{Allows, HoldsPromise}
 use Rattle.fib_core_board.proofs.Serving.{serves_held}
-use Rattle.fib_plane.specs.Planes.{Plane, Holds, IsHeld, IsScanned, IsSwept, IsUncounted}
+use Rattle.fib_plane.specs.Planes.{Plane, Holds, IsHeld, IsPlaneScanned, IsSwept, IsUncounted}
 use Rattle.fib_plane.specs.Sound.{IsPlane}
 use Rattle.fib_plane.specs.Views.{Whole, plane_of}
 use Rattle.fib_plane.proofs.Resting.{swept_plane, told_of}
@@ -34,7 +34,7 @@ returns-then-retired-eq0-clause-plane g c =
     let told : IsPlane p = told_of p b u xs rows ds size is c.self.invariant c.tells.ensures c.count.ensures.interned in
     let copies = copies_are b u c.self.invariant.joined.same in
     let none : b.union.retired ≡ [] = no_copies b.union.retired c.retired.result c.if-retired-eq0.true (c.retired.ensures ∙ copies) in
-    let scanned : IsScanned p p = subst (λ (v : Plane). IsScanned v v) is (scanned_nothing _ none) in
+    let scanned : IsPlaneScanned p p = subst (λ (v : Plane). IsPlaneScanned v v) is (scanned_nothing _ none) in
     let empty : p.board.union.retired ≡ [] = subst (λ (v : Plane). v.board.union.retired ≡ []) is none in
     scanned
 
@@ -51,7 +51,7 @@ returns-then-retired-eq0-clause-alone g c =
     let told : IsPlane p = told_of p b u xs rows ds size is c.self.invariant c.tells.ensures c.count.ensures.interned in
     let copies = copies_are b u c.self.invariant.joined.same in
     let none : b.union.retired ≡ [] = no_copies b.union.retired c.retired.result c.if-retired-eq0.true (c.retired.ensures ∙ copies) in
-    let scanned : IsScanned p p = subst (λ (v : Plane). IsScanned v v) is (scanned_nothing _ none) in
+    let scanned : IsPlaneScanned p p = subst (λ (v : Plane). IsPlaneScanned v v) is (scanned_nothing _ none) in
     let empty : p.board.union.retired ≡ [] = subst (λ (v : Plane). v.board.union.retired ≡ []) is none in
     scanned_alone p p told scanned
 
@@ -68,7 +68,7 @@ returns-then-retired-eq0-clause-scanned g c =
     let told : IsPlane p = told_of p b u xs rows ds size is c.self.invariant c.tells.ensures c.count.ensures.interned in
     let copies = copies_are b u c.self.invariant.joined.same in
     let none : b.union.retired ≡ [] = no_copies b.union.retired c.retired.result c.if-retired-eq0.true (c.retired.ensures ∙ copies) in
-    let scanned : IsScanned p p = subst (λ (v : Plane). IsScanned v v) is (scanned_nothing _ none) in
+    let scanned : IsPlaneScanned p p = subst (λ (v : Plane). IsPlaneScanned v v) is (scanned_nothing _ none) in
     let empty : p.board.union.retired ≡ [] = subst (λ (v : Plane). v.board.union.retired ≡ []) is none in
     scanned_seen p p told told scanned 0 (sym (ap length empty))
 
@@ -103,9 +103,9 @@ sweep-requires-clause-serves g c =
     let ys = c.drop_left.new.pool in
     let s = c.look_all.ensures.scanned in
     let may = c.requires in
-    let asked : Serves p.board (Holds p) = serves_down p may.1.0 may.1.1 (Holds p) (λ begun e x lasting at held. (held_down p.board p.objects x held).1) in
-    let before : Serves b (IsHeld b xs) = subst (λ (v : Plane). Serves v.board (Holds v)) (sym is) asked in
-    let looked : Serves m (IsHeld b xs) = subst (λ (q : Board). Serves q (IsHeld b xs)) (sym s.2) (scans_serve (IsHeld b xs) 0 s.0 b before) in
+    let asked : HoldsPromise p.board (Holds p) = serves_down p may.1.0 may.1.1 (Holds p) (λ begun e x lasting at held. (held_down p.board p.objects x held).1) in
+    let before : HoldsPromise b (IsHeld b xs) = subst (λ (v : Plane). HoldsPromise v.board (Holds v)) (sym is) asked in
+    let looked : HoldsPromise m (IsHeld b xs) = subst (λ (q : Board). HoldsPromise q (IsHeld b xs)) (sym s.2) (scans_serve (IsHeld b xs) 0 s.0 b before) in
     serves_held m (IsHeld b xs) (IsHeld m ys) (hold_scanned b m u.left c.look_all.new.union.left xs ys c.self.invariant.joined.left c.look_all.ensures.counts c.drop_left.ensures.dropped) looked
 
 pub invariant_of-self : goal.invariant_of-self
@@ -154,7 +154,7 @@ invariant_of-self-inside g c =
     let rest = swept_plane m new.board new.union ys new.pool rows new.dying.items (vec_capacity new.dying) c.sweep.ensures.swept calm c.sweep.ensures.joined c.sweep.ensures.dying c.sweep.ensures.empty room records in
     let q : Plane = plane_of new.board new.union new.pool rows in
     let after : IsPlane q = told_of q new.board new.union new.pool rows new.dying.items (vec_capacity new.dying) refl rest c.sweep.ensures.told c.count.ensures.interned in
-    let here : IsScanned (plane_of b u xs rows) q = record {
+    let here : IsPlaneScanned (plane_of b u xs rows) q = record {
       words = s.0;
       each = s.1;
       rests = s.3;
@@ -165,7 +165,7 @@ invariant_of-self-inside g c =
       records = refl;
       spare = omega (arith, c.look_all.ensures.spare, c.drop_left.ensures.spare, c.sweep.ensures.spare);
     } in
-    let scanned : IsScanned p q = subst (λ (v : Plane). IsScanned v q) is here in
+    let scanned : IsPlaneScanned p q = subst (λ (v : Plane). IsPlaneScanned v q) is here in
     (scanned_sound p q told after scanned c.args.self.now.sound, (scanned_recorded p q told after scanned c.args.self.now.recorded, tt))
 
 pub returns-clause-plane : goal.returns-clause-plane
@@ -191,7 +191,7 @@ returns-clause-plane g c =
     let rest = swept_plane m new.board new.union ys new.pool rows new.dying.items (vec_capacity new.dying) c.sweep.ensures.swept calm c.sweep.ensures.joined c.sweep.ensures.dying c.sweep.ensures.empty room records in
     let q : Plane = plane_of new.board new.union new.pool rows in
     let after : IsPlane q = told_of q new.board new.union new.pool rows new.dying.items (vec_capacity new.dying) refl rest c.sweep.ensures.told c.count.ensures.interned in
-    let here : IsScanned (plane_of b u xs rows) q = record {
+    let here : IsPlaneScanned (plane_of b u xs rows) q = record {
       words = s.0;
       each = s.1;
       rests = s.3;
@@ -202,7 +202,7 @@ returns-clause-plane g c =
       records = refl;
       spare = omega (arith, c.look_all.ensures.spare, c.drop_left.ensures.spare, c.sweep.ensures.spare);
     } in
-    let scanned : IsScanned p q = subst (λ (v : Plane). IsScanned v q) is here in
+    let scanned : IsPlaneScanned p q = subst (λ (v : Plane). IsPlaneScanned v q) is here in
     scanned
 
 pub returns-clause-alone : goal.returns-clause-alone
@@ -228,7 +228,7 @@ returns-clause-alone g c =
     let rest = swept_plane m new.board new.union ys new.pool rows new.dying.items (vec_capacity new.dying) c.sweep.ensures.swept calm c.sweep.ensures.joined c.sweep.ensures.dying c.sweep.ensures.empty room records in
     let q : Plane = plane_of new.board new.union new.pool rows in
     let after : IsPlane q = told_of q new.board new.union new.pool rows new.dying.items (vec_capacity new.dying) refl rest c.sweep.ensures.told c.count.ensures.interned in
-    let here : IsScanned (plane_of b u xs rows) q = record {
+    let here : IsPlaneScanned (plane_of b u xs rows) q = record {
       words = s.0;
       each = s.1;
       rests = s.3;
@@ -239,7 +239,7 @@ returns-clause-alone g c =
       records = refl;
       spare = omega (arith, c.look_all.ensures.spare, c.drop_left.ensures.spare, c.sweep.ensures.spare);
     } in
-    let scanned : IsScanned p q = subst (λ (v : Plane). IsScanned v q) is here in
+    let scanned : IsPlaneScanned p q = subst (λ (v : Plane). IsPlaneScanned v q) is here in
     scanned_alone p q told scanned
 
 pub returns-clause-promise : goal.returns-clause-promise
@@ -265,7 +265,7 @@ returns-clause-promise g c =
     let rest = swept_plane m new.board new.union ys new.pool rows new.dying.items (vec_capacity new.dying) c.sweep.ensures.swept calm c.sweep.ensures.joined c.sweep.ensures.dying c.sweep.ensures.empty room records in
     let q : Plane = plane_of new.board new.union new.pool rows in
     let after : IsPlane q = told_of q new.board new.union new.pool rows new.dying.items (vec_capacity new.dying) refl rest c.sweep.ensures.told c.count.ensures.interned in
-    let here : IsScanned (plane_of b u xs rows) q = record {
+    let here : IsPlaneScanned (plane_of b u xs rows) q = record {
       words = s.0;
       each = s.1;
       rests = s.3;
@@ -276,7 +276,7 @@ returns-clause-promise g c =
       records = refl;
       spare = omega (arith, c.look_all.ensures.spare, c.drop_left.ensures.spare, c.sweep.ensures.spare);
     } in
-    let scanned : IsScanned p q = subst (λ (v : Plane). IsScanned v q) is here in
+    let scanned : IsPlaneScanned p q = subst (λ (v : Plane). IsPlaneScanned v q) is here in
     scanned_promise p q told after scanned
 
 pub returns-clause-scanned : goal.returns-clause-scanned
@@ -302,7 +302,7 @@ returns-clause-scanned g c =
     let rest = swept_plane m new.board new.union ys new.pool rows new.dying.items (vec_capacity new.dying) c.sweep.ensures.swept calm c.sweep.ensures.joined c.sweep.ensures.dying c.sweep.ensures.empty room records in
     let q : Plane = plane_of new.board new.union new.pool rows in
     let after : IsPlane q = told_of q new.board new.union new.pool rows new.dying.items (vec_capacity new.dying) refl rest c.sweep.ensures.told c.count.ensures.interned in
-    let here : IsScanned (plane_of b u xs rows) q = record {
+    let here : IsPlaneScanned (plane_of b u xs rows) q = record {
       words = s.0;
       each = s.1;
       rests = s.3;
@@ -313,7 +313,7 @@ returns-clause-scanned g c =
       records = refl;
       spare = omega (arith, c.look_all.ensures.spare, c.drop_left.ensures.spare, c.sweep.ensures.spare);
     } in
-    let scanned : IsScanned p q = subst (λ (v : Plane). IsScanned v q) is here in
+    let scanned : IsPlaneScanned p q = subst (λ (v : Plane). IsPlaneScanned v q) is here in
     let copies : length c.drop_left.new.union.union.retired ≡ length m.union.retired = copies_are m c.drop_left.new.union c.drop_left.ensures.loose.same in
     let kept : length q.board.union.retired ≡ length m.union.retired = ap (λ (x : Board). length x.union.retired) c.sweep.ensures.swept.frame in
     scanned_seen p q told after scanned c.retired-left.result (omega (arith, copies, kept, c.retired-left.ensures))

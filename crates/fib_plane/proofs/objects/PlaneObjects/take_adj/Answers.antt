@@ -4,13 +4,13 @@ use Rattle.std.specs.declared.alloc.AllocError.{AllocError}
 use Rattle.fib_base_interned.specs.Interned.{AreInterned, Kept, kept_of, users_of, Takes}
 use Rattle.fib_pool.specs.declared.object.Kind.TheVariants as kinds
 use Rattle.fib_pool.specs.declared.object.Object.{Object}
-use Rattle.fib_pool.specs.declared.object.Taken.{Taken}
+use Rattle.fib_pool.specs.declared.object.TakenRecord.{TakenRecord}
 use Rattle.fib_pool.specs.declared.object.AdjacencyRecord.{AdjacencyRecord}
-use Rattle.fib_pool.specs.Objects.{IsTaken, at, free_in}
+use Rattle.fib_pool.specs.Objects.{TookObject, at, free_in}
 use Rattle.fib_core.proofs.Numbers.{owner_of}
 use Rattle.fib_pool.specs.Records.{adjacency, IsNew, IsUsedLess, ObjectsFollow, TakesRecord}
 use Rattle.fib_base_interned.proofs.Finding.{none_some}
-use Rattle.fib_core_board.specs.May.{Allows, Serves}
+use Rattle.fib_core_board.specs.May.{Allows, HoldsPromise}
 use Rattle.fib_plane_view.specs.View as View
 use Rattle.fib_plane_view.specs.View.{TookOne}
 use Rattle.fib_plane.specs.Planes.{Plane, Holds, IsHeld}
@@ -60,8 +60,8 @@ invariant_of-self-inside-in-None g c =
     let told : IsPlane p = told_of p b u xs rows ds size is c.self.invariant c.tells.ensures c.count.ensures.interned in
     let new = c.take_adj.new.self in
     let ys = c.take_adj.new.pool in
-    let absent : IsNew rows r × (free_in xs ≡ 0) = subst (λ (f : Option Taken). IfNone f (IsNew rows r × (free_in xs ≡ 0))) c.in-None.is c.in_ok-found.ensures.none in
-    let same : (new ≡ rows) × (ys ≡ xs) = subst (λ (f : Option Taken). IfNone f ((new ≡ rows) × (ys ≡ xs))) c.in-None.is c.in_ok-found.ensures.same in
+    let absent : IsNew rows r × (free_in xs ≡ 0) = subst (λ (f : Option TakenRecord). IfNone f (IsNew rows r × (free_in xs ≡ 0))) c.in-None.is c.in_ok-found.ensures.none in
+    let same : (new ≡ rows) × (ys ≡ xs) = subst (λ (f : Option TakenRecord). IfNone f ((new ≡ rows) × (ys ≡ xs))) c.in-None.is c.in_ok-found.ensures.same in
     let q : Plane = plane_of b u ys new in
     let back : q ≡ p = ap (λ (l : List (Option Object)). plane_of b u l new) same.1 ∙ (ap (λ (l : List (Kept AdjacencyRecord)). plane_of b u xs l) same.0 ∙ is) in
     (subst (λ (v : Plane). View.IsPlane (view_of v)) (sym back) c.args.self.now.sound, (subst AreRecorded (sym back) c.args.self.now.recorded, tt))
@@ -80,8 +80,8 @@ returns-in-None-clause-new g c =
     let told : IsPlane p = told_of p b u xs rows ds size is c.self.invariant c.tells.ensures c.count.ensures.interned in
     let new = c.take_adj.new.self in
     let ys = c.take_adj.new.pool in
-    let absent : IsNew rows r × (free_in xs ≡ 0) = subst (λ (f : Option Taken). IfNone f (IsNew rows r × (free_in xs ≡ 0))) c.in-None.is c.in_ok-found.ensures.none in
-    let same : (new ≡ rows) × (ys ≡ xs) = subst (λ (f : Option Taken). IfNone f ((new ≡ rows) × (ys ≡ xs))) c.in-None.is c.in_ok-found.ensures.same in
+    let absent : IsNew rows r × (free_in xs ≡ 0) = subst (λ (f : Option TakenRecord). IfNone f (IsNew rows r × (free_in xs ≡ 0))) c.in-None.is c.in_ok-found.ensures.none in
+    let same : (new ≡ rows) × (ys ≡ xs) = subst (λ (f : Option TakenRecord). IfNone f ((new ≡ rows) × (ys ≡ xs))) c.in-None.is c.in_ok-found.ensures.same in
     let q : Plane = plane_of b u ys new in
     let back : q ≡ p = ap (λ (l : List (Option Object)). plane_of b u l new) same.1 ∙ (ap (λ (l : List (Kept AdjacencyRecord)). plane_of b u xs l) same.0 ∙ is) in
     subst (λ (v : Plane). IsNew v.records r) is absent.0
@@ -100,8 +100,8 @@ returns-in-None-clause-took g c =
     let told : IsPlane p = told_of p b u xs rows ds size is c.self.invariant c.tells.ensures c.count.ensures.interned in
     let new = c.take_adj.new.self in
     let ys = c.take_adj.new.pool in
-    let absent : IsNew rows r × (free_in xs ≡ 0) = subst (λ (f : Option Taken). IfNone f (IsNew rows r × (free_in xs ≡ 0))) c.in-None.is c.in_ok-found.ensures.none in
-    let same : (new ≡ rows) × (ys ≡ xs) = subst (λ (f : Option Taken). IfNone f ((new ≡ rows) × (ys ≡ xs))) c.in-None.is c.in_ok-found.ensures.same in
+    let absent : IsNew rows r × (free_in xs ≡ 0) = subst (λ (f : Option TakenRecord). IfNone f (IsNew rows r × (free_in xs ≡ 0))) c.in-None.is c.in_ok-found.ensures.none in
+    let same : (new ≡ rows) × (ys ≡ xs) = subst (λ (f : Option TakenRecord). IfNone f ((new ≡ rows) × (ys ≡ xs))) c.in-None.is c.in_ok-found.ensures.same in
     let q : Plane = plane_of b u ys new in
     let back : q ≡ p = ap (λ (l : List (Option Object)). plane_of b u l new) same.1 ∙ (ap (λ (l : List (Kept AdjacencyRecord)). plane_of b u xs l) same.0 ∙ is) in
     let lacks : IsNew p.records r × (free_in p.objects ≡ 0) = subst (λ (v : Plane). IsNew v.records r × (free_in v.objects ≡ 0)) is absent in
@@ -122,10 +122,10 @@ fill-requires-clause-idle g c =
     let new = c.take_adj.new.self in
     let ys = c.take_adj.new.pool in
     let o = c.in-Some.taken.object in
-    let t : TakesRecord rows new xs ys r c.in-Some.taken = subst (λ (f : Option Taken). IfSome f (λ q. TakesRecord rows new xs ys r q)) c.in-Some.is c.in_ok-found.ensures.taken in
-    let taken : IsTaken xs ys o kinds.Adjacency = (subst (λ f. ObjectsFollow f rows r xs ys o) c.if-taken.true t.objects).1 in
-    let asked : Serves p.board (Holds p) = serves_down p c.requires.promise.1.0 c.requires.promise.1.1 (Holds p) (λ begun e x lasting at held. (held_down p.board p.objects x held).1) in
-    let serves : Serves b (IsHeld b xs) = subst (λ (v : Plane). Serves v.board (Holds v)) (sym is) asked in
+    let t : TakesRecord rows new xs ys r c.in-Some.taken = subst (λ (f : Option TakenRecord). IfSome f (λ q. TakesRecord rows new xs ys r q)) c.in-Some.is c.in_ok-found.ensures.taken in
+    let taken : TookObject xs ys o kinds.Adjacency = (subst (λ f. ObjectsFollow f rows r xs ys o) c.if-taken.true t.objects).1 in
+    let asked : HoldsPromise p.board (Holds p) = serves_down p c.requires.promise.1.0 c.requires.promise.1.1 (Holds p) (λ begun e x lasting at held. (held_down p.board p.objects x held).1) in
+    let serves : HoldsPromise b (IsHeld b xs) = subst (λ (v : Plane). HoldsPromise v.board (Holds v)) (sym is) asked in
     let allowed : Allows b = subst (λ (v : Plane). Allows v.board) (sym is) (allows_down p.board c.requires.promise.0) in
     fresh_idle b u xs ys rows ds size o c.self.invariant taken allowed serves
 
@@ -144,8 +144,8 @@ invariant_of-self-then-taken g c =
     let new = c.take_adj.new.self in
     let ys = c.take_adj.new.pool in
     let o = c.in-Some.taken.object in
-    let t : TakesRecord rows new xs ys r c.in-Some.taken = subst (λ (f : Option Taken). IfSome f (λ q. TakesRecord rows new xs ys r q)) c.in-Some.is c.in_ok-found.ensures.taken in
-    let taken : IsTaken xs ys o kinds.Adjacency = (subst (λ f. ObjectsFollow f rows r xs ys o) c.if-taken.true t.objects).1 in
+    let t : TakesRecord rows new xs ys r c.in-Some.taken = subst (λ (f : Option TakenRecord). IfSome f (λ q. TakesRecord rows new xs ys r q)) c.in-Some.is c.in_ok-found.ensures.taken in
+    let taken : TookObject xs ys o kinds.Adjacency = (subst (λ f. ObjectsFollow f rows r xs ys o) c.if-taken.true t.objects).1 in
     let at : c.record-record.result ≡ r = content_is (kept_of new o) (record { id = o; content = r; users = users_of rows o + 1 }) c.record-record.result c.record-record.ensures t.takes.taken in
     let e = c.fill.ensures in
     let rest = fresh_rest b c.fill.new.board u c.fill.new.union xs ys rows new ds size o c.record-record.result
@@ -167,13 +167,13 @@ invariant_of-self-inside-then-taken g c =
     let new = c.take_adj.new.self in
     let ys = c.take_adj.new.pool in
     let o = c.in-Some.taken.object in
-    let t : TakesRecord rows new xs ys r c.in-Some.taken = subst (λ (f : Option Taken). IfSome f (λ q. TakesRecord rows new xs ys r q)) c.in-Some.is c.in_ok-found.ensures.taken in
-    let taken : IsTaken xs ys o kinds.Adjacency = (subst (λ f. ObjectsFollow f rows r xs ys o) c.if-taken.true t.objects).1 in
+    let t : TakesRecord rows new xs ys r c.in-Some.taken = subst (λ (f : Option TakenRecord). IfSome f (λ q. TakesRecord rows new xs ys r q)) c.in-Some.is c.in_ok-found.ensures.taken in
+    let taken : TookObject xs ys o kinds.Adjacency = (subst (λ f. ObjectsFollow f rows r xs ys o) c.if-taken.true t.objects).1 in
     let at : c.record-record.result ≡ r = content_is (kept_of new o) (record { id = o; content = r; users = users_of rows o + 1 }) c.record-record.result c.record-record.ensures t.takes.taken in
     let e = c.fill.ensures in
     let rest = fresh_rest b c.fill.new.board u c.fill.new.union xs ys rows new ds size o c.record-record.result
     c.self.invariant taken (subst (λ (q : AdjacencyRecord). Takes rows new q o) (sym at) t.takes) c.take_adj.ensures.live e.board e.idle e.counts e.interface e.next_hop e.words e.mac in
-    let kept : AreInterned new = subst (λ (f : Option Taken). OnSome f (AreInterned new)) c.in-Some.is c.in_ok-found.ensures.interned in
+    let kept : AreInterned new = subst (λ (f : Option TakenRecord). OnSome f (AreInterned new)) c.in-Some.is c.in_ok-found.ensures.interned in
     let q : Plane = plane_of c.fill.new.board c.fill.new.union ys new in
     let after : IsPlane q = told_of q c.fill.new.board c.fill.new.union ys new ds size refl rest e.told kept in
     let here : TookRecord (plane_of b u xs rows) q r o = record {
@@ -200,13 +200,13 @@ returns-then-taken-clause-took g c =
     let new = c.take_adj.new.self in
     let ys = c.take_adj.new.pool in
     let o = c.in-Some.taken.object in
-    let t : TakesRecord rows new xs ys r c.in-Some.taken = subst (λ (f : Option Taken). IfSome f (λ q. TakesRecord rows new xs ys r q)) c.in-Some.is c.in_ok-found.ensures.taken in
-    let taken : IsTaken xs ys o kinds.Adjacency = (subst (λ f. ObjectsFollow f rows r xs ys o) c.if-taken.true t.objects).1 in
+    let t : TakesRecord rows new xs ys r c.in-Some.taken = subst (λ (f : Option TakenRecord). IfSome f (λ q. TakesRecord rows new xs ys r q)) c.in-Some.is c.in_ok-found.ensures.taken in
+    let taken : TookObject xs ys o kinds.Adjacency = (subst (λ f. ObjectsFollow f rows r xs ys o) c.if-taken.true t.objects).1 in
     let at : c.record-record.result ≡ r = content_is (kept_of new o) (record { id = o; content = r; users = users_of rows o + 1 }) c.record-record.result c.record-record.ensures t.takes.taken in
     let e = c.fill.ensures in
     let rest = fresh_rest b c.fill.new.board u c.fill.new.union xs ys rows new ds size o c.record-record.result
     c.self.invariant taken (subst (λ (q : AdjacencyRecord). Takes rows new q o) (sym at) t.takes) c.take_adj.ensures.live e.board e.idle e.counts e.interface e.next_hop e.words e.mac in
-    let kept : AreInterned new = subst (λ (f : Option Taken). OnSome f (AreInterned new)) c.in-Some.is c.in_ok-found.ensures.interned in
+    let kept : AreInterned new = subst (λ (f : Option TakenRecord). OnSome f (AreInterned new)) c.in-Some.is c.in_ok-found.ensures.interned in
     let q : Plane = plane_of c.fill.new.board c.fill.new.union ys new in
     let after : IsPlane q = told_of q c.fill.new.board c.fill.new.union ys new ds size refl rest e.told kept in
     let here : TookRecord (plane_of b u xs rows) q r o = record {
@@ -233,13 +233,13 @@ returns-then-taken-clause-promise g c =
     let new = c.take_adj.new.self in
     let ys = c.take_adj.new.pool in
     let o = c.in-Some.taken.object in
-    let t : TakesRecord rows new xs ys r c.in-Some.taken = subst (λ (f : Option Taken). IfSome f (λ q. TakesRecord rows new xs ys r q)) c.in-Some.is c.in_ok-found.ensures.taken in
-    let taken : IsTaken xs ys o kinds.Adjacency = (subst (λ f. ObjectsFollow f rows r xs ys o) c.if-taken.true t.objects).1 in
+    let t : TakesRecord rows new xs ys r c.in-Some.taken = subst (λ (f : Option TakenRecord). IfSome f (λ q. TakesRecord rows new xs ys r q)) c.in-Some.is c.in_ok-found.ensures.taken in
+    let taken : TookObject xs ys o kinds.Adjacency = (subst (λ f. ObjectsFollow f rows r xs ys o) c.if-taken.true t.objects).1 in
     let at : c.record-record.result ≡ r = content_is (kept_of new o) (record { id = o; content = r; users = users_of rows o + 1 }) c.record-record.result c.record-record.ensures t.takes.taken in
     let e = c.fill.ensures in
     let rest = fresh_rest b c.fill.new.board u c.fill.new.union xs ys rows new ds size o c.record-record.result
     c.self.invariant taken (subst (λ (q : AdjacencyRecord). Takes rows new q o) (sym at) t.takes) c.take_adj.ensures.live e.board e.idle e.counts e.interface e.next_hop e.words e.mac in
-    let kept : AreInterned new = subst (λ (f : Option Taken). OnSome f (AreInterned new)) c.in-Some.is c.in_ok-found.ensures.interned in
+    let kept : AreInterned new = subst (λ (f : Option TakenRecord). OnSome f (AreInterned new)) c.in-Some.is c.in_ok-found.ensures.interned in
     let q : Plane = plane_of c.fill.new.board c.fill.new.union ys new in
     let after : IsPlane q = told_of q c.fill.new.board c.fill.new.union ys new ds size refl rest e.told kept in
     let here : TookRecord (plane_of b u xs rows) q r o = record {
@@ -266,13 +266,13 @@ returns-then-taken-clause-plane g c =
     let new = c.take_adj.new.self in
     let ys = c.take_adj.new.pool in
     let o = c.in-Some.taken.object in
-    let t : TakesRecord rows new xs ys r c.in-Some.taken = subst (λ (f : Option Taken). IfSome f (λ q. TakesRecord rows new xs ys r q)) c.in-Some.is c.in_ok-found.ensures.taken in
-    let taken : IsTaken xs ys o kinds.Adjacency = (subst (λ f. ObjectsFollow f rows r xs ys o) c.if-taken.true t.objects).1 in
+    let t : TakesRecord rows new xs ys r c.in-Some.taken = subst (λ (f : Option TakenRecord). IfSome f (λ q. TakesRecord rows new xs ys r q)) c.in-Some.is c.in_ok-found.ensures.taken in
+    let taken : TookObject xs ys o kinds.Adjacency = (subst (λ f. ObjectsFollow f rows r xs ys o) c.if-taken.true t.objects).1 in
     let at : c.record-record.result ≡ r = content_is (kept_of new o) (record { id = o; content = r; users = users_of rows o + 1 }) c.record-record.result c.record-record.ensures t.takes.taken in
     let e = c.fill.ensures in
     let rest = fresh_rest b c.fill.new.board u c.fill.new.union xs ys rows new ds size o c.record-record.result
     c.self.invariant taken (subst (λ (q : AdjacencyRecord). Takes rows new q o) (sym at) t.takes) c.take_adj.ensures.live e.board e.idle e.counts e.interface e.next_hop e.words e.mac in
-    let kept : AreInterned new = subst (λ (f : Option Taken). OnSome f (AreInterned new)) c.in-Some.is c.in_ok-found.ensures.interned in
+    let kept : AreInterned new = subst (λ (f : Option TakenRecord). OnSome f (AreInterned new)) c.in-Some.is c.in_ok-found.ensures.interned in
     let q : Plane = plane_of c.fill.new.board c.fill.new.union ys new in
     let after : IsPlane q = told_of q c.fill.new.board c.fill.new.union ys new ds size refl rest e.told kept in
     let here : TookRecord (plane_of b u xs rows) q r o = record {
@@ -299,7 +299,7 @@ invariant_of-self-else-taken g c =
     let new = c.take_adj.new.self in
     let ys = c.take_adj.new.pool in
     let o = c.in-Some.taken.object in
-    let t : TakesRecord rows new xs ys r c.in-Some.taken = subst (λ (f : Option Taken). IfSome f (λ q. TakesRecord rows new xs ys r q)) c.in-Some.is c.in_ok-found.ensures.taken in
+    let t : TakesRecord rows new xs ys r c.in-Some.taken = subst (λ (f : Option TakenRecord). IfSome f (λ q. TakesRecord rows new xs ys r q)) c.in-Some.is c.in_ok-found.ensures.taken in
     let same = subst (λ f. ObjectsFollow f rows r xs ys o) c.if-taken.false t.objects in
     let rest = shared_rest b u xs ys rows new ds size r o t.takes same.0 same.1 c.self.invariant in
     rest
@@ -319,10 +319,10 @@ invariant_of-self-inside-else-taken g c =
     let new = c.take_adj.new.self in
     let ys = c.take_adj.new.pool in
     let o = c.in-Some.taken.object in
-    let t : TakesRecord rows new xs ys r c.in-Some.taken = subst (λ (f : Option Taken). IfSome f (λ q. TakesRecord rows new xs ys r q)) c.in-Some.is c.in_ok-found.ensures.taken in
+    let t : TakesRecord rows new xs ys r c.in-Some.taken = subst (λ (f : Option TakenRecord). IfSome f (λ q. TakesRecord rows new xs ys r q)) c.in-Some.is c.in_ok-found.ensures.taken in
     let same = subst (λ f. ObjectsFollow f rows r xs ys o) c.if-taken.false t.objects in
     let rest = shared_rest b u xs ys rows new ds size r o t.takes same.0 same.1 c.self.invariant in
-    let kept : AreInterned new = subst (λ (f : Option Taken). OnSome f (AreInterned new)) c.in-Some.is c.in_ok-found.ensures.interned in
+    let kept : AreInterned new = subst (λ (f : Option TakenRecord). OnSome f (AreInterned new)) c.in-Some.is c.in_ok-found.ensures.interned in
     let q : Plane = plane_of b u ys new in
     let after : IsPlane q = told_of q b u ys new ds size refl rest c.tells.ensures kept in
     let here : TookRecord (plane_of b u xs rows) q r o = record {
@@ -349,10 +349,10 @@ returns-clause-took g c =
     let new = c.take_adj.new.self in
     let ys = c.take_adj.new.pool in
     let o = c.in-Some.taken.object in
-    let t : TakesRecord rows new xs ys r c.in-Some.taken = subst (λ (f : Option Taken). IfSome f (λ q. TakesRecord rows new xs ys r q)) c.in-Some.is c.in_ok-found.ensures.taken in
+    let t : TakesRecord rows new xs ys r c.in-Some.taken = subst (λ (f : Option TakenRecord). IfSome f (λ q. TakesRecord rows new xs ys r q)) c.in-Some.is c.in_ok-found.ensures.taken in
     let same = subst (λ f. ObjectsFollow f rows r xs ys o) c.if-taken.false t.objects in
     let rest = shared_rest b u xs ys rows new ds size r o t.takes same.0 same.1 c.self.invariant in
-    let kept : AreInterned new = subst (λ (f : Option Taken). OnSome f (AreInterned new)) c.in-Some.is c.in_ok-found.ensures.interned in
+    let kept : AreInterned new = subst (λ (f : Option TakenRecord). OnSome f (AreInterned new)) c.in-Some.is c.in_ok-found.ensures.interned in
     let q : Plane = plane_of b u ys new in
     let after : IsPlane q = told_of q b u ys new ds size refl rest c.tells.ensures kept in
     let here : TookRecord (plane_of b u xs rows) q r o = record {
@@ -379,10 +379,10 @@ returns-clause-plane g c =
     let new = c.take_adj.new.self in
     let ys = c.take_adj.new.pool in
     let o = c.in-Some.taken.object in
-    let t : TakesRecord rows new xs ys r c.in-Some.taken = subst (λ (f : Option Taken). IfSome f (λ q. TakesRecord rows new xs ys r q)) c.in-Some.is c.in_ok-found.ensures.taken in
+    let t : TakesRecord rows new xs ys r c.in-Some.taken = subst (λ (f : Option TakenRecord). IfSome f (λ q. TakesRecord rows new xs ys r q)) c.in-Some.is c.in_ok-found.ensures.taken in
     let same = subst (λ f. ObjectsFollow f rows r xs ys o) c.if-taken.false t.objects in
     let rest = shared_rest b u xs ys rows new ds size r o t.takes same.0 same.1 c.self.invariant in
-    let kept : AreInterned new = subst (λ (f : Option Taken). OnSome f (AreInterned new)) c.in-Some.is c.in_ok-found.ensures.interned in
+    let kept : AreInterned new = subst (λ (f : Option TakenRecord). OnSome f (AreInterned new)) c.in-Some.is c.in_ok-found.ensures.interned in
     let q : Plane = plane_of b u ys new in
     let after : IsPlane q = told_of q b u ys new ds size refl rest c.tells.ensures kept in
     let here : TookRecord (plane_of b u xs rows) q r o = record {
@@ -408,8 +408,8 @@ returns-in-None-clause-stores g c =
     let told : IsPlane p = told_of p b u xs rows ds size is c.self.invariant c.tells.ensures c.count.ensures.interned in
     let new = c.take_adj.new.self in
     let ys = c.take_adj.new.pool in
-    let absent : IsNew rows r × (free_in xs ≡ 0) = subst (λ (f : Option Taken). IfNone f (IsNew rows r × (free_in xs ≡ 0))) c.in-None.is c.in_ok-found.ensures.none in
-    let same : (new ≡ rows) × (ys ≡ xs) = subst (λ (f : Option Taken). IfNone f ((new ≡ rows) × (ys ≡ xs))) c.in-None.is c.in_ok-found.ensures.same in
+    let absent : IsNew rows r × (free_in xs ≡ 0) = subst (λ (f : Option TakenRecord). IfNone f (IsNew rows r × (free_in xs ≡ 0))) c.in-None.is c.in_ok-found.ensures.none in
+    let same : (new ≡ rows) × (ys ≡ xs) = subst (λ (f : Option TakenRecord). IfNone f ((new ≡ rows) × (ys ≡ xs))) c.in-None.is c.in_ok-found.ensures.same in
     let q : Plane = plane_of b u ys new in
     let back : q ≡ p = ap (λ (l : List (Option Object)). plane_of b u l new) same.1 ∙ (ap (λ (l : List (Kept AdjacencyRecord)). plane_of b u xs l) same.0 ∙ is) in
     let lacks : IsNew p.records r × (free_in p.objects ≡ 0) = subst (λ (v : Plane). IsNew v.records r × (free_in v.objects ≡ 0)) is absent in
@@ -430,13 +430,13 @@ returns-then-taken-clause-stores g c =
     let new = c.take_adj.new.self in
     let ys = c.take_adj.new.pool in
     let o = c.in-Some.taken.object in
-    let t : TakesRecord rows new xs ys r c.in-Some.taken = subst (λ (f : Option Taken). IfSome f (λ q. TakesRecord rows new xs ys r q)) c.in-Some.is c.in_ok-found.ensures.taken in
-    let taken : IsTaken xs ys o kinds.Adjacency = (subst (λ f. ObjectsFollow f rows r xs ys o) c.if-taken.true t.objects).1 in
+    let t : TakesRecord rows new xs ys r c.in-Some.taken = subst (λ (f : Option TakenRecord). IfSome f (λ q. TakesRecord rows new xs ys r q)) c.in-Some.is c.in_ok-found.ensures.taken in
+    let taken : TookObject xs ys o kinds.Adjacency = (subst (λ f. ObjectsFollow f rows r xs ys o) c.if-taken.true t.objects).1 in
     let at : c.record-record.result ≡ r = content_is (kept_of new o) (record { id = o; content = r; users = users_of rows o + 1 }) c.record-record.result c.record-record.ensures t.takes.taken in
     let e = c.fill.ensures in
     let rest = fresh_rest b c.fill.new.board u c.fill.new.union xs ys rows new ds size o c.record-record.result
     c.self.invariant taken (subst (λ (q : AdjacencyRecord). Takes rows new q o) (sym at) t.takes) c.take_adj.ensures.live e.board e.idle e.counts e.interface e.next_hop e.words e.mac in
-    let kept : AreInterned new = subst (λ (f : Option Taken). OnSome f (AreInterned new)) c.in-Some.is c.in_ok-found.ensures.interned in
+    let kept : AreInterned new = subst (λ (f : Option TakenRecord). OnSome f (AreInterned new)) c.in-Some.is c.in_ok-found.ensures.interned in
     let q : Plane = plane_of c.fill.new.board c.fill.new.union ys new in
     let after : IsPlane q = told_of q c.fill.new.board c.fill.new.union ys new ds size refl rest e.told kept in
     let here : TookRecord (plane_of b u xs rows) q r o = record {
@@ -463,10 +463,10 @@ returns-clause-stores g c =
     let new = c.take_adj.new.self in
     let ys = c.take_adj.new.pool in
     let o = c.in-Some.taken.object in
-    let t : TakesRecord rows new xs ys r c.in-Some.taken = subst (λ (f : Option Taken). IfSome f (λ q. TakesRecord rows new xs ys r q)) c.in-Some.is c.in_ok-found.ensures.taken in
+    let t : TakesRecord rows new xs ys r c.in-Some.taken = subst (λ (f : Option TakenRecord). IfSome f (λ q. TakesRecord rows new xs ys r q)) c.in-Some.is c.in_ok-found.ensures.taken in
     let same = subst (λ f. ObjectsFollow f rows r xs ys o) c.if-taken.false t.objects in
     let rest = shared_rest b u xs ys rows new ds size r o t.takes same.0 same.1 c.self.invariant in
-    let kept : AreInterned new = subst (λ (f : Option Taken). OnSome f (AreInterned new)) c.in-Some.is c.in_ok-found.ensures.interned in
+    let kept : AreInterned new = subst (λ (f : Option TakenRecord). OnSome f (AreInterned new)) c.in-Some.is c.in_ok-found.ensures.interned in
     let q : Plane = plane_of b u ys new in
     let after : IsPlane q = told_of q b u ys new ds size refl rest c.tells.ensures kept in
     let here : TookRecord (plane_of b u xs rows) q r o = record {
@@ -503,6 +503,6 @@ fill-requires-clause-empty g c = λ s lt.
     let is = ap (λ (v : Whole). v.plane) c.self.view_is in
     let told : IsPlane p = told_of p b u xs rows c.self.inside.dying.items (vec_capacity c.self.inside.dying) is c.self.invariant c.tells.ensures c.count.ensures.interned in
     let mine : IsPlane (plane_of b u xs rows) = subst IsPlane (sym is) told in
-    let t : TakesRecord rows c.take_adj.new.self xs c.take_adj.new.pool r c.in-Some.taken = subst (λ (f : Option Taken). IfSome f (λ q. TakesRecord rows c.take_adj.new.self xs c.take_adj.new.pool r q)) c.in-Some.is c.in_ok-found.ensures.taken in
-    let taken : IsTaken xs c.take_adj.new.pool o kinds.Adjacency = (subst (λ f. ObjectsFollow f rows r xs c.take_adj.new.pool o) c.if-taken.true t.objects).1 in
+    let t : TakesRecord rows c.take_adj.new.self xs c.take_adj.new.pool r c.in-Some.taken = subst (λ (f : Option TakenRecord). IfSome f (λ q. TakesRecord rows c.take_adj.new.self xs c.take_adj.new.pool r q)) c.in-Some.is c.in_ok-found.ensures.taken in
+    let taken : TookObject xs c.take_adj.new.pool o kinds.Adjacency = (subst (λ f. ObjectsFollow f rows r xs c.take_adj.new.pool o) c.if-taken.true t.objects).1 in
     mine.free (16 * o + s) (ap (at xs) (owner_of o s lt) ∙ taken.free)
