@@ -34,7 +34,7 @@ use fib_entries_rows::plies::{lowered, own_size, raised};
 use fib_entries_rows::rows::Row;
 use fib_paths::{PathListId, PathLists};
 use fib_resolve::{FibSource, Need, Path, PathKind, Tables};
-use fib_resolve_pairs::is_same_list;
+use fib_resolve_pairs::{attached_of, is_same_list};
 use std::alloc::{AllocError, Global};
 
 /// The path of a neighbor's host.
@@ -67,13 +67,7 @@ pub fn mac_news(tables: &Tables, interface: u32, addr: Addr) -> News
 fn is_attaching_list(paths: &[Path], interface: u32) -> bool
     ensures { IsTrue result → attached_of paths.now ≡ Some interface }
 {
-    match paths {
-        [path] => match path.kind {
-            PathKind::Attached(other) => other == interface,
-            _ => false,
-        },
-        _ => false,
-    }
+    attached_of(paths) == Some(interface)
 }
 
 /// Whether the row's chosen list is.

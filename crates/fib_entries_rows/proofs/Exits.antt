@@ -18,12 +18,13 @@ use Rattle.fib_resolve.specs.declared.types.FibSource.{FibSource}
 use Rattle.fib_resolve.specs.declared.types.Path.{Path}
 use Rattle.fib_resolve.specs.declared.types.PathKind.{PathKind}
 use Rattle.fib_resolve.specs.declared.types.PathKind.TheVariants as kinds
+use Rattle.fib_resolve.specs.Keys.{kind_leaves}
 use Rattle.fib_resolve.specs.declared.types.Tables.{Tables}
 use Rattle.fib_entries_rows.specs.declared.ends.News.{News}
 use Rattle.fib_entries_rows.specs.declared.ends.News.TheVariants as news
 use Rattle.fib_entries_rows.specs.Rows.{Row}
 use Rattle.fib_entries_rows.specs.inner.Ends.{aim_over, aim_at, aim_exit, is_exit, has_exit, renewed, renewed_row, with_counts, with_aim}
-use Rattle.fib_entries_rows.specs.inner.Fields.{AreAmong, AreFields, Index, IsForgotten, IsIndexed, IsNoted, are_several, has_several, is_host, kind_leaves, leave}
+use Rattle.fib_entries_rows.specs.inner.Fields.{AreAmong, AreFields, Index, IsForgotten, IsIndexed, IsNoted, are_several, has_several, is_host, leave}
 use Rattle.fib_entries_rows.specs.inner.Leaf.{plain_aim, plain_mark}
 
 -- what the index has of a row

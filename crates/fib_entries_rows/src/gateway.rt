@@ -33,6 +33,7 @@ use fib_base_list::List;
 use fib_cover::PrefixSet;
 use fib_paths::{PathListId, PathLists};
 use fib_resolve::{FibSource, Need, Path, PathKind};
+use fib_resolve_pairs::attached_of;
 use std::alloc::{AllocError, Global};
 
 /// A next hop whose host has other pairs, all better than the one that it makes.
@@ -90,19 +91,6 @@ fn gateway_hop(rows: &Blocks<Row>, paths: &[Path]) -> Option<Addr>
             None => gateway_hop(rows, paths),
         },
         [] => None,
-    }
-}
-
-/// The interface, where the list is one path over it.
-fn attached_of(paths: &[Path]) -> Option<u32>
-    ensures { result ≡ attached_of paths.now }
-{
-    match paths {
-        [path] => match path.kind {
-            PathKind::Attached(interface) => Some(interface),
-            _ => None,
-        },
-        _ => None,
     }
 }
 

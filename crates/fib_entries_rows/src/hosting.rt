@@ -34,6 +34,7 @@ use fib_base_list::List;
 use fib_cover::PrefixSet;
 use fib_paths::{PathListId, PathLists};
 use fib_resolve::{Aim, FibSource, Marked, Need, Path, PathKind};
+use fib_resolve_pairs::attached_of;
 use std::alloc::{AllocError, Global};
 use std::cmp::Ordering;
 
@@ -139,10 +140,7 @@ fn cover_place(rows: &Blocks<Row>, order: &PrefixSet, a: Addr) -> Option<usize>
 pub fn is_loose_list(paths: &[Path]) -> bool
     ensures { IsTrue result → attached_of paths.now ≡ None }
 {
-    match paths {
-        [path] => !matches!(path.kind, PathKind::Attached(_)),
-        _ => true,
-    }
+    attached_of(paths).is_none()
 }
 
 /// Whether that is so of the row's chosen list.

@@ -3,7 +3,7 @@ ghost use Rattle.std.specs.Prelude.{◌≡◌, ◌≢◌, ◌⊎◌, ◌++◌, �
 ghost use Rattle.std.specs.List.{list_any};
 ghost use Rattle.fib_addr.specs.Prefixes.{Prefix as PrefixValue};
 ghost use Rattle.fib_cover.specs.Covers.{IsAscending, is_inside};
-ghost use Rattle.fib_entries_rows.specs.inner.Fields.{AreAmong, IsForgotten, IsIndexed, IsNoted, is_of, kind_leaves, leave, IsSeveral};
+ghost use Rattle.fib_entries_rows.specs.inner.Fields.{AreAmong, IsForgotten, IsIndexed, IsNoted, is_of, leave, IsSeveral};
 
 use crate::ends::has_exit;
 use crate::look::is_same;
@@ -12,7 +12,7 @@ use fib_addr::Prefix;
 use fib_base_blocks::Blocks;
 use fib_base_list::List;
 use fib_cover::PrefixSet;
-use fib_resolve::{Path, PathKind};
+use fib_resolve::Path;
 use std::alloc::{AllocError, Global};
 use std::marker::Model;
 
@@ -149,21 +149,11 @@ fn is_listed(list: &[Prefix], prefix: Prefix) -> bool
     list.iter().any(|e| is_same(prefix, *e))
 }
 
-/// Whether packets of the path leave by an interface.
-fn leaves(path: &Path) -> bool
-    ensures { result ≡ kind_leaves path.now.kind }
-{
-    match path.kind {
-        PathKind::Attached(_) | PathKind::Hop { .. } => true,
-        PathKind::Drop | PathKind::Local | PathKind::Recursive(_) | PathKind::Cover => false,
-    }
-}
-
 /// Whether those of one of them do.
 fn leave(paths: &[Path]) -> bool
     ensures { result ≡ leave paths.now }
 {
-    paths.iter().any(|path| leaves(path))
+    paths.iter().any(|path| path.kind.leaves())
 }
 
 /// Whether the row is of that kind.

@@ -25,12 +25,7 @@ use std::alloc::{AllocError, Global};
 fn is_plain(path: &Path) -> bool
     ensures { result ≡ is_plain path.now }
 {
-    let is_kind = match path.kind {
-        PathKind::Drop | PathKind::Local | PathKind::Recursive(_) => true,
-        PathKind::Attached(_) | PathKind::Hop { .. } => true,
-        PathKind::Cover => false,
-    };
-    is_kind && path.need.rank() == 0
+    !matches!(path.kind, PathKind::Cover) && path.need.rank() == 0
 }
 
 /// Whether all are.

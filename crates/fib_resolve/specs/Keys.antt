@@ -1,5 +1,5 @@
 -- The orders of sources and paths, as numbers, and tests of equality.
-use Rattle.std.specs.Prelude.{ℕ, Bool, ◌==◌, ◌&&◌, nat_lt}
+use Rattle.std.specs.Prelude.{ℕ, Bool, true, false, ◌==◌, ◌&&◌, nat_lt}
 use Rattle.std.specs.declared.cmp.Ordering.{Ordering}
 use Rattle.std.specs.Ordering.{is_lt, nat_cmp, ordering_then}
 use Rattle.fib_resolve.specs.declared.keys.Key.{Key}
@@ -56,6 +56,15 @@ interface_of (kinds.Attached i) = i
 interface_of (kinds.Hop a i) = i
 interface_of (kinds.Recursive a) = 0
 interface_of kinds.Cover = 0
+
+-- packets of the path leave by an interface
+abbrev pub kind_leaves : PathKind → Bool
+kind_leaves kinds.Drop = false
+kind_leaves kinds.Local = false
+kind_leaves (kinds.Attached i) = true
+kind_leaves (kinds.Hop a i) = true
+kind_leaves (kinds.Recursive a) = false
+kind_leaves kinds.Cover = false
 
 abbrev pub need_rank : Need → ℕ
 need_rank needs.Any = 0

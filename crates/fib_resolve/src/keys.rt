@@ -2,7 +2,8 @@
 
 ghost use Rattle.std.specs.Prelude.{◌≡◌, ℕ, ◌≤◌, ◌<◌};
 ghost use Rattle.std.specs.Ordering.{is_lt, nat_cmp, ordering_then};
-ghost use Rattle.fib_resolve.specs.Keys.{kind_rank, next_hop_of, interface_of, need_rank, is_derived_source, is_drop_or_local, source_rank, same_source, key_of, key_lt, same_key, same_path, key_cmp, path_cmp};
+ghost use Rattle.fib_resolve.specs.Pairs.{attached_kind, recursive_kind};
+ghost use Rattle.fib_resolve.specs.Keys.{kind_rank, next_hop_of, interface_of, kind_leaves, need_rank, is_derived_source, is_drop_or_local, source_rank, same_source, key_of, key_lt, same_key, same_path, key_cmp, path_cmp};
 
 use crate::types::{FibSource, Need, Path, PathKind};
 use fib_addr::Addr;
@@ -58,6 +59,33 @@ impl PathKind {
             PathKind::Attached(interface) | PathKind::Hop { interface, .. } => interface,
             _ => 0,
         }
+    }
+
+    /// The address at whose entry the packet goes on, where the kind is Recursive.
+    pub fn recursive(self) -> Option<Addr>
+        ensures { result ≡ recursive_kind self }
+    {
+        match self {
+            PathKind::Recursive(next_hop) => Some(next_hop),
+            _ => None,
+        }
+    }
+
+    /// The interface on whose link the packet's target is, where the kind is Attached.
+    pub fn attached(self) -> Option<u32>
+        ensures { result ≡ attached_kind self }
+    {
+        match self {
+            PathKind::Attached(interface) => Some(interface),
+            _ => None,
+        }
+    }
+
+    /// Whether packets of the path leave by an interface: Attached and Hop.
+    pub fn leaves(self) -> bool
+        ensures { result ≡ kind_leaves self }
+    {
+        matches!(self, PathKind::Attached(_) | PathKind::Hop { .. })
     }
 }
 

@@ -52,14 +52,11 @@ fn short_ones(alloc: Global, pairs: &[Pair]) -> Result<Vec<Prefix>, AllocError>
 }
 
 /// The interface, where the list is one Attached path.
-fn attached_of(paths: &[Path]) -> Option<u32>
+pub fn attached_of(paths: &[Path]) -> Option<u32>
     ensures { result ≡ attached_of paths.now }
 {
     match paths {
-        [only] => match only.kind {
-            PathKind::Attached(interface) => Some(interface),
-            _ => None,
-        },
+        [only] => only.kind.attached(),
         _ => None,
     }
 }

@@ -19,6 +19,7 @@ mod ranked;
 mod repeats;
 mod sizes;
 
+pub use covers::attached_of;
 pub use keyed::is_same_pair;
 pub use known::Known;
 pub use meaning::Meaning;

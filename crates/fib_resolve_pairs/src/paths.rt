@@ -13,10 +13,7 @@ use std::alloc::{AllocError, Global};
 pub fn recursive_hop(path: &Path) -> Option<Addr>
     ensures { result ≡ recursive_of path.now }
 {
-    match path.kind {
-        PathKind::Recursive(a) => Some(a),
-        _ => None,
-    }
+    path.kind.recursive()
 }
 
 fn hops_of(alloc: Global, paths: &[Path]) -> Result<Vec<Addr>, AllocError>

@@ -5,11 +5,9 @@ use Rattle.std.specs.Cmp.Lexicographic.{pointwise}
 use Rattle.fib_addr.specs.Prefixes.{Prefix}
 use Rattle.fib_cover.specs.Covers.{IsAscending}
 use Rattle.fib_entries_rows.specs.Known.{PathKept, prefix_of, content_of, IsHeld}
-use Rattle.fib_resolve.specs.Keys.{same_path}
+use Rattle.fib_resolve.specs.Keys.{kind_leaves, same_path}
 use Rattle.fib_resolve.specs.declared.pairs.Pair.{Pair}
 use Rattle.fib_resolve.specs.declared.types.Path.{Path}
-use Rattle.fib_resolve.specs.declared.types.PathKind.{PathKind}
-use Rattle.fib_resolve.specs.declared.types.PathKind.TheVariants as kinds
 use Rattle.fib_resolve.specs.declared.types.FibSource.{FibSource}
 use Rattle.fib_base_interned.specs.Interned.{AreInterned}
 use Rattle.fib_entries_rows.specs.inner.Building.{AreHeld}
@@ -67,16 +65,7 @@ pub record IsIndexed (rows : List Row) (x : Index) : Type 0 where
   pub hosts : AreAmong is_host rows x.hosts
   pub several : AreAmong has_several rows x.several
 
--- packets of the path leave by an interface
-abbrev pub kind_leaves : PathKind → Bool
-kind_leaves kinds.Drop = false
-kind_leaves kinds.Local = false
-kind_leaves (kinds.Attached i) = true
-kind_leaves (kinds.Hop a i) = true
-kind_leaves (kinds.Recursive a) = false
-kind_leaves kinds.Cover = false
-
--- those of one of them do
+-- packets of one of them leave by an interface
 abbrev pub leave : List Path → Bool
 leave paths = list_any (λ q. kind_leaves q.kind) paths
 
