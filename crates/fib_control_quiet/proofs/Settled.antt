@@ -14,8 +14,9 @@ use Rattle.fib_core.specs.declared.word.Word.TheVariants as words
 use Rattle.fib_core_promise.specs.Matches.{FitsVersions, best_block, look_of, promised_by}
 use Rattle.fib_core_promise.specs.Stack.{aim_word, is_some, to_adjacency, to_balance}
 use Rattle.fib_core_promise.proofs.Answers.{promised_answer, promised_from}
-use Rattle.fib_plane_view.specs.Promise.{IsAimed, KeepsBuckets, Promise}
-use Rattle.fib_plane_view.specs.View.{IsLive, View}
+use Rattle.fib_plane_view.specs.Promise.{KeepsBuckets, Promise}
+use Rattle.fib_core_steady.specs.Promise.{IsAimed}
+use Rattle.fib_plane_view.specs.View.{IsLive, View, adjacency_end}
 use Rattle.fib_ply.specs.Prefixes.{Look}
 use Rattle.fib_ply.specs.Tables.{Stands, watch_of}
 use Rattle.fib_ply.specs.Plies.{Has, IsSound, Mixed}
@@ -55,7 +56,7 @@ module _ (S : Tables) (rank : Prefix → ℕ) (p : Promise) (v : View) (s : Part
   steady = settled_steady S rank (state_in v s) rest.drained.ranked (rest.drained.none, rest.prompt) (stands S rank p v s rest n)
 
   -- what a bucket holds does what it is for
-  aimed : (e : Prefix) (k : ℕ) (m : Aim) → aim S e k ≡ m → IsAimed (balance_in s) v m (aim_word (objects S rank p v s rest n) m)
+  aimed : (e : Prefix) (k : ℕ) (m : Aim) → aim S e k ≡ m → IsAimed (balance_in s) (adjacency_end v) m (aim_word (objects S rank p v s rest n) m)
   aimed e k (aims.Ends answers.Drop) is = refl
   aimed e k (aims.Ends answers.Receive) is = refl
   aimed e k (aims.Ends (answers.Glean i)) is = refl
@@ -72,7 +73,7 @@ module _ (S : Tables) (rank : Prefix → ℕ) (p : Promise) (v : View) (s : Part
     held = λ e o lasts at. rest.drained.joined.laid.balances e o at;
     aimed = λ e o k m lasts at lt alike.
         let word : v.cell o k ≡ aim_word (objects S rank p v s rest n) m = (stands S rank p v s rest n).filled e o k at lt ∙ ap (aim_word (objects S rank p v s rest n)) (alike S here) in
-        subst (IsAimed (balance_in s) v m) (sym word) (aimed e k m (alike S here));
+        subst (IsAimed (balance_in s) (adjacency_end v) m) (sym word) (aimed e k m (alike S here));
   }
 
   abbrev look : Look

@@ -64,7 +64,7 @@ begins_growing b c next r same is = record {
   stores = subst (λ (d : Board). HasStores 254 d.union) (sym is) r.stores;
   free = λ lt. change.free;
   names = grown;
-  path = ((let z = promised.plies.root.0 in omega arith), (let z = promised.plies.root.1 in omega arith), omega arith);
+  path = ((let z = promised.plies.ways.root.0 in omega arith), (let z = promised.plies.ways.root.1 in omega arith), omega arith);
   balances = changing.balances c change;
   right = subst (λ (w : Word). IsRight J grown 0 1 w) root_word (promised.plies.right 0 1 (inl refl) (omega arith));
   promised = promised;

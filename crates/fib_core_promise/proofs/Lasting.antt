@@ -5,7 +5,7 @@ use Rattle.fib_addr.specs.Prefixes.{Prefix}
 use Rattle.fib_resolve.specs.declared.types.Tables.{Tables}
 use Rattle.fib_core.specs.declared.word.Word.{Word}
 use Rattle.fib_core.specs.declared.word.Word.TheVariants as words
-use Rattle.fib_core.specs.Walk.{word_at}
+use Rattle.fib_core.specs.Walk.{word_at, adjacency_end}
 use Rattle.fib_core.specs.Union.{Union}
 use Rattle.fib_resolve.specs.declared.aims.Aim.{Aim}
 use Rattle.fib_resolve.specs.declared.aims.Aim.TheVariants as aims
@@ -21,7 +21,7 @@ abbrev pub with_balances : Names → (Prefix → Option ℕ) → Names
 with_balances n balances = record { depth = n.depth; value = n.value; balance = balances }
 
 module _ (J : List Tables) (n : Names) (balances : Prefix → Option ℕ) (same : (e : Prefix) → IsLasting J e → balances e ≡ n.balance e) (u : Union) where
-  aimed_too : (e : Prefix) (k : ℕ) (m : Aim) (w : Word) → WantsAlike J e k m → IsAimed n.balance u.cells m w → IsAimed balances u.cells m w
+  aimed_too : (e : Prefix) (k : ℕ) (m : Aim) (w : Word) → WantsAlike J e k m → IsAimed n.balance (adjacency_end u.cells) m w → IsAimed balances (adjacency_end u.cells) m w
   aimed_too e k (aims.Ends end) w alike is = is
   aimed_too e k (aims.On t) w alike is = (is.0, is.1, same t (λ S c. bucket_on S e t k (alike S c)) ∙ is.2)
 
@@ -38,9 +38,10 @@ module _ (J : List Tables) (n : Names) (balances : Prefix → Option ℕ) (same 
   other_balances ok = record {
     buckets = record {
       named = λ e lasting. (let at = ok.buckets.named e lasting in (at.0, same e lasting ∙ at.1));
+      held = λ e o lasting is. tt;
       aimed = λ e o k m lasting is lt alike. aimed_too e k m (word_at u.cells o k) alike (ok.buckets.aimed e o k m lasting (sym (same e lasting) ∙ is) lt alike);
     };
-    plies = record { root = ok.plies.root; paths = ok.plies.paths; right = λ x s walked lt. right_too x s (word_at u.cells x s) (ok.plies.right x s walked lt) };
+    plies = record { ways = record { root = ok.plies.ways.root; paths = ok.plies.ways.paths }; right = λ x s walked lt. right_too x s (word_at u.cells x s) (ok.plies.right x s walked lt) };
   }
 
 -- so the prefix table's own look-up serves as names before and after a change of it

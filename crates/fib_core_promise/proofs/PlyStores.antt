@@ -19,6 +19,7 @@ use Rattle.fib_core_steady.specs.Aims.{IsLasting}
 use Rattle.fib_core_steady.specs.Names.{Names, IsBelow, IsChild, IsIn, IsWalked}
 use Rattle.fib_core_steady.specs.Promise.{IsRight, IsPromised}
 use Rattle.fib_core_promise.specs.Matches.{IsLongestBlock}
+use Rattle.fib_core_steady.proofs.Edges.{child_of, ways_by}
 use Rattle.fib_core_steady.proofs.Lists.{some_same, none_some}
 use Rattle.fib_core_steady.proofs.Storing.{IsBeside, other_cell, ply_stored}
 
@@ -101,8 +102,10 @@ module _ (J : List Tables) (n : Names) (c d w : ℕ) (u : Union) (other : c ≢ 
   placed_promised ok = record {
     buckets = ok.buckets;
     plies = record {
-      root = (same_depth 0 (λ e. other (sym e)) ∙ ok.plies.root.0, same_value 0 (λ e. other (sym e)) ∙ ok.plies.root.1);
-      paths = λ k v y g is. same_child (owner k) (k % 16) y (below k v y g is) (λ e. above k v g (is ∙ ap words.ToPly e)) (ok.plies.paths k v y g is);
+      ways = ways_by (placed n c d w) u
+          (same_depth 0 (λ e. other (sym e)) ∙ ok.plies.ways.root.0, same_value 0 (λ e. other (sym e)) ∙ ok.plies.ways.root.1)
+          (λ k v y g is. same_child (owner k) (k % 16) y (below k v y g is) (λ e. above k v g (is ∙ ap words.ToPly e))
+          (child_of n u ok.plies.ways k v y g is));
       right = λ x s walked lt. same_right x s (word_at u.cells x s) (not_walked x walked) (ok.plies.right x s walked lt);
     };
   }

@@ -7,13 +7,13 @@ use Rattle.fib_resolve.specs.declared.types.End.TheVariants as answers
 use Rattle.fib_resolve.specs.declared.types.Tables.{Tables}
 use Rattle.fib_core.specs.declared.word.Word.{Word}
 use Rattle.fib_union.specs.Unions.{owner}
-use Rattle.fib_core.specs.Walk.{word_at}
+use Rattle.fib_core.specs.Walk.{word_at, adjacency_end}
 use Rattle.fib_core.proofs.Numbers.{owner_of}
 use Rattle.fib_resolve.specs.declared.aims.Aim.{Aim}
 use Rattle.fib_resolve.specs.declared.aims.Aim.TheVariants as aims
 use Rattle.fib_resolve.specs.Aims.{aim}
 use Rattle.fib_core_steady.specs.Aims.{IsLasting, WantsAlike}
-use Rattle.fib_core_steady.specs.Promise.{IsEndWord, IsAimed, KeepsBuckets}
+use Rattle.fib_core_steady.specs.Promise.{IsEndWord, IsAimed, KeepsCells}
 use Rattle.fib_core_promise.specs.Stack.{is_some, Objects, Ledger, to_balance, to_adjacency, end_word, aim_word, EndAnchored, Anchored, IsSteadyStack, HasRecords, IsMoment}
 use Rattle.fib_core_steady.proofs.Lists.{some_same}
 use Rattle.fib_core_steady.specs.Loose.{IsLoose}
@@ -22,7 +22,7 @@ pub some_of : (o : Option ℕ) → is_some o ≡ true → (x : ℕ) × (o ≡ So
 some_of None e = absurd (true≢false (sym e))
 some_of (Some x) e = (x, refl)
 
-end_aimed : (at : Objects) (l : Ledger) (cells : List ℕ) → HasRecords at l cells → (e : Prefix) (end : End) → EndAnchored l e end → (w : Word) → w ≡ end_word at end → IsEndWord cells end w
+end_aimed : (at : Objects) (l : Ledger) (cells : List ℕ) → HasRecords at l cells → (e : Prefix) (end : End) → EndAnchored l e end → (w : Word) → w ≡ end_word at end → IsEndWord (adjacency_end cells) end w
 end_aimed at l cells records e answers.Drop anchored w is = is
 end_aimed at l cells records e answers.Receive anchored w is = is
 end_aimed at l cells records e (answers.Glean i) anchored w is = is
@@ -30,16 +30,17 @@ end_aimed at l cells records e (answers.Hop i a m) anchored w is =
     let x = some_of (at.record_of (answers.Hop i a m)) (records.kept e (answers.Hop i a m) anchored) in
     (x.0, is ∙ ap to_adjacency x.1, records.written (answers.Hop i a m) x.0 x.1)
 
-aimed : (at : Objects) (l : Ledger) (cells : List ℕ) → HasRecords at l cells → (e : Prefix) (m : Aim) → Anchored at l e m → (w : Word) → w ≡ aim_word at m → IsAimed at.balance cells m w
+aimed : (at : Objects) (l : Ledger) (cells : List ℕ) → HasRecords at l cells → (e : Prefix) (m : Aim) → Anchored at l e m → (w : Word) → w ≡ aim_word at m → IsAimed at.balance (adjacency_end cells) m w
 aimed at l cells records e (aims.Ends end) anchored w is = end_aimed at l cells records e end anchored w is
 aimed at l cells records e (aims.On t) anchored w is =
     let x = some_of (at.balance t) anchored in
     (x.0, is ∙ ap to_balance x.1, x.1)
 
 -- first point
-pub keeps_buckets : (J : List Tables) (at : Objects) (l : Ledger) (cells : List ℕ) → HasRecords at l cells → IsSteadyStack J at l cells → KeepsBuckets J at.balance cells
+pub keeps_buckets : (J : List Tables) (at : Objects) (l : Ledger) (cells : List ℕ) → HasRecords at l cells → IsSteadyStack J at l cells → KeepsCells J at.balance cells
 keeps_buckets J at l cells records steady = record {
   named = λ e lasting. some_of (at.balance e) (steady.named e lasting);
+  held = λ e o lasting is. tt;
   aimed = λ e o k m lasting is lt alike.
       let h = steady.holding e k m lt lasting alike in
       let same : h.object ≡ o = some_same h.object o (at.balance e) h.here is in

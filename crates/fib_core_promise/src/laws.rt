@@ -14,7 +14,7 @@ ghost use Rattle.fib_resolve.specs.declared.aims.Aim.TheVariants as aims;
 ghost use Rattle.fib_resolve.specs.declared.aims.Marked.{Marked};
 ghost use Rattle.fib_core_steady.specs.Aims.{IsLasting};
 ghost use Rattle.fib_core_steady.specs.Names.{Names};
-ghost use Rattle.fib_core_steady.specs.Promise.{IsPromised, KeepsBuckets};
+ghost use Rattle.fib_core_steady.specs.Promise.{IsPromised, KeepsCells};
 ghost use Rattle.fib_core_steady.specs.Loose.{IsLoose};
 ghost use Rattle.fib_core_promise.specs.Matches.{FitsVersions, IsSometime, Promised, added, best_block, look_of, removed};
 ghost use Rattle.fib_core_promise.specs.Stack.{HasRecords, IsSteadyStack, Ledger, Objects};
@@ -49,7 +49,7 @@ pub fn and_as_a_prefix_leaves()
 pub fn a_steady_stack_keeps_buckets()
     ensures { (J : List Tables) (objects : Objects) (ledger : Ledger) (cells : List ℕ)
         → HasRecords objects ledger cells → IsSteadyStack J objects ledger cells
-        → KeepsBuckets J objects.balance cells }
+        → KeepsCells J objects.balance cells }
 {}
 
 /// A turn of an entry keeps it.

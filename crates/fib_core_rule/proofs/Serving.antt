@@ -14,7 +14,7 @@ use Rattle.fib_core.proofs.Numbers.{decoded-zero}
 use Rattle.fib_core_lawful.specs.State.{Control, fresh_marks, put, looked}
 use Rattle.fib_resolve.specs.declared.aims.Aim.TheVariants as aims
 use Rattle.fib_core_steady.specs.Aims.{IsLasting, WantsAlike}
-use Rattle.fib_core_steady.specs.Promise.{KeepsBuckets}
+use Rattle.fib_core_steady.specs.Promise.{KeepsCells}
 use Rattle.fib_core_steady.proofs.Hanging.{IsAside}
 use Rattle.fib_core_steady.proofs.Storing.{aside_stored}
 use Rattle.fib_core_steady.proofs.Events.{promised_scans}
@@ -59,6 +59,6 @@ put_steadily c Held k w ok begun = (let n = ok begun in (n.0, n.1, n.3))
 not_received : (w : Word) → w ≡ words.Drop → w ≡ words.Receive → ⊥
 not_received w e f = cc
 
-pub clearing_breaks : (J : List Tables) (balances : Prefix → Option ℕ) (cells : List ℕ) (e : Prefix) (o s : ℕ) → s < 16 → 16 * o + s < length cells → IsLasting J e → balances e ≡ Some o → WantsAlike J e s (aims.Ends answers.Receive) → KeepsBuckets J balances (slice_set cells (16 * o + s) 0) → ⊥
+pub clearing_breaks : (J : List Tables) (balances : Prefix → Option ℕ) (cells : List ℕ) (e : Prefix) (o s : ℕ) → s < 16 → 16 * o + s < length cells → IsLasting J e → balances e ≡ Some o → WantsAlike J e s (aims.Ends answers.Receive) → KeepsCells J balances (slice_set cells (16 * o + s) 0) → ⊥
 clearing_breaks J balances cells e o s lt room lasting is alike ok =
     not_received (word_at (slice_set cells (16 * o + s) 0) o s) (ap decoded (get_or-set_same cells (16 * o + s) 0 0 room) ∙ decoded-zero) (ok.aimed e o s (aims.Ends answers.Receive) lasting is lt alike)

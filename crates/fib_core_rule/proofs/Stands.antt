@@ -32,7 +32,7 @@ use Rattle.fib_resolve.proofs.Taken.{IsWanted}
 use Rattle.fib_core.specs.declared.word.Word.TheVariants as words
 use Rattle.fib_union.specs.Unions.{owner}
 use Rattle.fib_core.specs.Words.{decoded}
-use Rattle.fib_core.specs.Walk.{word_at}
+use Rattle.fib_core.specs.Walk.{word_at, adjacency_end}
 use Rattle.fib_core.specs.Union.{Retired, Union, AnyOf, Goes}
 use Rattle.fib_core.specs.StandsFor.{Thing, ply_of, balance_of, adjacency_of, IsCounted, below, covering, kind_word, bucket_word, mac_word, adjacency_word, thing_word, StandsFor}
 use Rattle.fib_core.proofs.Numbers.{decoded-zero, cell_of}
@@ -42,7 +42,8 @@ use Rattle.fib_core_stands.proofs.Nibbles.{ply_root, covering_best, no_longer}
 use Rattle.fib_resolve.specs.declared.aims.Aim.{Aim}
 use Rattle.fib_resolve.specs.Aims.{path_aim, kind_aim, aim}
 use Rattle.fib_core_steady.specs.Names.{Names, IsChild, IsWalked}
-use Rattle.fib_core_steady.specs.Promise.{IsEndWord, IsAimed, IsRight, KeepsBuckets, IsPromised}
+use Rattle.fib_core_steady.specs.Promise.{IsEndWord, IsAimed, IsRight, KeepsCells, IsPromised}
+use Rattle.fib_core_steady.proofs.Edges.{ways_by}
 use Rattle.fib_core_steady.proofs.Ways.{Leads, leads, best_is_entry}
 use Rattle.fib_core_rule.proofs.Named.{ply_at, depth_of, path_of, names_of}
 
@@ -132,11 +133,11 @@ module _ (u : Union) (names : Thing → ℕ) (S : Tables) (quiet : u.retired ≡
   this : Contains (S ∷ []) S
   this = (0, omega arith, refl)
 
-  attached_aimed : (e : Prefix) (i : ℕ) (b : Bool) → (b ≡ true → Contains (adjacencies S) (record { interface = i; next_hop = e.bits })) → IsEndWord u.cells (if b then hop_end S i e.bits else answers.Glean i) (if b then words.ToAdjacency (names (adjacency_of (record { interface = i; next_hop = e.bits }))) else words.Glean i)
+  attached_aimed : (e : Prefix) (i : ℕ) (b : Bool) → (b ≡ true → Contains (adjacencies S) (record { interface = i; next_hop = e.bits })) → IsEndWord (adjacency_end u.cells) (if b then hop_end S i e.bits else answers.Glean i) (if b then words.ToAdjacency (names (adjacency_of (record { interface = i; next_hop = e.bits }))) else words.Glean i)
   attached_aimed e i true listed = (names (adjacency_of (record { interface = i; next_hop = e.bits })), refl, adjacency_says u.cells names S stands i e.bits (listed refl))
   attached_aimed e i false listed = refl
 
-  kind_aimed : (e : Prefix) (p : Path) (kind : PathKind) → p.kind ≡ kind → IsWanted S e p → Leads S e kind → IsAimed (names_of names S).balance u.cells (kind_aim S e kind) (kind_word names S e kind)
+  kind_aimed : (e : Prefix) (p : Path) (kind : PathKind) → p.kind ≡ kind → IsWanted S e p → Leads S e kind → IsAimed (names_of names S).balance (adjacency_end u.cells) (kind_aim S e kind) (kind_word names S e kind)
   kind_aimed e p kinds.Drop is t l = refl
   kind_aimed e p kinds.Local is t l = refl
   kind_aimed e p (kinds.Attached i) is t l = attached_aimed e i (e.len == 32) (λ host_is. adjacency_listed S e p (record { interface = i; next_hop = e.bits }) t.0 (rw is (rw host_is (first_in (record { interface = i; next_hop = e.bits }) []))))
@@ -144,24 +145,25 @@ module _ (u : Union) (names : Thing → ℕ) (S : Tables) (quiet : u.retired ≡
   kind_aimed e p (kinds.Recursive a) is t l = (names (balance_of (host a)), refl, balance_is (host a) l)
   kind_aimed e p kinds.Cover is t l = (names (balance_of (cover S e.bits)), refl, balance_is (cover S e.bits) l)
 
-  path_aimed : (e : Prefix) (o : Option Path) → IfSome o (IsWanted S e) → IfSome o (λ p. Leads S e p.kind) → IsAimed (names_of names S).balance u.cells (path_aim S e o) (bucket_word names S e o)
+  path_aimed : (e : Prefix) (o : Option Path) → IfSome o (IsWanted S e) → IfSome o (λ p. Leads S e p.kind) → IsAimed (names_of names S).balance (adjacency_end u.cells) (path_aim S e o) (bucket_word names S e o)
   path_aimed e None t l = refl
   path_aimed e (Some p) t l = kind_aimed e p p.kind refl t l
 
-  bucket_aimed : (e : Prefix) (k : ℕ) → Contains (entries S) e → k < 16 → IsAimed (names_of names S).balance u.cells (aim S e k) (word_at u.cells (names (balance_of e)) k)
+  bucket_aimed : (e : Prefix) (k : ℕ) → Contains (entries S) e → k < 16 → IsAimed (names_of names S).balance (adjacency_end u.cells) (aim S e k) (word_at u.cells (names (balance_of e)) k)
   unfolding aim
-  bucket_aimed e k c lt = subst (IsAimed (names_of names S).balance u.cells (path_aim S e (slice_get (wanted S e) k))) (sym (stands.holds (balance_of e) k c lt)) (path_aimed e (slice_get (wanted S e) k) (at_bucket S e k) (leads S e k))
+  bucket_aimed e k c lt = subst (IsAimed (names_of names S).balance (adjacency_end u.cells) (path_aim S e (slice_get (wanted S e) k))) (sym (stands.holds (balance_of e) k c lt)) (path_aimed e (slice_get (wanted S e) k) (at_bucket S e k) (leads S e k))
 
   some_balance : (x y : ℕ) (o : Option ℕ) → o ≡ Some x → o ≡ Some y → x ≡ y
   some_balance x y o p q = cc
 
-  pub keeps_buckets : KeepsBuckets (S ∷ []) (names_of names S).balance u.cells
+  pub keeps_buckets : KeepsCells (S ∷ []) (names_of names S).balance u.cells
   keeps_buckets = record {
     named = λ e lasting. (names (balance_of e), balance_is e (lasting S this));
+    held = λ e o lasting is. tt;
     aimed = λ e o k m lasting is lt alike.
         let c = lasting S this in
         let same : names (balance_of e) ≡ o = some_balance (names (balance_of e)) o ((names_of names S).balance e) (balance_is e c) is in
-        subst (λ (i : ℕ). IsAimed (names_of names S).balance u.cells m (word_at u.cells i k)) same (subst (λ (w : Aim). IsAimed (names_of names S).balance u.cells w (word_at u.cells (names (balance_of e)) k)) (alike S this) (bucket_aimed e k c lt));
+        subst (λ (i : ℕ). IsAimed (names_of names S).balance (adjacency_end u.cells) m (word_at u.cells i k)) same (subst (λ (w : Aim). IsAimed (names_of names S).balance (adjacency_end u.cells) w (word_at u.cells (names (balance_of e)) k)) (alike S this) (bucket_aimed e k c lt));
   }
 
   -- second point
@@ -323,11 +325,11 @@ module _ (u : Union) (names : Thing → ℕ) (S : Tables) (quiet : u.retired ≡
     stands_promised = record {
       buckets = keeps_buckets;
       plies = record {
-        root = (
+        ways = ways_by (names_of names S) u (
           ap (names_of names S).depth (sym stands.root) ∙ ap depth_of (at_ply everything (ply_root S)),
           ap (names_of names S).value (sym stands.root) ∙ ap path_of (at_ply everything (ply_root S)),
-        );
-        paths = edge_child;
+        )
+            edge_child;
         right = right_cell;
       };
     }

@@ -6,10 +6,11 @@ use Rattle.fib_union.specs.Unions.{owner}
 use Rattle.fib_core.specs.Union.{Union, PlyEdge}
 use Rattle.fib_core_steady.specs.Names.{Names, IsChild}
 use Rattle.fib_core_steady.specs.Promise.{KeepsPlies}
+use Rattle.fib_core_steady.proofs.Edges.{child_of}
 
 module _ (J : List Tables) (n : Names) (u : Union) (ok : KeepsPlies J n u) where
   edge_depth : (x y : ℕ) → PlyEdge u x y → (n.depth y ≡ n.depth x + 1) × (n.depth y ≤ 7)
-  edge_depth x y (k, w, from, is, g) = let child = ok.paths k w y g is in (child.0 ∙ ap (λ i. n.depth i + 1) from, child.2)
+  edge_depth x y (k, w, from, is, g) = let child = child_of n u ok.ways k w y g is in (child.0 ∙ ap (λ i. n.depth i + 1) from, child.2)
 
   walk_depth : (m x y : ℕ) → n.depth x ≤ 7 → Walk (PlyEdge u) m x y → (n.depth y ≡ n.depth x + m) × (n.depth y ≤ 7)
   walk_depth zero x y low walk = let none : n.depth x ≡ n.depth x + 0 = omega arith in (ap n.depth (sym walk) ∙ none, subst (λ i. n.depth i ≤ 7) walk low)
@@ -22,7 +23,7 @@ module _ (J : List Tables) (n : Names) (u : Union) (ok : KeepsPlies J n u) where
 
   pub shallow_by_names : (k c a b y : ℕ) → IsChild n (owner k) (k % 16) c → Walk (PlyEdge u) a 0 (owner k) → Walk (PlyEdge u) b c y → a + 1 + b ≤ 7
   shallow_by_names k c a b y child above below =
-      let root : n.depth 0 ≡ 0 = ok.root.0 in
+      let root : n.depth 0 ≡ 0 = ok.ways.root.0 in
       let low : n.depth 0 ≤ 7 = omega arith in
       let to : n.depth (owner k) ≡ n.depth 0 + a = (walk_depth a 0 (owner k) low above).0 in
       let next : n.depth c ≡ n.depth (owner k) + 1 = child.0 in

@@ -25,6 +25,7 @@ use Rattle.fib_core.proofs.Unions.{goes-scanned}
 use Rattle.fib_core_steady.specs.Names.{Names, IsWalked}
 use Rattle.fib_core_steady.specs.Promise.{IsRight, IsPromised}
 use Rattle.fib_core_steady.specs.Undisturbed.{since, WayAlike, IsOnWay, IsUndisturbed, IsCurrent, IsSteadyTrail}
+use Rattle.fib_core_steady.proofs.Edges.{child_of, ways_by}
 use Rattle.fib_core_steady.proofs.Lists.{some_same, place_of, from_place, get_longer}
 use Rattle.fib_core_steady.proofs.Standing.{flow}
 use Rattle.fib_core_steady.proofs.Loading.{load_on_way}
@@ -68,9 +69,10 @@ module _ (J K : List Tables) (more : (S : Tables) → Contains J S → Contains 
   asks_less ok = record {
     buckets = record {
       named = λ e lasting. ok.buckets.named e (λ S c. lasting S (more S c));
+      held = λ e o lasting is. tt;
       aimed = λ e o k m lasting is lt alike. ok.buckets.aimed e o k m (λ S c. lasting S (more S c)) is lt (λ S c. alike S (more S c));
     };
-    plies = record { root = ok.plies.root; paths = ok.plies.paths; right = λ x s walked lt. fewer_right x s (word_at u.cells x s) (ok.plies.right x s walked lt) };
+    plies = record { ways = ok.plies.ways; right = λ x s walked lt. fewer_right x s (word_at u.cells x s) (ok.plies.right x s walked lt) };
   }
 
 -- a version begins
@@ -153,5 +155,9 @@ module _ (J : List Tables) (n : Names) (u : Union) (number found : ℕ) where
   pub promised_scans : IsPromised J n u → IsPromised J n (scanned u number found)
   promised_scans ok = record {
     buckets = ok.buckets;
-    plies = record { root = ok.plies.root; paths = λ k w c g is. ok.plies.paths k w c (goes-scanned u number found k w g) is; right = λ x s walked lt. ok.plies.right x s (walked_scanned x walked) lt };
+    plies = record {
+      ways = ways_by n (scanned u number found) ok.plies.ways.root
+          (λ k w c g is. child_of n u ok.plies.ways k w c (goes-scanned u number found k w g) is);
+      right = λ x s walked lt. ok.plies.right x s (walked_scanned x walked) lt;
+    };
   }

@@ -11,7 +11,7 @@ use Rattle.fib_resolve.specs.declared.types.Tables.{Tables}
 use Rattle.fib_core.specs.declared.word.Word.{Word}
 use Rattle.fib_core.specs.declared.word.Word.TheVariants as words
 use Rattle.fib_core.specs.Words.{decoded}
-use Rattle.fib_core.specs.Walk.{Place, ply, balance, adjacency, ended, asked, halved, next, deeper, from_ply, from_balance, word_at, hop_of, ReadsWhole}
+use Rattle.fib_core.specs.Walk.{Place, ply, balance, adjacency, ended, asked, halved, next, deeper, from_ply, from_balance, word_at, adjacency_end, hop_of, ReadsWhole}
 use Rattle.fib_core.specs.Union.{Union, Lies}
 use Rattle.fib_core.specs.Trails.{Load, Walked, place, IsGoing, Follows}
 use Rattle.fib_core_steady.specs.Aims.{way_from, shown, shown_by, IsLasting, WantsAlike, BestAlike}
@@ -27,14 +27,14 @@ mod_small : (n : ℕ) → n % 16 < 16
 mod_small n = omega arith
 
 -- a word that ends a packet where the way ends
-end_word : (balances : Prefix → Option ℕ) (cells : List ℕ) (trip : Trip) (k : ℕ) (end : End) (w : Word) → end ≡ trip.end → IsEndWord cells end w → IsOnWay balances cells trip (from_balance k w)
+end_word : (balances : Prefix → Option ℕ) (cells : List ℕ) (trip : Trip) (k : ℕ) (end : End) (w : Word) → end ≡ trip.end → IsEndWord (adjacency_end cells) end w → IsOnWay balances cells trip (from_balance k w)
 end_word balances cells trip k answers.Drop w is word = subst (λ (z : Word). IsOnWay balances cells trip (from_balance k z)) (sym word) is
 end_word balances cells trip k answers.Receive w is word = subst (λ (z : Word). IsOnWay balances cells trip (from_balance k z)) (sym word) is
 end_word balances cells trip k (answers.Glean i) w is word = subst (λ (z : Word). IsOnWay balances cells trip (from_balance k z)) (sym word) is
 end_word balances cells trip k (answers.Hop i a m) w is word = subst (λ (z : Word). IsOnWay balances cells trip (from_balance k z)) (sym word.1) (word.2 ∙ is)
 
 -- a word that does what the way shows
-shown_word : (balances : Prefix → Option ℕ) (cells : List ℕ) (trip : Trip) (k : ℕ) (w : Word) (step : Step) (steps : List Step) → drop (suc k) trip.steps ≡ steps → IsAimed balances cells (shown_by (step ∷ steps) trip.end) w → IsOnWay balances cells trip (from_balance k w)
+shown_word : (balances : Prefix → Option ℕ) (cells : List ℕ) (trip : Trip) (k : ℕ) (w : Word) (step : Step) (steps : List Step) → drop (suc k) trip.steps ≡ steps → IsAimed balances (adjacency_end cells) (shown_by (step ∷ steps) trip.end) w → IsOnWay balances cells trip (from_balance k w)
 shown_word balances cells trip k w step [] is word = end_word balances cells trip k trip.end w refl word
 shown_word balances cells trip k w step (s ∷ steps) is word = subst (λ (z : Word). IsOnWay balances cells trip (from_balance k z)) (sym word.1) (s, at_drop trip.steps (suc k) s steps is, word.2)
 

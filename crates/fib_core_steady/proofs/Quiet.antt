@@ -46,7 +46,7 @@ module _ (J : List Tables) (now : Tables) (here : Contains J now) (sound : (S : 
   ends_alike p e s arrives = subst (IsOnWay n.balance u.cells trip) arrives.1 (steps arrives.0 p s).1
 
   pub root_stands : Stands root
-  root_stands = ((inl refl, ok.plies.root.0, below_all a serves.0 ∙ sym ok.plies.root.1), tt)
+  root_stands = ((inl refl, ok.plies.ways.root.0, below_all a serves.0 ∙ sym ok.plies.ways.root.1), tt)
 
   pub trail_stands : (t : List Load) → Walked (Lies u) t → Follows a h t → IsOnWay n.balance u.cells trip (place t) → Stands (place t)
   trail_stands t walked follows stands = (ply_here J n u ok.plies a h t walked follows, stands)

@@ -7,7 +7,7 @@ use Rattle.fib_resolve.specs.Tables.{IsSound}
 use Rattle.fib_resolve.specs.declared.types.Tables.{Tables}
 use Rattle.fib_core.specs.declared.word.Word.{Word}
 use Rattle.fib_core.specs.declared.word.Word.TheVariants as words
-use Rattle.fib_core.specs.Walk.{Place, ply, balance, adjacency, ended, halved, word_at}
+use Rattle.fib_core.specs.Walk.{Place, ply, balance, adjacency, ended, halved, word_at, adjacency_end}
 use Rattle.fib_core.specs.Union.{Union}
 use Rattle.fib_core_steady.specs.Aims.{shown_by, BestAlike}
 use Rattle.fib_core_steady.specs.Names.{Names, IsIn}
@@ -60,7 +60,7 @@ module _ (J : List Tables) (n m : Names) (u : Union) (ok : IsPromised J n u) (al
       by_word e x d le alike p q (λ c p' q'. meet left c (suc d) e total' alike p' q') (word_at u.cells x (nibble a d)) refl (ok.plies.right x (nibble a d) p.0 (nibble_small a d)) (also.plies.right x (nibble a d) q.0 (nibble_small a d))
 
   at_root : (k : Names) → KeepsPlies J k u → IsPlyOf k u a (ply 0 0)
-  at_root k keeps = (inl refl, keeps.root.0, below_all a fits ∙ sym keeps.root.1)
+  at_root k keeps = (inl refl, keeps.ways.root.0, below_all a fits ∙ sym keeps.ways.root.1)
 
   module _ (now : Tables) (here : Contains J now) (sound : (S : Tables) → Contains J S → IsSound S) (trip : Trip) (alike : WayAlike J a h trip) where
     pub agree : (k : ℕ) (step : Step) → slice_get trip.steps k ≡ Some step → Agree n m step.entry
@@ -78,8 +78,8 @@ module _ (J : List Tables) (n m : Names) (u : Union) (ok : IsPromised J n u) (al
         let aim_n = ok.buckets.aimed last.0.entry x (halved h k % 16) (shown_by (last.0 ∷ drop (suc k) trip.steps) trip.end) stays agreed.1 (mod_small (halved h k)) alike' in
         let aim_m = also.buckets.aimed last.0.entry x (halved h k % 16) (shown_by (last.0 ∷ drop (suc k) trip.steps) trip.end) stays agreed.2 (mod_small (halved h k)) alike' in
         let more = drop_at trip.steps (suc k) step at in
-        let to_n = subst (λ (steps : List Step). IsAimed n.balance u.cells (shown_by (last.0 ∷ steps) trip.end) w) more aim_n in
-        let to_m = subst (λ (steps : List Step). IsAimed m.balance u.cells (shown_by (last.0 ∷ steps) trip.end) w) more aim_m in
+        let to_n = subst (λ (steps : List Step). IsAimed n.balance (adjacency_end u.cells) (shown_by (last.0 ∷ steps) trip.end) w) more aim_n in
+        let to_m = subst (λ (steps : List Step). IsAimed m.balance (adjacency_end u.cells) (shown_by (last.0 ∷ steps) trip.end) w) more aim_m in
         (to_n.0, to_n.2, subst (λ (o : ℕ). m.balance step.entry ≡ Some o) (sym (balance_same to_n.0 to_m.0 w to_n.1 to_m.1)) to_m.2)
 
     pub renamed : (at : Place) → IsOnWay n.balance u.cells trip at → IsOnWay m.balance u.cells trip at

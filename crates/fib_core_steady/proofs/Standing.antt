@@ -15,6 +15,7 @@ use Rattle.fib_core.specs.Trails.{Load, Walked, place, Follows}
 use Rattle.fib_core.proofs.Numbers.{goes_of, owner_of}
 use Rattle.fib_core_steady.specs.Names.{Names, IsBelow, IsChild, IsWalked}
 use Rattle.fib_core_steady.specs.Promise.{KeepsPlies}
+use Rattle.fib_core_steady.proofs.Edges.{child_of}
 use Rattle.fib_core_steady.proofs.Blocks.{below_next, below_all, nibble_small}
 
 pub flow : (a h : ℕ) (t : List Load) → Follows a h t → IsFlow a h
@@ -36,15 +37,15 @@ slot_of x a d = modulo x (nibble a d) (nibble_small a d)
 
 module _ (J : List Tables) (n : Names) (u : Union) (ok : KeepsPlies J n u) (a h : ℕ) where
   pub walked_depth : (x : ℕ) → IsWalked u x → n.depth x ≤ 7
-  walked_depth x (inl is) = let zero_deep : n.depth x ≡ 0 = ap n.depth is ∙ ok.root.0 in omega arith
-  walked_depth x (inr (y, (k, w, from, is, g))) = (ok.paths k w x g is).2
+  walked_depth x (inl is) = let zero_deep : n.depth x ≡ 0 = ap n.depth is ∙ ok.ways.root.0 in omega arith
+  walked_depth x (inr (y, (k, w, from, is, g))) = (child_of n u ok.ways k w x g is).2
 
   -- an edge on the address's way leads to a ply of its path
   pub ply_of_child : (x d k w c : ℕ) → k ≡ 16 * x + nibble a d → decoded w ≡ words.ToPly c → Goes u k w → IsPlyOf n u a (ply x d) → (d + 1 ≤ 7) × IsPlyOf n u a (ply c (suc d))
   ply_of_child x d k w c at is g here =
       let from : owner k ≡ x = ap owner at ∙ owner_of x (nibble a d) (nibble_small a d) in
       let slot : k % 16 ≡ nibble a d = ap (λ i. i % 16) at ∙ slot_of x a d in
-      let child : IsChild n (owner k) (k % 16) c = ok.paths k w c g is in
+      let child : IsChild n (owner k) (k % 16) c = child_of n u ok.ways k w c g is in
       let deep : n.depth c ≡ d + 1 = child.0 ∙ ap (λ i. n.depth i + 1) from ∙ ap (λ i. i + 1) here.1 in
       let more : d + 1 ≡ suc d = omega arith in
       let le : d + 1 ≤ 7 = subst (λ (i : ℕ). i ≤ 7) deep child.2 in
@@ -87,7 +88,7 @@ module _ (J : List Tables) (n : Names) (u : Union) (ok : KeepsPlies J n u) (a h 
   next_place (ended e) l is lies here = tt
 
   pub ply_here : (t : List Load) → Walked (Lies u) t → Follows a h t → IsPlyOf n u a (place t)
-  ply_here [] walked follows = (inl refl, ok.root.0, below_all a follows.0 ∙ sym ok.root.1)
+  ply_here [] walked follows = (inl refl, ok.ways.root.0, below_all a follows.0 ∙ sym ok.ways.root.1)
   ply_here (l ∷ t) walked follows = next_place (place t) l follows.0 walked.1 (ply_here t walked.2 follows.2)
 
   -- a ply's cell as it is

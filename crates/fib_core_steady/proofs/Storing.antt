@@ -21,7 +21,8 @@ use Rattle.fib_resolve.specs.declared.aims.Aim.TheVariants as aims
 use Rattle.fib_core_steady.specs.Aims.{IsLasting, WantsAlike}
 use Rattle.fib_core_steady.specs.Names.{Names, IsChild, IsWalked}
 use Rattle.fib_core_steady.specs.Loose.{IsLoose}
-use Rattle.fib_core_steady.specs.Promise.{IsEndWord, IsAimed, KeepsBuckets, IsRight, IsPromised}
+use Rattle.fib_core_steady.specs.Promise.{IsEndWord, IsAimed, KeepsCells, IsRight, IsPromised}
+use Rattle.fib_core_steady.proofs.Edges.{child_of, ways_by}
 
 -- the store is into none of an adjacency into which the union leads
 abbrev pub IsBeside : Union → ℕ → Type 0
@@ -50,22 +51,23 @@ module _ (J : List Tables) (n : Names) (u : Union) (keep : Bool) (fresh : List M
   same_adjacency : (o s x : ℕ) → word_at u.cells o s ≡ words.ToAdjacency x → adjacency_end (slice_set u.cells k w) x ≡ adjacency_end u.cells x
   same_adjacency o s x is = adjacency_stored u.cells k w x (beside (16 * o + s) (slice_index u.cells (16 * o + s)) x (goes_of (slice_index u.cells (16 * o + s)) (words.ToAdjacency x) is, inl refl) is)
 
-  same_end : (o s : ℕ) (end : End) → IsEndWord u.cells end (word_at u.cells o s) → IsEndWord (slice_set u.cells k w) end (word_at u.cells o s)
+  same_end : (o s : ℕ) (end : End) → IsEndWord (adjacency_end u.cells) end (word_at u.cells o s) → IsEndWord (adjacency_end (slice_set u.cells k w)) end (word_at u.cells o s)
   same_end o s answers.Drop is = is
   same_end o s answers.Receive is = is
   same_end o s (answers.Glean i) is = is
   same_end o s (answers.Hop i a m) is = (is.0, is.1, same_adjacency o s is.0 is.1 ∙ is.2)
 
-  same_aim : (o s : ℕ) (m : Aim) → IsAimed n.balance u.cells m (word_at u.cells o s) → IsAimed n.balance (slice_set u.cells k w) m (word_at u.cells o s)
+  same_aim : (o s : ℕ) (m : Aim) → IsAimed n.balance (adjacency_end u.cells) m (word_at u.cells o s) → IsAimed n.balance (adjacency_end (slice_set u.cells k w)) m (word_at u.cells o s)
   same_aim o s (aims.Ends end) is = same_end o s end is
   same_aim o s (aims.On t) is = is
 
-  pub buckets_kept : IsLoose J n.balance k → KeepsBuckets J n.balance u.cells → KeepsBuckets J n.balance (slice_set u.cells k w)
+  pub buckets_kept : IsLoose J n.balance k → KeepsCells J n.balance u.cells → KeepsCells J n.balance (slice_set u.cells k w)
   buckets_kept loose ok = record {
     named = ok.named;
+    held = λ e o lasting is. tt;
     aimed = λ e o s m lasting is lt alike. dite (ℕ_discrete (16 * o + s) k)
         (λ same. let at = cell_is k o s lt same in absurd (loose e m lasting (is ∙ ap Some (sym at.0)) (subst (λ i. WantsAlike J e i m) (sym at.1) alike)))
-        (λ ne. subst (IsAimed n.balance (slice_set u.cells k w) m) (sym (other_cell u.cells k w o s ne)) (same_aim o s m (ok.aimed e o s m lasting is lt alike)));
+        (λ ne. subst (IsAimed n.balance (adjacency_end (slice_set u.cells k w)) m) (sym (other_cell u.cells k w o s ne)) (same_aim o s m (ok.aimed e o s m lasting is lt alike)));
   }
 
   abbrev After : Union
@@ -84,11 +86,10 @@ module _ (J : List Tables) (n : Names) (u : Union) (keep : Bool) (fresh : List M
   bucket_stored loose apart none ok = record {
     buckets = buckets_kept loose ok.buckets;
     plies = record {
-      root = ok.plies.root;
-      paths = λ j v c g is. ⊎_elim
-          (λ (old : Goes u j v). ok.plies.paths j v c old is)
+      ways = ways_by n After ok.plies.ways.root (λ j v c g is. ⊎_elim
+          (λ (old : Goes u j v). child_of n u ok.plies.ways j v c old is)
           (λ (new : (j ≡ k) × (v ≡ w)). absurd (none c (ap decoded (sym new.1) ∙ is)))
-          (goes_stored keep fresh u k w j v g);
+          (goes_stored keep fresh u k w j v g));
       right = λ x s walked lt.
           let before = walked_before none x walked in
           subst (IsRight J n x s) (sym (other_cell u.cells k w x s (λ e. apart (subst (IsWalked u) (sym (cell_is k x s lt e).0) before)))) (ok.plies.right x s before lt);
@@ -104,11 +105,10 @@ module _ (J : List Tables) (n : Names) (u : Union) (keep : Bool) (fresh : List M
   ply_stored room apart child here ok = record {
     buckets = buckets_kept (λ e m lasting is alike. apart e lasting is) ok.buckets;
     plies = record {
-      root = ok.plies.root;
-      paths = λ j v c g is. ⊎_elim
-          (λ (old : Goes u j v). ok.plies.paths j v c old is)
+      ways = ways_by n After ok.plies.ways.root (λ j v c g is. ⊎_elim
+          (λ (old : Goes u j v). child_of n u ok.plies.ways j v c old is)
           (λ (new : (j ≡ k) × (v ≡ w)). subst (λ (i : ℕ). IsChild n (owner i) (i % 16) c) (sym new.0) (child c (ap decoded (sym new.1) ∙ is)).0)
-          (goes_stored keep fresh u k w j v g);
+          (goes_stored keep fresh u k w j v g));
       right = λ x s walked lt. dite (ℕ_discrete (16 * x + s) k)
           (λ same. let at = cell_is k x s lt same in
           let word : word_at (slice_set u.cells k w) x s ≡ decoded w = ap (λ i. decoded (slice_index (slice_set u.cells k w) i)) same ∙ this_cell u.cells k w room in

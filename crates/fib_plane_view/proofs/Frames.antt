@@ -11,8 +11,9 @@ use Rattle.fib_core.specs.declared.word.Word.{Word}
 use Rattle.fib_core.specs.declared.word.Word.TheVariants as words
 use Rattle.fib_pool.specs.declared.object.Kind.TheVariants as kinds
 use Rattle.fib_plane_view.specs.declared.put.Put.{Put}
-use Rattle.fib_plane_view.specs.View.{View, Kinds, IsLive, IsBalance, IsPut, IsTaken, IsLetGo}
-use Rattle.fib_plane_view.specs.Promise.{IsEndWord, IsAimed, KeepsBuckets}
+use Rattle.fib_plane_view.specs.View.{View, Kinds, IsLive, IsBalance, IsPut, IsTaken, IsLetGo, adjacency_end}
+use Rattle.fib_plane_view.specs.Promise.{KeepsBuckets}
+use Rattle.fib_core_steady.specs.Promise.{IsEndWord, IsAimed}
 use Rattle.fib_plane_view.specs.Frames.{Beside}
 
 -- an adjacency to which a cell leads is in use
@@ -73,7 +74,7 @@ beside_let_go u v c is go = record {
     same y k b = go.swept.cells y k (inr (inl (held y b)))
 
 module _ (u v : View) (beside : Beside u v) where
-  end_kept : (o k : ℕ) → IsBalance u o → (end : End) → IsEndWord u end (u.cell o k) → IsEndWord v end (v.cell o k)
+  end_kept : (o k : ℕ) → IsBalance u o → (end : End) → IsEndWord (adjacency_end u) end (u.cell o k) → IsEndWord (adjacency_end v) end (v.cell o k)
   end_kept o k b answers.Drop h = beside.cells o k b ∙ h
   end_kept o k b answers.Receive h = beside.cells o k b ∙ h
   end_kept o k b (answers.Glean i) h = beside.cells o k b ∙ h
@@ -85,7 +86,7 @@ module _ (u v : View) (beside : Beside u v) where
         ∙ ap (λ w. hop_of (u.cell h.0 0) (u.cell h.0 1) w) (beside.adjacencies o k h.0 2 b h.1) ∙ h.2,
   )
 
-  aim_kept : (balances : Prefix → Option ℕ) (o k : ℕ) → IsBalance u o → (m : Aim) → IsAimed balances u m (u.cell o k) → IsAimed balances v m (v.cell o k)
+  aim_kept : (balances : Prefix → Option ℕ) (o k : ℕ) → IsBalance u o → (m : Aim) → IsAimed balances (adjacency_end u) m (u.cell o k) → IsAimed balances (adjacency_end v) m (v.cell o k)
   aim_kept balances o k b (aims.Ends end) h = end_kept o k b end h
   aim_kept balances o k b (aims.On e) h = (h.0, beside.cells o k b ∙ h.1, h.2)
 

@@ -2,16 +2,15 @@
 use Rattle.std.specs.Prelude.{◌≡◌, ◌≢◌, ℕ, ◌<◌, ◌⊎◌, Bool, true, List, Option, Some, Contains}
 use Rattle.fib_addr.specs.Prefixes.{Prefix}
 use Rattle.fib_resolve.specs.Resolution.{ends}
-use Rattle.fib_resolve.specs.declared.aims.Aim.{Aim}
-use Rattle.fib_resolve.specs.declared.aims.Aim.TheVariants as aims
 use Rattle.fib_resolve.specs.declared.types.End.{End}
 use Rattle.fib_resolve.specs.declared.types.End.TheVariants as answers
 use Rattle.fib_resolve.specs.declared.types.Tables.{Tables}
 use Rattle.fib_core.specs.declared.word.Word.{Word}
 use Rattle.fib_core.specs.declared.word.Word.TheVariants as words
-use Rattle.fib_core_steady.specs.Aims.{IsLasting, WantsAlike}
-use Rattle.fib_core_steady.specs.Names.{Names, IsChild}
-use Rattle.fib_core_steady.specs.Promise.{IsRight}
+use Rattle.fib_core_steady.specs.Aims.{IsLasting}
+use Rattle.fib_core_steady.specs.Names.{Names}
+use Rattle.fib_core_steady.specs.Promise as steady
+use Rattle.fib_core_steady.specs.Promise.{SendsRight}
 use Rattle.fib_core_board.specs.Boards.{Board}
 use Rattle.fib_plane_view.specs.declared.put.Put.{Put}
 use Rattle.fib_plane_view.specs.View.{View, Goes, IsBalance, IsPut, adjacency_end}
@@ -38,32 +37,16 @@ abbrev pub IsWalked : View → ℕ → Type 0
 IsWalked u x = (x ≡ 0) ⊎ ((y : ℕ) × (t : ℕ) × Goes u y t (words.ToPly x))
 
 -- each ply has one nibble path, by which alone edges lead to it
-pub record HasPaths (n : Names) (u : View) : Type 0 where
-  pub root : (n.depth 0 ≡ 0) × (n.value 0 ≡ 0)
-  pub paths : (x s c : ℕ) → Goes u x s (words.ToPly c) → IsChild n x s c
-
--- the word ends a packet there
-abbrev pub IsEndWord : View → End → Word → Type 0
-IsEndWord u answers.Drop w = w ≡ words.Drop
-IsEndWord u answers.Receive w = w ≡ words.Receive
-IsEndWord u (answers.Glean i) w = w ≡ words.Glean i
-IsEndWord u (answers.Hop i a m) w = (x : ℕ) × (w ≡ words.ToAdjacency x) × (adjacency_end u x ≡ answers.Hop i a m)
-
--- the word does what is aimed at
-abbrev pub IsAimed : (Prefix → Option ℕ) → View → Aim → Word → Type 0
-IsAimed balances u (aims.Ends end) w = IsEndWord u end w
-IsAimed balances u (aims.On e) w = (x : ℕ) × (w ≡ words.ToBalance x) × (balances e ≡ Some x)
+abbrev pub HasPaths : Names → View → Type 0
+HasPaths n u = steady.HasPaths n (λ x s c. Goes u x s (words.ToPly c))
 
 -- first point: an entry of all versions has a balance, which is held, and a bucket for which all want the same holds its word
-pub record KeepsBuckets (J : List Tables) (balances : Prefix → Option ℕ) (u : View) : Type 0 where
-  pub named : (e : Prefix) → IsLasting J e → (o : ℕ) × (balances e ≡ Some o)
-  pub held : (e : Prefix) (o : ℕ) → IsLasting J e → balances e ≡ Some o → IsBalance u o
-  pub aimed : (e : Prefix) (o k : ℕ) (m : Aim) → IsLasting J e → balances e ≡ Some o → k < 16 → WantsAlike J e k m
-      → IsAimed balances u m (u.cell o k)
+abbrev pub KeepsBuckets : List Tables → (Prefix → Option ℕ) → View → Type 0
+KeepsBuckets J balances u = steady.KeepsBuckets J balances u.cell (adjacency_end u) (IsBalance u)
 
 -- second point: each ply on which a pass may stand sends addresses right
 abbrev pub KeepsPlies : List Tables → Names → View → Type 0
-KeepsPlies J n u = (x s : ℕ) → IsWalked u x → s < 16 → IsRight J n x s (u.cell x s)
+KeepsPlies J n u = SendsRight J n (IsWalked u) u.cell
 
 -- both points
 pub record IsPromised (J : List Tables) (n : Names) (u : View) : Type 0 where

@@ -16,8 +16,9 @@ use Rattle.fib_core_promise.specs.Matches.{FitsVersions, look_of, promised_by}
 use Rattle.fib_core_promise.specs.Matches as tables
 use Rattle.fib_core_promise.proofs.Answers.{promised_from, promised_same, promised_answer, promised_answer_added, promised_answer_removed}
 use Rattle.fib_core_promise.proofs.Turns.{bucket_on}
-use Rattle.fib_plane_view.specs.Promise.{Promise, IsBegun, KeepsBuckets, IsAimed}
-use Rattle.fib_plane_view.specs.View.{View}
+use Rattle.fib_plane_view.specs.Promise.{Promise, IsBegun, KeepsBuckets}
+use Rattle.fib_core_steady.specs.Promise.{IsAimed}
+use Rattle.fib_plane_view.specs.View.{View, adjacency_end}
 use Rattle.fib_ply.specs.Prefixes.{Look}
 use Rattle.fib_ply.specs.Plies.{IsSound, IsTable}
 use Rattle.fib_ply.specs.inner.Change.{IsPromised}
@@ -59,7 +60,7 @@ rewatch w v fewer begun look there n u kept table = record {
 
 -- the names of entries of all versions stay
 module _ (J : List Tables) (f g : Prefix → Option ℕ) (same : (e : Prefix) → IsLasting J e → g e ≡ f e) (u : View) where
-  aimed_same : (e : Prefix) (k : ℕ) (m : Aim) (w : Word) → WantsAlike J e k m → IsAimed f u m w → IsAimed g u m w
+  aimed_same : (e : Prefix) (k : ℕ) (m : Aim) (w : Word) → WantsAlike J e k m → IsAimed f (adjacency_end u) m w → IsAimed g (adjacency_end u) m w
   aimed_same e k (aims.Ends end) w alike h = h
   aimed_same e k (aims.On t) w alike h = (h.0, h.1, same t (λ S c. bucket_on S e t k (alike S c)) ∙ h.2)
 

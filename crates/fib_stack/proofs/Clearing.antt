@@ -14,8 +14,9 @@ use Rattle.fib_pool.specs.declared.object.Kind.TheVariants as kinds
 use Rattle.fib_core_steady.specs.Aims.{IsLasting}
 use Rattle.fib_core_steady.specs.Names.{Names}
 use Rattle.fib_core_steady.specs.Promise.{IsRight}
-use Rattle.fib_plane_view.specs.View.{View, Retired, Goes, IsLive, IsBalance, IsTaken, IsLetGo, IsScanned, TookRecord, GaveRecord, leads}
-use Rattle.fib_plane_view.specs.Promise.{Promise, IsBegun, IsWalked, IsEndWord, IsAimed, IsPromised, IsStill, Serves}
+use Rattle.fib_plane_view.specs.View.{View, Retired, Goes, IsLive, IsBalance, IsTaken, IsLetGo, IsScanned, TookRecord, GaveRecord, leads, adjacency_end}
+use Rattle.fib_plane_view.specs.Promise.{Promise, IsBegun, IsWalked, IsPromised, IsStill, Serves}
+use Rattle.fib_core_steady.specs.Promise.{IsEndWord, IsAimed}
 
 module _ (p : Promise) (n : Names) (u v : View)
     (edges : (y t d : ℕ) (z : Word) → leads z d → Goes v y t z → Goes u y t z)
@@ -38,7 +39,7 @@ module _ (p : Promise) (n : Names) (u v : View)
       (inr (inr (inr (x, s, words.ToAdjacency y, refl, inl e))))
       (inr (inr (inr (x, s, words.ToAdjacency y, refl, inl (same ∙ e)))))
 
-  end_kept : (x s : ℕ) → v.cell x s ≡ u.cell x s → (end : End) → IsEndWord u end (u.cell x s) → IsEndWord v end (v.cell x s)
+  end_kept : (x s : ℕ) → v.cell x s ≡ u.cell x s → (end : End) → IsEndWord (adjacency_end u) end (u.cell x s) → IsEndWord (adjacency_end v) end (v.cell x s)
   end_kept x s same answers.Drop h = same ∙ h
   end_kept x s same answers.Receive h = same ∙ h
   end_kept x s same (answers.Glean i) h = same ∙ h
@@ -50,7 +51,7 @@ module _ (p : Promise) (n : Names) (u v : View)
         ∙ ap (λ z. hop_of (u.cell h.0 0) (u.cell h.0 1) z) (data_same x s h.0 2 same h.1) ∙ h.2,
   )
 
-  aim_kept : (x s : ℕ) → v.cell x s ≡ u.cell x s → (m : Aim) → IsAimed n.balance u m (u.cell x s) → IsAimed n.balance v m (v.cell x s)
+  aim_kept : (x s : ℕ) → v.cell x s ≡ u.cell x s → (m : Aim) → IsAimed n.balance (adjacency_end u) m (u.cell x s) → IsAimed n.balance (adjacency_end v) m (v.cell x s)
   aim_kept x s same (aims.Ends end) h = end_kept x s same end h
   aim_kept x s same (aims.On e) h = (h.0, same ∙ h.1, h.2)
 

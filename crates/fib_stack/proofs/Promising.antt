@@ -20,8 +20,9 @@ use Rattle.fib_core_steady.specs.Promise.{IsRight}
 use Rattle.fib_core_promise.specs.Stack.{Objects, aim_word, Anchored, is_some}
 use Rattle.fib_plane_view.specs.declared.put.Put.{Put}
 use Rattle.fib_plane_view.specs.declared.put.Put.TheVariants as puts
-use Rattle.fib_plane_view.specs.View.{View, Goes, IsLive, IsBalance, IsPlane, HasKind, IsPut, Answered}
-use Rattle.fib_plane_view.specs.Promise.{Promise, Allows, IsBegun, IsWalked, HasPaths, IsEndWord, IsAimed, KeepsBuckets, KeepsPlies, IsPromised, Serves, EndsIn, MayPut}
+use Rattle.fib_plane_view.specs.View.{View, Goes, IsLive, IsBalance, IsPlane, HasKind, IsPut, Answered, adjacency_end}
+use Rattle.fib_plane_view.specs.Promise.{Promise, Allows, IsBegun, IsWalked, HasPaths, KeepsBuckets, KeepsPlies, IsPromised, Serves, EndsIn, MayPut}
+use Rattle.fib_core_steady.specs.Promise.{IsEndWord, IsAimed}
 use Rattle.fib_stack.specs.States.{State}
 use Rattle.fib_stack.specs.Steadiness.{ledger_of, IsSteady}
 use Rattle.fib_stack.specs.Buckets.{IsLooseBucket}
@@ -76,7 +77,7 @@ module _ (J : List Tables) (n : Names) (u v : View) (o k : ℕ) (w : Word) (a : 
           true≢false (sym mine.0 ∙ ap u.is_held (sym is) ∙ (before.records h.1.0 y h.1.1).0))
           (put.edges x s y (words.ToAdjacency y) refl (inl e))
 
-  end_still : (x s : ℕ) → v.cell x s ≡ u.cell x s → (end : End) → IsEndWord u end (u.cell x s) → IsEndWord v end (v.cell x s)
+  end_still : (x s : ℕ) → v.cell x s ≡ u.cell x s → (end : End) → IsEndWord (adjacency_end u) end (u.cell x s) → IsEndWord (adjacency_end v) end (v.cell x s)
   end_still x s same answers.Drop h = same ∙ h
   end_still x s same answers.Receive h = same ∙ h
   end_still x s same (answers.Glean i) h = same ∙ h
@@ -89,7 +90,7 @@ module _ (J : List Tables) (n : Names) (u v : View) (o k : ℕ) (w : Word) (a : 
             ∙ ap (λ z. hop_of (u.cell h.0 0) (u.cell h.0 1) z) (data_same x s h.0 2 at) ∙ h.2,
       )
 
-  aim_still : (x s : ℕ) → v.cell x s ≡ u.cell x s → (m : Aim) → IsAimed n.balance u m (u.cell x s) → IsAimed n.balance v m (v.cell x s)
+  aim_still : (x s : ℕ) → v.cell x s ≡ u.cell x s → (m : Aim) → IsAimed n.balance (adjacency_end u) m (u.cell x s) → IsAimed n.balance (adjacency_end v) m (v.cell x s)
   aim_still x s same (aims.Ends end) h = end_still x s same end h
   aim_still x s same (aims.On e) h = (h.0, same ∙ h.1, h.2)
 

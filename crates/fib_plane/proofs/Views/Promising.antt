@@ -19,12 +19,13 @@ use Rattle.fib_core_steady.specs.Aims.{IsLasting}
 use Rattle.fib_core_steady.specs.Names as names
 use Rattle.fib_core_steady.specs.Names.{Names}
 use Rattle.fib_core_steady.specs.Promise as steady
+use Rattle.fib_core_steady.proofs.Edges.{ways_by}
 use Rattle.fib_core_rule.specs.Steady.{versions}
 use Rattle.fib_core_board.specs.Boards.{Board, word_in}
 use Rattle.fib_core_board.specs.May as may
 use Rattle.fib_plane.specs.Planes.{Plane}
 use Rattle.fib_plane_view.specs.View.{View, Goes, adjacency_end}
-use Rattle.fib_plane_view.specs.Promise.{IsEndWord, IsAimed, HasPaths, IsPromised, IsWalked, Allows, Serves}
+use Rattle.fib_plane_view.specs.Promise.{HasPaths, IsPromised, IsWalked, Allows, Serves}
 use Rattle.fib_plane.specs.Views.{is_alone, promise_of, view_of}
 use Rattle.fib_plane.proofs.Views.Seeing.{cell_is, goes_up}
 
@@ -36,13 +37,13 @@ module _ (b : Board) (u : View) (cells : (x s : ℕ) → s < 16 → u.cell x s �
       ∙ (ap (λ (w : Word). hop_of (word_in b (16 * x + 0)) w (u.cell x 2)) (cells x 1 (omega arith))
       ∙ ap (λ (w : Word). hop_of (word_in b (16 * x + 0)) (word_in b (16 * x + 1)) w) (cells x 2 (omega arith)))
 
-  end_down : (e : End) (w : Word) → IsEndWord u e w → steady.IsEndWord b.union.cells e w
+  end_down : (e : End) (w : Word) → steady.IsEndWord (adjacency_end u) e w → steady.IsEndWord (walks.adjacency_end b.union.cells) e w
   end_down answers.Drop w h = h
   end_down answers.Receive w h = h
   end_down (answers.Glean i) w h = h
   end_down (answers.Hop i a m) w h = (h.0, h.1, sym (adjacency_same h.0) ∙ h.2)
 
-  aimed_down : (balances : Prefix → Option ℕ) (m : Aim) (w : Word) → IsAimed balances u m w → steady.IsAimed balances b.union.cells m w
+  aimed_down : (balances : Prefix → Option ℕ) (m : Aim) (w : Word) → steady.IsAimed balances (adjacency_end u) m w → steady.IsAimed balances (walks.adjacency_end b.union.cells) m w
   aimed_down balances (aims.Ends e) w h = end_down e w h
   aimed_down balances (aims.On e) w h = h
 
@@ -54,11 +55,12 @@ module _ (b : Board) (u : View) (cells : (x s : ℕ) → s < 16 → u.cell x s �
   promised_down J n paths h = record {
     buckets = record {
       named = h.buckets.named;
-      aimed = λ e o k m lasting is lt alike. aimed_down n.balance m (word_at b.union.cells o k) (subst (IsAimed n.balance u m) (cells o k lt) (h.buckets.aimed e o k m lasting is lt alike));
+      held = λ e o lasting is. tt;
+      aimed = λ e o k m lasting is lt alike. aimed_down n.balance m (word_at b.union.cells o k) (subst (steady.IsAimed n.balance (adjacency_end u) m) (cells o k lt) (h.buckets.aimed e o k m lasting is lt alike));
     };
     plies = record {
-      root = paths.root;
-      paths = λ k w c g is. paths.paths (owner k) (k % 16) c (subst (λ (z : Word). Goes u (owner k) (k % 16) z) is (up k w g));
+      ways = ways_by n b.union paths.root
+          (λ k w c g is. paths.paths (owner k) (k % 16) c (subst (λ (z : Word). Goes u (owner k) (k % 16) z) is (up k w g)));
       right = λ x s walked lt. subst (steady.IsRight J n x s) (cells x s lt) (h.plies x s (walked_up x walked) lt);
     };
   }
