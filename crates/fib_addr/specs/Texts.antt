@@ -94,7 +94,8 @@ mac_of text = do
 
 -- a printed address: four numbers without leading zeros
 unfoldable pub address_text : ℕ → List ℕ
-address_text a = decimal (a / 2 ^ 24 % 256) ++ 46 ∷ (decimal (a / 2 ^ 16 % 256) ++ 46 ∷ (decimal (a / 2 ^ 8 % 256) ++ 46 ∷ decimal (a % 256)))
+address_text a =
+    decimal (a / 2 ^ 24 % 256) ++ 46 ∷ (decimal (a / 2 ^ 16 % 256) ++ 46 ∷ (decimal (a / 2 ^ 8 % 256) ++ 46 ∷ decimal (a % 256)))
 
 unfoldable pub prefix_text : Prefix → List ℕ
 prefix_text p = address_text p.bits ++ 47 ∷ decimal p.len

@@ -96,7 +96,8 @@ is_header header = nat_le 20 (length header) && (slice_index header 0 / 16 == 4 
 
 abbrev pub flow_of : List ℕ → Packet
 flow_of header =
-    packets.Flow (big_32 header 16) (flow_hash (big_32 header 12) (big_32 header 16) (slice_index header 9) (ports_of header).0 (ports_of header).1)
+    packets.Flow (big_32 header 16)
+    (flow_hash (big_32 header 12) (big_32 header 16) (slice_index header 9) (ports_of header).0 (ports_of header).1)
 
 -- the packet that begins with its IPv4 header
 unfoldable pub ipv4_packet_of : List ℕ → Packet

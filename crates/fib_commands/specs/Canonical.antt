@@ -44,12 +44,16 @@ address_text_of a len = prefix_text (record { bits = a; len = len })
 unfoldable pub edit_words : Edit → Words
 edit_words (edits.CreateInterface name) = codes "create" ∷ codes "interface" ∷ name ∷ []
 edit_words (edits.SetState name up) = codes "set" ∷ codes "interface" ∷ codes "state" ∷ name ∷ flag_text up ∷ []
-edit_words (edits.AddAddress name a len) = codes "set" ∷ codes "interface" ∷ codes "ip" ∷ codes "address" ∷ name ∷ address_text_of a len ∷ []
-edit_words (edits.DelAddress name a len) = codes "set" ∷ codes "interface" ∷ codes "ip" ∷ codes "address" ∷ codes "del" ∷ name ∷ address_text_of a len ∷ []
+edit_words (edits.AddAddress name a len) =
+    codes "set" ∷ codes "interface" ∷ codes "ip" ∷ codes "address" ∷ name ∷ address_text_of a len ∷ []
+edit_words (edits.DelAddress name a len) =
+    codes "set" ∷ codes "interface" ∷ codes "ip" ∷ codes "address" ∷ codes "del" ∷ name ∷ address_text_of a len ∷ []
 edit_words (edits.SetNeighbor name a mac) = codes "set" ∷ codes "ip" ∷ codes "neighbor" ∷ name ∷ address_text a ∷ mac_text mac ∷ []
 edit_words (edits.DelNeighbor name a) = codes "set" ∷ codes "ip" ∷ codes "neighbor" ∷ codes "del" ∷ name ∷ address_text a ∷ []
-edit_words (edits.AddRoute p api paths) = source_words api (codes "ip" ∷ codes "route" ∷ codes "add" ∷ prefix_text p ∷ flat_map path_words paths)
-edit_words (edits.DelRoute p api paths) = source_words api (codes "ip" ∷ codes "route" ∷ codes "del" ∷ prefix_text p ∷ flat_map path_words paths)
+edit_words (edits.AddRoute p api paths) =
+    source_words api (codes "ip" ∷ codes "route" ∷ codes "add" ∷ prefix_text p ∷ flat_map path_words paths)
+edit_words (edits.DelRoute p api paths) =
+    source_words api (codes "ip" ∷ codes "route" ∷ codes "del" ∷ prefix_text p ∷ flat_map path_words paths)
 
 -- words joined by one space
 abbrev pub joined : Words → List ℕ

@@ -28,7 +28,8 @@ IsAimed balances end_of (aims.Ends end) w = IsEndWord end_of end w
 IsAimed balances end_of (aims.On e) w = (x : ℕ) × (w ≡ words.ToBalance x) × (balances e ≡ Some x)
 
 -- first point: an entry of all versions has a balance, which is held, and a bucket for which all want the same holds its word
-pub record KeepsBuckets (J : List Tables) (balances : Prefix → Option ℕ) (word : ℕ → ℕ → Word) (end_of : ℕ → End) (Held : ℕ → Type 0) : Type 0 where
+pub record KeepsBuckets (J : List Tables) (balances : Prefix → Option ℕ) (word : ℕ → ℕ → Word) (end_of : ℕ → End)
+    (Held : ℕ → Type 0) : Type 0 where
   pub named : (e : Prefix) → IsLasting J e → (o : ℕ) × (balances e ≡ Some o)
   pub held : (e : Prefix) (o : ℕ) → IsLasting J e → balances e ≡ Some o → Held o
   pub aimed : (e : Prefix) (o k : ℕ) (m : Aim) → IsLasting J e → balances e ≡ Some o → k < 16 → WantsAlike J e k m

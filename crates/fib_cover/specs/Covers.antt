@@ -26,7 +26,8 @@ pub record IsMatch (members : List Prefix) (limit a : ℕ) (p : Prefix) : Type 0
 -- the answer is the longest match, None exactly where there is no match
 abbrev pub IsLongestMatch : List Prefix → ℕ → ℕ → Option Prefix → Type 0
 IsLongestMatch members limit a answer =
-    MatchOption answer ((q : Prefix) → IsMatch members limit a q → ⊥) (λ p. IsMatch members limit a p × ((q : Prefix) → IsMatch members limit a q → q.len ≤ p.len))
+    MatchOption answer ((q : Prefix) → IsMatch members limit a q → ⊥)
+    (λ p. IsMatch members limit a p × ((q : Prefix) → IsMatch members limit a q → q.len ≤ p.len))
 
 -- q is at least as long as p, and its first address is one of p's
 abbrev pub is_inside : Prefix → Prefix → Bool

@@ -26,4 +26,5 @@ pub record IsMarked (nodes : ℕ) (edges : List (ℕ × ℕ)) (m : Marked) : Typ
   pub loops : (k : ℕ) (d : ℕ × ℕ) → k < length edges → IsTrue (slice_index_or m.looped k false) ↔ IsLooped edges (slice_index_or edges k d)
   pub once : AllDiffer m.order
   pub all : (x : ℕ) → Contains m.order x ↔ x < nodes
-  pub targets_first : (k : ℕ) (d : ℕ × ℕ) → k < length edges → slice_index_or m.looped k false ≡ false → StandsBefore m.order (slice_index_or edges k d).1 (slice_index_or edges k d).0
+  pub targets_first : (k : ℕ) (d : ℕ × ℕ) → k < length edges → slice_index_or m.looped k false ≡ false
+      → StandsBefore m.order (slice_index_or edges k d).1 (slice_index_or edges k d).0

@@ -52,7 +52,8 @@ pub record Shelf : Type 0 where
   pub faults : FaultCounts
 
 abbrev pub new_shelf : List File → List ℕ → List (ℕ × ℕ) → Shelf
-new_shelf files failing failing_reads = record { files = files; failing = failing; failing_reads = failing_reads; fetches = 0; last = 0; reads = 0; fetched = None; left = []; faults = no_faults }
+new_shelf files failing failing_reads =
+    record { files = files; failing = failing; failing_reads = failing_reads; fetches = 0; last = 0; reads = 0; fetched = None; left = []; faults = no_faults }
 
 -- a fetch fails where its number is listed or no file has the name
 abbrev pub fetch_fails : Shelf → List ℕ → Bool

@@ -54,7 +54,8 @@ code_set = hlevel (ℕ_set, option_set)
 end_set : IsSet End
 end_set = collapsible→set
     (λ x y p. sym (read_coded x) ∙ (ap read (ap coded p) ∙ read_coded y))
-    (λ x y p q. ap (λ (r : coded x ≡ coded y). sym (read_coded x) ∙ (ap read r ∙ read_coded y)) (code_set (coded x) (coded y) (ap coded p) (ap coded q)))
+    (λ x y p q. ap (λ (r : coded x ≡ coded y). sym (read_coded x) ∙ (ap read r ∙ read_coded y))
+    (code_set (coded x) (coded y) (ap coded p) (ap coded q)))
 
 one_number : (o : Option ℕ) → IsProp ((x : ℕ) × (o ≡ Some x))
 one_number o a b = Σ_prop_path (λ x. option_set o (Some x)) (let e : Some a.0 ≡ Some b.0 = sym a.1 ∙ b.1 in let f : a.0 ≡ b.0 = cc in f)

@@ -13,7 +13,8 @@ use Rattle.fib_plane.specs.Planes.{Plane, IsSwept, released}
 -- the record's three words were stored into the object
 abbrev pub board_filled : Board → ℕ → AdjacencyRecord → Board
 board_filled b o r =
-    board_stored (board_stored (board_stored b (16 * o + 0) (words.Plain r.interface)) (16 * o + 1) (words.Plain r.next_hop)) (16 * o + 2) (mac_word r.mac)
+    board_stored (board_stored (board_stored b (16 * o + 0) (words.Plain r.interface)) (16 * o + 1) (words.Plain r.next_hop)) (16 * o + 2)
+    (mac_word r.mac)
 
 -- one user more of a record, under the object x: a kept one, or one that is fresh
 pub record TookRecord (p q : Plane) (r : AdjacencyRecord) (x : ℕ) : Type 0 where

@@ -38,6 +38,7 @@ ObjectsFollow true rows r before after o = IsNew rows r × TookObject before aft
 ObjectsFollow false rows r before after o = IsKeptAs rows r o × (after ≡ before)
 
 -- the record has one user more, and the objects follow
-pub record TakesRecord (old new : List (Kept AdjacencyRecord)) (before after : List (Option Object)) (r : AdjacencyRecord) (t : TakenRecord) : Type 0 where
+pub record TakesRecord (old new : List (Kept AdjacencyRecord)) (before after : List (Option Object)) (r : AdjacencyRecord)
+    (t : TakenRecord) : Type 0 where
   pub takes : Takes old new r t.object
   pub objects : ObjectsFollow t.fresh old r before after t.object

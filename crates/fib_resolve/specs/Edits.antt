@@ -116,5 +116,6 @@ edited S (edits.AddAddress name addr len) = with_addresses S (S.addresses ++ add
 edited S (edits.DelAddress name addr len) = with_addresses S (filter (λ a. not (same_address a (address_at S name addr len))) S.addresses)
 edited S (edits.SetNeighbor name addr mac) = with_neighbors S (set_neighbor (neighbor_at S name addr mac) S.neighbors)
 edited S (edits.DelNeighbor name addr) = with_neighbors S (filter (λ n. not (same_neighbor n (neighbor_at S name addr 0))) S.neighbors)
-edited S (edits.AddRoute prefix api specs) = with_routes S (set_route (record { prefix = prefix; source = source_of api; paths = paths_with S prefix api specs }) S.routes)
+edited S (edits.AddRoute prefix api specs) =
+    with_routes S (set_route (record { prefix = prefix; source = source_of api; paths = paths_with S prefix api specs }) S.routes)
 edited S (edits.DelRoute prefix api specs) = with_routes S (routes_without S prefix (source_of api) specs)

@@ -80,7 +80,8 @@ same_key a b = (a.kind == b.kind) && ((a.next_hop == b.next_hop) && ((a.interfac
 
 abbrev pub key_cmp : Key → Key → Ordering
 key_cmp a b =
-    ordering_then (nat_cmp a.kind b.kind) (ordering_then (nat_cmp a.next_hop b.next_hop) (ordering_then (nat_cmp a.interface b.interface) (nat_cmp a.need b.need)))
+    ordering_then (nat_cmp a.kind b.kind)
+    (ordering_then (nat_cmp a.next_hop b.next_hop) (ordering_then (nat_cmp a.interface b.interface) (nat_cmp a.need b.need)))
 
 unfoldable pub key_lt : Key → Key → Bool
 key_lt a b = is_lt (key_cmp a b)

@@ -46,8 +46,10 @@ hops_of S (edits.AddAddress name addr len) a = false
 hops_of S (edits.DelAddress name addr len) a = false
 hops_of S (edits.SetNeighbor name addr mac) a = false
 hops_of S (edits.DelNeighbor name addr) a = false
-hops_of S (edits.AddRoute prefix api specs) a = has_hop prefix (source_of api) S.routes a || has_hop prefix (source_of api) (edited S (edits.AddRoute prefix api specs)).routes a
-hops_of S (edits.DelRoute prefix api specs) a = has_hop prefix (source_of api) S.routes a || has_hop prefix (source_of api) (edited S (edits.DelRoute prefix api specs)).routes a
+hops_of S (edits.AddRoute prefix api specs) a =
+    has_hop prefix (source_of api) S.routes a || has_hop prefix (source_of api) (edited S (edits.AddRoute prefix api specs)).routes a
+hops_of S (edits.DelRoute prefix api specs) a =
+    has_hop prefix (source_of api) S.routes a || has_hop prefix (source_of api) (edited S (edits.DelRoute prefix api specs)).routes a
 
 -- the addresses that an edit can make a neighbor, or none any more: another MAC does neither
 abbrev pub near_of : Tables → Edit → ℕ → Bool

@@ -42,6 +42,8 @@ pub data Cause (S T : Tables) (changed : Prefix → Bool) (e : Prefix) : Type 0 
   -- a path of its list has an interface with another flag, or a Hop end with another MAC
   ends : (p : Path) → Contains (chosen S e) p → means_else S T e p.kind ≡ true → Cause S T changed e
   -- a recursive path of its list needs something of a changed entry
-  needing : (p : Path) (a : ℕ) → Contains (chosen S e) p → p.kind ≡ kinds.Recursive a → p.need ≢ needs.Any → changed (host a) ≡ true → Cause S T changed e
+  needing : (p : Path) (a : ℕ) → Contains (chosen S e) p → p.kind ≡ kinds.Recursive a → p.need ≢ needs.Any → changed (host a) ≡ true
+      → Cause S T changed e
   -- a recursive path of its list closes a cycle through a changed entry, before or after
-  loops : (p : Path) (a : ℕ) → Contains (chosen S e) p → p.kind ≡ kinds.Recursive a → IsThrough S changed e a ⊎ IsThrough T changed e a → Cause S T changed e
+  loops : (p : Path) (a : ℕ) → Contains (chosen S e) p → p.kind ≡ kinds.Recursive a → IsThrough S changed e a ⊎ IsThrough T changed e a
+      → Cause S T changed e

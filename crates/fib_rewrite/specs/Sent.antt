@@ -17,7 +17,8 @@ checksum_after c = if nat_lt (c + 256) 65535 then c + 256 else c + 256 - 65535
 
 -- one hop less to live
 unfoldable pub hopped : List ℕ → List ℕ
-hopped packet = take 8 packet ++ ((slice_index packet 8 - 1) ∷ slice_index packet 9 ∷ two_bytes (checksum_after (big_16 packet 10)) ++ drop 12 packet)
+hopped packet =
+    take 8 packet ++ ((slice_index packet 8 - 1) ∷ slice_index packet 9 ∷ two_bytes (checksum_after (big_16 packet 10)) ++ drop 12 packet)
 
 -- the six bytes of a hardware address
 abbrev pub mac_bytes : ℕ → List ℕ
@@ -43,15 +44,19 @@ sent_record packet interface mac = record_bytes Little (sent packet interface ma
 
 -- the sum of an IPv4 header's ten words, of which the checksum is one
 abbrev pub header_sum : List ℕ → ℕ
-header_sum p = big_16 p 0 + big_16 p 2 + big_16 p 4 + big_16 p 6 + big_16 p 8 + big_16 p 10 + big_16 p 12 + big_16 p 14 + big_16 p 16 + big_16 p 18
+header_sum p =
+    big_16 p 0 + big_16 p 2 + big_16 p 4 + big_16 p 6 + big_16 p 8 + big_16 p 10 + big_16 p 12 + big_16 p 14 + big_16 p 16 + big_16 p 18
 
 abbrev pub IsPacket : List ℕ → Type 0
 IsPacket packet = (20 ≤ length packet) × (1 < slice_index packet 8)
 
 -- in the arithmetic of complements the header's sum is what it was, so a checksum that was right is right
 abbrev pub HeaderSumsStay : Type 0
-HeaderSumsStay = (packet : List ℕ) → IsPacket packet → ((k : ℕ) → slice_index packet k < 256) → header_sum (hopped packet) % 65535 ≡ header_sum packet % 65535
+HeaderSumsStay =
+    (packet : List ℕ) → IsPacket packet → ((k : ℕ) → slice_index packet k < 256)
+    → header_sum (hopped packet) % 65535 ≡ header_sum packet % 65535
 
 -- the packet is the same flow, by address and hash
 abbrev pub FlowsStay : Type 0
-FlowsStay = (packet : List ℕ) → IsPacket packet → ((k : ℕ) → slice_index packet k < 256) → ipv4_packet_of (hopped packet) ≡ ipv4_packet_of packet
+FlowsStay =
+    (packet : List ℕ) → IsPacket packet → ((k : ℕ) → slice_index packet k < 256) → ipv4_packet_of (hopped packet) ≡ ipv4_packet_of packet

@@ -57,7 +57,8 @@ pub record IsRestacked (S : Tables) (e : Prefix) (s t : State) : Type 0 where
   pub turn : Restacked S e object s t
 
 -- what a turn made ready before its first put: v0 is the plane before it
-pub record IsReadied (S : Tables) (p : Promise) (v0 v : View) (e : Prefix) (o : ℕ) (s : Parts) (f : Bool) (ms : List Marked) (us : List Use) : Type 0 where
+pub record IsReadied (S : Tables) (p : Promise) (v0 v : View) (e : Prefix) (o : ℕ) (s : Parts) (f : Bool) (ms : List Marked)
+    (us : List Use) : Type 0 where
   pub users : (m : AdjacencyRecord) → v.users m ≡ times m us + v0.users m
   pub kept : (m : AdjacencyRecord) → 0 < v0.users m → v.record_of m ≡ v0.record_of m
   pub objects : AreObjects v us
@@ -82,7 +83,8 @@ abbrev pub names_for : Parts → List Use → Objects
 names_for s us = record { balance = balance_in s; record_of = found_in us }
 
 -- what the rest of the turn does: from v2 the puts lead to v3, the old records given back to v4, and the table to v5
-pub record IsFinished (S : Tables) (v2 v3 v4 v5 : View) (e : Prefix) (o : ℕ) (s t : Parts) (f : Bool) (ms : List Marked) (us : List Use) (ws : List Word) (gave : List Put) : Type 0 where
+pub record IsFinished (S : Tables) (v2 v3 v4 v5 : View) (e : Prefix) (o : ℕ) (s t : Parts) (f : Bool) (ms : List Marked) (us : List Use)
+    (ws : List Word) (gave : List Put) : Type 0 where
   pub puts : Puts v2 o 0 ws gave v3
   pub sixteen : length ws ≡ 16
   pub words : (k : ℕ) → k < 16 → word_in ws k ≡ aim_word (names_for s us) (aim_of (slice_get ms k))
@@ -121,7 +123,8 @@ pub record HasRoomFor (v : View) (s : Stack) (t : Table) (q : Order Queued) (use
   pub few : count s.ledger.rows + uses < 2 ^ 32 - 1
 
 abbrev pub parts_of : Table → Stack → Order Queued → Parts
-parts_of t s q = record { rows = t.rows.members; plies = t.plies; known = known_of s.ledger.rows; total = total s.ledger.rows; late = s.late.members; queue = q.members }
+parts_of t s q =
+    record { rows = t.rows.members; plies = t.plies; known = known_of s.ledger.rows; total = total s.ledger.rows; late = s.late.members; queue = q.members }
 
 -- the state that a turn begins and ends with: the plane, with what the prefix table, the stack and the queue know
 abbrev pub state_at : View → Table → Stack → Order Queued → State

@@ -37,7 +37,8 @@ pub record IsWalking (words : ℕ) (me : Me Tables View) (number pass : ℕ) (kn
   pub sound : IsSoundTrail (worker_of me.0).objects (worker_of me.0).trail
 
 -- the control plane's fields: its copy of the cells, the version, who is out, the pass words at rest, and how many claims came home
-pub record IsLive (words objects workers : ℕ) (me : Me Tables View) (copy : List ℕ) (version : Version) (out : List Bool) (rests : List ℕ) (gathered : ℕ) : Type 0 where
+pub record IsLive (words objects workers : ℕ) (me : Me Tables View) (copy : List ℕ) (version : Version) (out : List Bool) (rests : List ℕ)
+    (gathered : ℕ) : Type 0 where
   pub sat : IsControl me
   pub size : words ≡ words_for objects
   pub limits : IsWithinLimits objects workers

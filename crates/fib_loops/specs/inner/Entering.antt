@@ -40,15 +40,20 @@ pub record IsEntering (g : List (List ℕ)) (starts ranks order path : List ℕ)
   pub start_open : (x : ℕ) → Contains path x → 0 < slice_index starts x
   pub entered : (x : ℕ) → 0 < slice_index starts x → (0 < slice_index ranks x) ⊎ Contains path x
   pub stacked : AreStacked g starts path
-  pub leads_left : (k m : ℕ) → k ≤ m → m < length order → slice_index starts (slice_index order m) ≤ k + 1 → Leads (Edge g) (slice_index order m) (slice_index order k)
-  pub starts_left : (k m : ℕ) → k ≤ m → m < length order → slice_index starts (slice_index order m) ≤ k + 1 → slice_index starts (slice_index order m) ≤ slice_index starts (slice_index order k)
+  pub leads_left : (k m : ℕ) → k ≤ m → m < length order → slice_index starts (slice_index order m) ≤ k + 1
+      → Leads (Edge g) (slice_index order m) (slice_index order k)
+  pub starts_left : (k m : ℕ) → k ≤ m → m < length order → slice_index starts (slice_index order m) ≤ k + 1
+      → slice_index starts (slice_index order m) ≤ slice_index starts (slice_index order k)
   pub leads_open : (x k : ℕ) → Contains path x → k < length order → slice_index starts x ≤ k + 1 → Leads (Edge g) x (slice_index order k)
-  pub starts_open : (x k : ℕ) → Contains path x → k < length order → slice_index starts x ≤ k + 1 → slice_index starts x ≤ slice_index starts (slice_index order k)
-  pub edges_left : (k y : ℕ) → k < length order → Edge g (slice_index order k) y → (0 < slice_index starts y) × (slice_index starts y ≤ k + 1)
+  pub starts_open : (x k : ℕ) → Contains path x → k < length order → slice_index starts x ≤ k + 1
+      → slice_index starts x ≤ slice_index starts (slice_index order k)
+  pub edges_left : (k y : ℕ) → k < length order → Edge g (slice_index order k) y → (0 < slice_index starts y)
+      × (slice_index starts y ≤ k + 1)
 
 -- the targets that a frame has passed are entered
 abbrev pub IsPassed : List (List ℕ) → List ℕ → Frame → Type 0
-IsPassed g starts f = (f.passed ≤ length (next_of g f.node)) × ((i : ℕ) → i < f.passed → 0 < slice_index starts (slice_index (next_of g f.node) i))
+IsPassed g starts f =
+    (f.passed ≤ length (next_of g f.node)) × ((i : ℕ) → i < f.passed → 0 < slice_index starts (slice_index (next_of g f.node) i))
 
 abbrev pub ArePassed : List (List ℕ) → List ℕ → List Frame → Type 0
 ArePassed g starts frames = (f : Frame) → Contains frames f → IsPassed g starts f

@@ -16,8 +16,10 @@ pub record IsOrdered (E : ℕ → ℕ → Type 0) (n : ℕ) (starts ranks order 
   pub placed : (x : ℕ) → x < n → (k : ℕ) × (k < n) × (slice_index order k ≡ x)
   pub early : (x : ℕ) → x < n → slice_index starts x ≤ slice_index ranks x
   pub edges : (x y : ℕ) → x < n → E x y → slice_index starts y ≤ slice_index ranks x
-  pub leads : (x y : ℕ) → x < n → y < n → slice_index ranks x ≤ slice_index ranks y → slice_index starts y ≤ slice_index ranks x → Leads E y x
-  pub nested : (x y : ℕ) → x < n → y < n → slice_index ranks x ≤ slice_index ranks y → slice_index starts y ≤ slice_index ranks x → slice_index starts y ≤ slice_index starts x
+  pub leads : (x y : ℕ) → x < n → y < n → slice_index ranks x ≤ slice_index ranks y → slice_index starts y ≤ slice_index ranks x
+      → Leads E y x
+  pub nested : (x y : ℕ) → x < n → y < n → slice_index ranks x ≤ slice_index ranks y → slice_index starts y ≤ slice_index ranks x
+      → slice_index starts y ≤ slice_index starts x
 
 -- The nodes of the highest ranks have the number of their part: a part has lower numbers than those that it leads to, and its nodes
 -- lead to one another. 0 stands where there is none.
@@ -29,7 +31,8 @@ pub record IsParted (E : ℕ → ℕ → Type 0) (n : ℕ) (ranks parts : List �
   pub together : (x y : ℕ) → 0 < slice_index parts x → slice_index parts x ≡ slice_index parts y → Leads E x y
 
 -- one more part grows from its root, the numberless node of the highest rank; all that lead to its first members have a number
-pub record IsGrowing (E : ℕ → ℕ → Type 0) (n : ℕ) (starts ranks : List ℕ) (number root : ℕ) (parts members : List ℕ) (done : ℕ) : Type 0 where
+pub record IsGrowing (E : ℕ → ℕ → Type 0) (n : ℕ) (starts ranks : List ℕ) (number root : ℕ) (parts members : List ℕ)
+    (done : ℕ) : Type 0 where
   pub parts_len : length parts ≡ n
   pub high : (x : ℕ) → slice_index parts x ≤ number
   pub numbered : (x : ℕ) → x < n → slice_index ranks root < slice_index ranks x → 0 < slice_index parts x
@@ -37,12 +40,14 @@ pub record IsGrowing (E : ℕ → ℕ → Type 0) (n : ℕ) (starts ranks : List
   pub marked : (x : ℕ) → Contains members x → slice_index parts x ≡ number
   pub below : (x : ℕ) → Contains members x → x < n
   pub has_root : Contains members root
-  pub older : (x y : ℕ) → E x y → 0 < slice_index parts y → slice_index parts y < number → (0 < slice_index parts x) × (slice_index parts x ≤ slice_index parts y)
+  pub older : (x y : ℕ) → E x y → 0 < slice_index parts y → slice_index parts y < number → (0 < slice_index parts x)
+      × (slice_index parts x ≤ slice_index parts y)
   pub newer : (x k : ℕ) → k < done → E x (slice_index members k) → 0 < slice_index parts x
   pub to_root : (x : ℕ) → Contains members x → Leads E x root
   pub within_start : (x : ℕ) → Contains members x → slice_index starts root ≤ slice_index ranks x
   pub within_rank : (x : ℕ) → Contains members x → slice_index ranks x ≤ slice_index ranks root
-  pub together : (x y : ℕ) → 0 < slice_index parts x → slice_index parts x < number → slice_index parts x ≡ slice_index parts y → Leads E x y
+  pub together : (x y : ℕ) → 0 < slice_index parts x → slice_index parts x < number → slice_index parts x ≡ slice_index parts y
+      → Leads E x y
   pub done_low : done ≤ length members
 
 -- the parts and the members after a node, which becomes a member where it has no number

@@ -9,4 +9,5 @@ listed k = record { id = k.id; content = k.content.items; users = k.users }
 
 -- one content has one number
 abbrev pub AreApart : List (Kept (Vec Path Global)) → Type 0
-AreApart rows = (a b : ℕ) (k l : Kept (Vec Path Global)) → kept_of rows a ≡ Some k → kept_of rows b ≡ Some l → k.content.items ≡ l.content.items → a ≡ b
+AreApart rows =
+    (a b : ℕ) (k l : Kept (Vec Path Global)) → kept_of rows a ≡ Some k → kept_of rows b ≡ Some l → k.content.items ≡ l.content.items → a ≡ b

@@ -32,7 +32,8 @@ pub record AreDying (objects : List (Option Object)) (dying : List ℕ) : Type 0
   pub listed : (o : ℕ) → IsDying objects o → Contains dying o
 
 -- between two calls; dying is the list of what waits for being cleared, with room for all objects
-pub record IsAtRest (b : Board) (u : edges.Kept) (objects : List (Option Object)) (rows : List (Kept AdjacencyRecord)) (dying : List ℕ) (room : ℕ) : Type 0 where
+pub record IsAtRest (b : Board) (u : edges.Kept) (objects : List (Option Object)) (rows : List (Kept AdjacencyRecord)) (dying : List ℕ)
+    (room : ℕ) : Type 0 where
   pub joined : IsJoined b u objects
   pub acyclic : IsAcyclic (Edge (union_of b))
   pub none : AreDying objects []

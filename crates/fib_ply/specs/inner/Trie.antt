@@ -20,7 +20,8 @@ list_with c true xs = c ∷ xs
 list_with c false xs = filter (λ x. not (x == c)) xs
 
 abbrev pub listed : Paths → ℕ → Bool → Paths
-listed n c there = record { depth = n.depth; value = n.value; is_in = λ y. if y == c then there else n.is_in y; all = list_with c there n.all }
+listed n c there =
+    record { depth = n.depth; value = n.value; is_in = λ y. if y == c then there else n.is_in y; all = list_with c there n.all }
 
 -- the shape alone
 abbrev pub IsLinked : Paths → ℕ → ℕ → Word → Type 0

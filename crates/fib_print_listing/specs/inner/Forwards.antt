@@ -18,7 +18,8 @@ AreForwarding S ks = (p : Prefix) → has_prefix ks p ≡ forwards S p
 
 -- the prefix was added where one of the paths is usable
 abbrev pub AddsWhere : List Marked → Prefix → List Prefix → List Prefix → Type 0
-AddsWhere marks e old new = (p : Prefix) → has_prefix new p ≡ (has_prefix old p || (same_prefix p e && list_any (is_usable_mark (has_prefix old)) marks))
+AddsWhere marks e old new =
+    (p : Prefix) → has_prefix new p ≡ (has_prefix old p || (same_prefix p e && list_any (is_usable_mark (has_prefix old)) marks))
 
 -- a prefix behind its rank
 abbrev pub ranked_in : List Row → Prefix → ℕ × Prefix

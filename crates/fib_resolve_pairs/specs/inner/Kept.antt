@@ -13,7 +13,8 @@ pub record AreCovers (S : Tables) (base : List Pair) (short : List Prefix) : Typ
   pub base_are : base ≡ base_pairs S
   pub short_are : (p : Prefix) → Contains short p ↔ Contains (short_prefixes S) p
 
-pub record IsKnown {H : Type 0} (S : Tables) (pair_list : List Pair) (entry_list : List Prefix) (numbers : HashMap Prefix ℕ H) : Type 0 where
+pub record IsKnown {H : Type 0} (S : Tables) (pair_list : List Pair) (entry_list : List Prefix)
+    (numbers : HashMap Prefix ℕ H) : Type 0 where
   pub pairs_are : pair_list ≡ pairs S
   pub entries_are : entry_list ≡ entries S
   pub few : length entry_list < 2 ^ 32

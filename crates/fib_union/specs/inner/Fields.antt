@@ -44,7 +44,8 @@ pub record IsNewest (x : ℕ) (os : List RetiredEdge) (m : ℕ) : Type 0 where
 pub record IsLinked (n : ℕ) (newest : List ℕ) (os : List RetiredEdge) : Type 0 where
   pub size : length newest ≡ n
   pub begins : (x : ℕ) → x < n → IsNewest x os (slice_index newest x)
-  pub older : (i : ℕ) (d : RetiredEdge) → i < length os → IsNewest (owner (slice_index_or os i d).cell) (take i os) (slice_index_or os i d).older
+  pub older : (i : ℕ) (d : RetiredEdge) → i < length os
+      → IsNewest (owner (slice_index_or os i d).cell) (take i os) (slice_index_or os i d).older
 
 -- all that is new at the end is such
 abbrev pub IsGrown : (ℕ → Type 0) → List ℕ → List ℕ → Type 0
@@ -85,7 +86,8 @@ receded gone p = record { passed = p.passed - gone; met = p.met - gone; word = p
 abbrev pub spare_of : ℕ → ℕ → ℕ → ℕ → ℕ
 spare_of room count room_left count_left = min (min (room - count) (room_left - (count_left + count))) (4294967295 - count)
 
-pub record IsKept (n : ℕ) (edges : List (Option ℕ)) (ins : List ℕ) (os : List RetiredEdge) (newest : List ℕ) (ps : List Progress) (left : List ℕ) (room_left : ℕ) : Type 0 where
+pub record IsKept (n : ℕ) (edges : List (Option ℕ)) (ins : List ℕ) (os : List RetiredEdge) (newest : List ℕ) (ps : List Progress)
+    (left : List ℕ) (room_left : ℕ) : Type 0 where
   pub some : 0 < n
   pub few : n < 2 ^ 32
   pub within : IsWithin n edges (map plain os)
