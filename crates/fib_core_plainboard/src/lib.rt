@@ -10,7 +10,9 @@
 
 pub mod filling;
 mod memory;
+mod passes;
 mod plain_board;
 mod running;
 
+pub use passes::Passes;
 pub use plain_board::PlainBoard;

@@ -1,22 +1,16 @@
-// The board as one value, and its passes.
-ghost use Rattle.std.specs.Prelude.{IfNone, IfOk, IfSome, IsTrue, None, Some, ℕ};
-ghost use Rattle.std.specs.Prelude.{replicate, slice_index, slice_index_or, ◌*◌, ◌+◌, ◌<◌, ◌≡◌, ◌↔◌, false, length};
+// The board as one value.
+ghost use Rattle.std.specs.Prelude.{IfOk, None, Some, length, replicate, slice_index, slice_index_or, ◌*◌, ◌+◌, ◌<◌, ◌≡◌};
 ghost use Rattle.fib_resolve.specs.declared.types.End.{End as Ending};
-ghost use Rattle.fib_core_results.specs.Steady.{IsSteady};
-ghost use Rattle.fib_core_results.specs.Trails.{IsRecordOk};
-ghost use Rattle.fib_core.specs.Trails.{Follows};
 ghost use Rattle.fib_core.specs.Words.{IsWord, decoded};
 ghost use Rattle.fib_core.specs.declared.stage.Stage.TheVariants.{Ended};
 ghost use Rattle.fib_core_lawful.specs.Layout as layout;
-ghost use Rattle.fib_core_lawful.specs.State.{left_of};
-ghost use Rattle.fib_core_board.specs.Boards.{Pass};
 ghost use Rattle.fib_core_board.specs.Told.{IsWithinLimits};
 ghost use Rattle.fib_core_plainboard.specs.declared.running.Running.{Running as Kept};
-ghost use Rattle.fib_core_plainboard.specs.Passes.{FoundEdge, HasEnd, IsAlong, IsOnItsWay, IsRunning};
-ghost use Rattle.fib_core_plainboard.specs.Passes.{answer_of, fresh_plain, hopped_on, loads_in, pass_begun, pass_ended, pass_of};
+ghost use Rattle.fib_core_plainboard.specs.Passes.{fresh_plain};
 ghost use Rattle.fib_core_plainboard.specs.inner.Reads.{IsNext, IsReadable};
 
 use crate::memory::{Memory, Room};
+use crate::passes::Passes;
 use crate::running::Running;
 use fib_addr::{Addr, nibble};
 use fib_core::{Record, Stage, Version, Word, adjacency_end, after_balance, after_ply};
@@ -165,17 +159,14 @@ impl PlainBoard {
             workers,
         })
     }
+}
 
-    /// Begins a pass of that worker for a packet to `addr` with that flow hash. It knows the version as it is now.
-    ///
-    /// No pass of that worker may run, and it must have passes left.
-    pub fn begin(&mut self, worker: u32, addr: Addr, hash: u32)
-        requires worker { worker < self.old.workers }
-        requires rests { pass_of self.old worker ≡ None }
-        requires left { 0 < left_of (slice_index self.old.rests worker) }
-        ensures pass { self.new ≡ pass_begun self.old worker addr hash }
-        ensures on { IsOnItsWay self.new worker }
-    {
+impl Passes for PlainBoard {
+    ghost board = { λ b. b };
+
+    ghost is_with = { λ b next c. c ≡ next };
+
+    fn begin(&mut self, worker: u32, addr: Addr, hash: u32) {
         let place = worker as usize;
         let lo = Version::decode(self.words[version_word()]);
         self.words[pass_word(worker)] += 1;
@@ -189,16 +180,7 @@ impl PlainBoard {
         });
     }
 
-    /// The running pass of that worker loads the next cell of its walk, or the three words of the adjacency on which it
-    /// stands. Its end; None exactly where the hop loaded an edge. It must have had no end yet.
-    pub fn hop(&mut self, worker: u32) -> Option<End>
-        requires { IsOnItsWay self.old worker }
-        ensures pass { self.new ≡ hopped_on self.old worker }
-        ensures follows { (q : Pass) → pass_of self.new worker ≡ Some q → Follows q.addr q.hash q.loads }
-        ensures on { IfNone result (IsOnItsWay self.new worker × FoundEdge (loads_in (pass_of self.new worker))) }
-        ensures ended { IfSome result (λ e. HasEnd self.new worker e × (FoundEdge (loads_in (pass_of self.new worker)) → ⊥)) }
-        ensures along { IsAlong self.new (loads_in (pass_of self.new worker)) }
-    {
+    fn hop(&mut self, worker: u32) -> Option<End> {
         let place = worker as usize;
         let pass = hopped(&self.words, running_pass(&self.passes, place));
         let end = pass.stage.end();
@@ -207,23 +189,7 @@ impl PlainBoard {
         end
     }
 
-    /// Each running pass goes along the union, at every moment: it visits no object twice, and only live ones.
-    pub fn tells_of_passes(&self)
-        ensures { (n : ℕ) (q : Pass) → pass_of self.now n ≡ Some q → IsAlong self.now q.loads }
-    {
-        // The type's invariant tells it, once a field is used.
-        let _objects = self.objects;
-    }
-
-    /// Ends the running pass of that worker, which has its end. The answer is right and steady over the versions that the
-    /// pass spanned, from that at its begin to that of now. The worker has one pass less left.
-    pub fn end(&mut self, worker: u32) -> Record
-        requires { (e : Ending) × HasEnd self.old worker e }
-        ensures pass { self.new ≡ pass_ended self.old worker }
-        ensures answer { (q : Pass) → pass_of self.old worker ≡ Some q → result ≡ answer_of q self.old.log.version }
-        ensures right { IsRecordOk self.old.log.history result }
-        ensures steady { IsSteady self.old.log.history result }
-    {
+    fn end(&mut self, worker: u32) -> Record {
         let place = worker as usize;
         let pass = running_pass(&self.passes, place);
         let hi = Version::decode(self.words[version_word()]);
@@ -239,14 +205,16 @@ impl PlainBoard {
         }
     }
 
-    /// Whether a pass of that worker runs. Its number is out exactly then.
-    pub fn running(&self, worker: u32) -> bool
-        requires { worker < self.now.workers }
-        ensures running { IsTrue result ↔ IsRunning self.now worker }
-        ensures out { slice_index_or self.now.out worker false ≡ result }
-    {
+    fn running(&self, worker: u32) -> bool {
         self.passes[worker as usize].is_some()
     }
+
+    fn tells_of_passes(&self) {
+        // The type's invariant tells it, once a field is used.
+        let _objects = self.objects;
+    }
+
+    ghost boarded = { λ b c next same. same };
 }
 
 impl Board for PlainBoard {

@@ -2,7 +2,7 @@ use Rattle.std.proofs.Common.{sym, subst}
 use Rattle.fib_core_board.specs.Boards.{Board}
 use Rattle.fib_core_plainboard.proofs.Calls as calls
 use Rattle.fib_core_plainboard.specs.Passes.{IsOnItsWay}
-use Rattle.fib_core_plainboard.proofs.plain_board.PlainBoard.hop.Goals as goal
+use Rattle.fib_core_plainboard.proofs.plain_board.PlainBoardPasses.hop.Goals as goal
 
 pub hopped-pass-requires : goal.hopped-pass-requires
 hopped-pass-requires c =

@@ -3,7 +3,7 @@ use Rattle.std.specs.Prelude.{Some}
 use Rattle.fib_core_board.specs.Boards.{Board}
 use Rattle.fib_core_plainboard.specs.Passes.{IsAlong, pass_of}
 use Rattle.fib_core_plainboard.proofs.Passing.{along}
-use Rattle.fib_core_plainboard.proofs.plain_board.PlainBoard.tells_of_passes.Goals as goal
+use Rattle.fib_core_plainboard.proofs.plain_board.PlainBoardPasses.tells_of_passes.Goals as goal
 
 pub returns : goal.returns
 returns c = λ n q runs. subst (λ (p : Board). IsAlong p q.loads) c.self.view_is

@@ -9,7 +9,7 @@ use Rattle.fib_core_lawful.specs.Layout.{version_word, pass_word}
 use Rattle.fib_core_lawful.specs.State.{left_of}
 use Rattle.fib_core_plainboard.specs.Passes.{IsOnItsWay, pass_begun}
 use Rattle.fib_core_plainboard.specs.inner.Sits.{aimed_at, sent_at}
-use Rattle.fib_core_plainboard.proofs.plain_board.PlainBoard.begin.Goals as goal
+use Rattle.fib_core_plainboard.proofs.plain_board.PlainBoardPasses.begin.Goals as goal
 
 pub overflow_add-index_mut : goal.overflow_add-index_mut
 overflow_add-index_mut c =

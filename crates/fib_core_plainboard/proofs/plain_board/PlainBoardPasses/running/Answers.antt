@@ -4,7 +4,7 @@ use Rattle.std.proofs.lemmas.List.{get_or_default}
 use Rattle.fib_core_board.specs.Boards.{Board}
 use Rattle.fib_core_plainboard.specs.Passes.{IsRunning}
 use Rattle.fib_core_plainboard.proofs.Calls as calls
-use Rattle.fib_core_plainboard.proofs.plain_board.PlainBoard.running.Goals as goal
+use Rattle.fib_core_plainboard.proofs.plain_board.PlainBoardPasses.running.Goals as goal
 
 result_is : (c : goal.After-is_some) → c.is_some.result ≡ is_some (slice_index_or c.self.inside.passes c.args.worker None)
 result_is c =

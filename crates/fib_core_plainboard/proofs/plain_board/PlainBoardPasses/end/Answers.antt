@@ -10,7 +10,7 @@ use Rattle.fib_core_results.specs.Versions.{unpacked}
 use Rattle.fib_core_plainboard.specs.Passes.{HasEnd, answer_of}
 use Rattle.fib_core_plainboard.proofs.Passing.{inside, some_is}
 use Rattle.fib_core_plainboard.proofs.Ending.{answer_right, answer_steady}
-use Rattle.fib_core_plainboard.proofs.plain_board.PlainBoard.end.Goals as goal
+use Rattle.fib_core_plainboard.proofs.plain_board.PlainBoardPasses.end.Goals as goal
 use Rattle.fib_core_lawful.specs.Layout.{version_word, pass_word}
 
 pub overflow_add-index_mut : goal.overflow_add-index_mut
