@@ -5,7 +5,7 @@ use Rattle.fib_plane.specs.Views.{AreRecorded, Whole, plane_of, view_of}
 use Rattle.fib_core_board.specs.Boards.{Board}
 use Rattle.fib_plane.specs.inner.Joined.{IsAtRest}
 use Rattle.fib_plane.proofs.Resting.{moved_rest}
-use Rattle.fib_plane.proofs.passes.Plane+PlainBoard.end.Goals as goal
+use Rattle.fib_plane.proofs.passes.PlanePlainBoardPasses.end.Goals as goal
 
 pub invariant_of-self : goal.invariant_of-self
 invariant_of-self c =
