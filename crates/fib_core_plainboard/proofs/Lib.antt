@@ -5,8 +5,3 @@ pub mod Passing
 pub mod Hopping
 pub mod Ending
 pub mod Calls
-pub mod Forests
-pub mod Freshly
-pub mod Fills
-pub mod Changing
-pub mod Growing

@@ -1,6 +1,3 @@
 -- Relations that carry proofs and no claim: none is needed to believe a public clause.
-pub mod Filled
-pub mod Filling
-pub mod Fresh
 pub mod Reads
 pub mod Sits

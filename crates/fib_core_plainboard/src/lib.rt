@@ -5,10 +5,9 @@
 //! same laws. So it shows that what the rule and the trait `Board` ask can be met together.
 //!
 //! What contracts see of it is the value `Board` of fib_core_board; `specs/Passes.antt` says what begin, hop and end make of
-//! it. `specs/inner` only carries proofs: `Reads`, `Sits` those of the code, the others those of `filling`, which fills boards for tests.
+//! it. `Passes` are these calls, of a board and of what stands on one. `specs/inner` only carries proofs.
 #![tactic(auto)]
 
-pub mod filling;
 mod memory;
 mod passes;
 mod plain_board;

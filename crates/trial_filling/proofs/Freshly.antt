@@ -22,7 +22,7 @@ use Rattle.fib_core.specs.declared.word.Word.TheVariants as words
 use Rattle.fib_core.specs.Words.{decoded, tag_of, value_of, word_of}
 use Rattle.fib_core.specs.Walk.{word_at}
 use Rattle.fib_core.specs.StandsFor.{IsCounted, StandsFor, Thing, adjacency_of, balance_of, ply_of, thing_word}
-use Rattle.fib_core_plainboard.specs.inner.Fresh.{after_stores, all_below, all_in, entry_at, entry_stands, holds_all, is_good, number_of, number_stands, ply_at, ply_stands, same_word}
+use Rattle.trial_filling.specs.inner.Fresh.{after_stores, all_below, all_in, entry_at, entry_stands, holds_all, is_good, number_of, number_stands, ply_at, ply_stands, same_word}
 
 pub all_good : all_below 272 is_good ≡ true
 unfolding after_stores

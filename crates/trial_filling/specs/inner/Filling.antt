@@ -12,8 +12,8 @@ use Rattle.fib_core_lawful.specs.State.{begun, first_control, stored_union}
 use Rattle.fib_core_steady.specs.Names.{Names, IsChild}
 use Rattle.fib_core_steady.specs.Promise.{IsPromised, IsRight}
 use Rattle.fib_core_board.specs.Boards.{Board, as_control}
-use Rattle.fib_core_plainboard.specs.inner.Filled.{IsFilled}
-use Rattle.fib_core_plainboard.specs.inner.Fresh.{forest, after_stores, number_of}
+use Rattle.trial_filling.specs.inner.Filled.{IsFilled}
+use Rattle.trial_filling.specs.inner.Fresh.{forest, after_stores, number_of}
 
 -- the cells after the first i stores; what was retired is retired since the last look
 pub record HasStores (i : ℕ) (u : Union) : Type 0 where

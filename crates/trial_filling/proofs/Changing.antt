@@ -29,6 +29,7 @@ use Rattle.fib_core_steady.specs.Names.{Names}
 use Rattle.fib_core_steady.specs.Promise.{IsPromised}
 use Rattle.fib_core_steady.specs.Undisturbed.{since}
 use Rattle.fib_core_steady.proofs.Events.{asks_less, later_too}
+use Rattle.fib_core_steady.proofs.Lists.{none_some, some_same}
 use Rattle.fib_core_steady.proofs.Storing.{aside_stored}
 use Rattle.fib_core_rule.specs.Change.{MayChange, MayPlace}
 use Rattle.fib_core_rule.proofs.Named.{names_of}
@@ -36,11 +37,10 @@ use Rattle.fib_core_rule.proofs.Settled.{stands_since}
 use Rattle.fib_core_board.specs.Boards.{Board, as_control, board_begun, board_stored}
 use Rattle.fib_core_board.proofs.Serving.{clear_empties}
 use Rattle.fib_core_board.specs.May.{IsReached, MayBegin, MayClear, MaySettle, MayStore}
-use Rattle.fib_core_plainboard.specs.inner.Fresh.{number_of}
-use Rattle.fib_core_plainboard.specs.inner.Filling.{HasNumber, IsChanging, IsReady, seven}
-use Rattle.fib_core_plainboard.proofs.Forests.{set_else, set_there_is}
-use Rattle.fib_core_plainboard.proofs.Passing.{some_is, some_none}
-use Rattle.fib_core_plainboard.proofs.Freshly.{entries_are_prefixes, entry_low, low}
+use Rattle.trial_filling.specs.inner.Fresh.{number_of}
+use Rattle.trial_filling.specs.inner.Filling.{HasNumber, IsChanging, IsReady, seven}
+use Rattle.trial_filling.proofs.Forests.{set_else, set_there_is}
+use Rattle.trial_filling.proofs.Freshly.{entries_are_prefixes, entry_low, low}
 
 seven_back : decoded seven ≡ words.Plain 7
 seven_back = decoded_encoded (words.Plain 7) (omega arith)
@@ -128,8 +128,8 @@ module _ (b : Board) (r : IsChanging b) where
       by_test : (t : Bool) → is_member same_prefix (entries fresh) e ≡ t → (14 < o) × (o < 20)
       by_test true there =
           let named : Some (number_of (balance_of e)) ≡ Some o = sym (ap (λ (t : Bool). if t then Some (number_of (balance_of e)) else None) there) ∙ is in
-          subst (λ (n : ℕ). (14 < n) × (n < 20)) (some_is (number_of (balance_of e)) o named) (entry_low e ((is_member-Decides same_prefix-Decides (entries fresh) e).0 there))
-      by_test false there = absurd (some_none o (sym is ∙ ap (λ (t : Bool). if t then Some (number_of (balance_of e)) else None) there))
+          subst (λ (n : ℕ). (14 < n) × (n < 20)) (some_same (number_of (balance_of e)) o (Some (number_of (balance_of e))) refl named) (entry_low e ((is_member-Decides same_prefix-Decides (entries fresh) e).0 there))
+      by_test false there = absurd (none_some o (sym (ap (λ (t : Bool). if t then Some (number_of (balance_of e)) else None) there) ∙ is))
 
   unnamed : (e : Prefix) → names.balance e ≡ Some 20 → ⊥
   unnamed e is = (let lt = (balances e 20 is).1 in omega arith)

@@ -15,7 +15,7 @@ use Rattle.fib_core.specs.declared.word.Word.{Word}
 use Rattle.fib_core.specs.declared.word.Word.TheVariants as words
 use Rattle.fib_core.specs.Words.{tag_of, value_of}
 use Rattle.fib_core.specs.StandsFor.{Thing, ply_of, balance_of, adjacency_of, thing_word}
-use Rattle.fib_core_plainboard.specs.inner.Filled.{Forest}
+use Rattle.trial_filling.specs.inner.Filled.{Forest}
 
 abbrev pub is_ply : ℕ → Bool
 is_ply o = nat_lt o 15 || (o == 20)

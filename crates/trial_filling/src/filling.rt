@@ -1,11 +1,8 @@
-//! A board that stands for the fresh tables, for tests in the crates above.
-//!
-//! 254 stores fill the cells, each ply before it is linked. 17 further ones grow a ply in object 20, below the root's cell 1, and one more puts
-//! the balance back that stood there.
+// The stores, and the board that they fill.
 ghost use Rattle.std.specs.Prelude.{◌+◌, ◌<◌, ◌≡◌};
 ghost use Rattle.fib_core_board.specs.Boards.{IsFresh};
-ghost use Rattle.fib_core_plainboard.specs.inner.Filling.{IsFilling, IsReady, with_union};
-ghost use Rattle.fib_core_plainboard.specs.inner.Fresh.{cell_at, grown_cell as grown_of, grown_word as grown_said, last_cell as last_of, last_word as last_said, link_cell as link_of, word_of_store};
+ghost use Rattle.trial_filling.specs.inner.Filling.{IsFilling, IsReady, with_union};
+ghost use Rattle.trial_filling.specs.inner.Fresh.{cell_at, grown_cell as grown_of, grown_word as grown_said, last_cell as last_of, last_word as last_said, link_cell as link_of, word_of_store};
 
 use fib_core::Word;
 use fib_core_board::Board;

@@ -24,11 +24,11 @@ use Rattle.fib_core_steady.specs.Rooted.{IsLeaf}
 use Rattle.fib_core_rule.specs.Steady.{MayStoreSteadily}
 use Rattle.fib_core_board.specs.Boards.{Board, IsFresh, as_control, board_of, board_scanned, board_stored}
 use Rattle.fib_core_board.specs.May.{Allows, MayStore, HoldsPromise}
-use Rattle.fib_core_plainboard.specs.inner.Filled.{Fits, IsForest}
-use Rattle.fib_core_plainboard.specs.inner.Fresh.{after_stores, all_below, cell_at, depth_of, fits_by, forest, is_good, is_leaf, is_ply, is_ply_word, link_cell, number_of, same_word, word_of_store}
-use Rattle.fib_core_plainboard.specs.inner.Filling.{HasStores, IsFilling, IsFirst, IsReady}
-use Rattle.fib_core_plainboard.proofs.Forests as forests
-use Rattle.fib_core_plainboard.proofs.Freshly.{all_good, entries_are_prefixes, in_range, none_to_twenty, same_is, stand_for_fresh}
+use Rattle.trial_filling.specs.inner.Filled.{Fits, IsForest}
+use Rattle.trial_filling.specs.inner.Fresh.{after_stores, all_below, cell_at, depth_of, fits_by, forest, is_good, is_leaf, is_ply, is_ply_word, link_cell, number_of, same_word, word_of_store}
+use Rattle.trial_filling.specs.inner.Filling.{HasStores, IsFilling, IsFirst, IsReady}
+use Rattle.trial_filling.proofs.Forests as forests
+use Rattle.trial_filling.proofs.Freshly.{all_good, entries_are_prefixes, in_range, none_to_twenty, same_is, stand_for_fresh}
 
 is_forest : IsForest forest
 is_forest = record { few = omega arith; top = refl; root = refl; low = low }

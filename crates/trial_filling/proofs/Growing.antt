@@ -24,12 +24,12 @@ use Rattle.fib_core_promise.proofs.PlyStores.{linked_promised, placed, placed_pr
 use Rattle.fib_core_rule.proofs.Named.{names_of}
 use Rattle.fib_core_board.specs.Boards.{Board, as_control, board_begun, board_stored}
 use Rattle.fib_core_board.specs.May.{Allows, MayStore, HoldsPromise}
-use Rattle.fib_core_plainboard.specs.inner.Filled.{Fits}
-use Rattle.fib_core_plainboard.specs.inner.Fresh.{after_stores, all_below, cell_at, forest, number_of, same_word, word_of_store}
-use Rattle.fib_core_plainboard.specs.inner.Filling.{HasStores, IsChanging, IsGrowing, IsReady}
-use Rattle.fib_core_plainboard.proofs.Changing as changing
-use Rattle.fib_core_plainboard.proofs.Fills as fills
-use Rattle.fib_core_plainboard.proofs.Freshly.{in_range, same_is}
+use Rattle.trial_filling.specs.inner.Filled.{Fits}
+use Rattle.trial_filling.specs.inner.Fresh.{after_stores, all_below, cell_at, forest, number_of, same_word, word_of_store}
+use Rattle.trial_filling.specs.inner.Filling.{HasStores, IsChanging, IsGrowing, IsReady}
+use Rattle.trial_filling.proofs.Changing as changing
+use Rattle.trial_filling.proofs.Fills as fills
+use Rattle.trial_filling.proofs.Freshly.{in_range, same_is}
 
 -- the stores, computed
 fills_twenty : all_below 16 (λ r. same_word (word_of_store (254 + r)) (words.ToBalance 15) && (owner (cell_at (254 + r)) == 20)) ≡ true

@@ -1,8 +1,8 @@
 use Rattle.std.proofs.Common.{◌≡◌, refl, subst, arith}
 use Rattle.std.proofs.lemmas.Bool.Decides.{nat_tests}
-use Rattle.fib_core_plainboard.specs.inner.Filling.{IsFilling}
-use Rattle.fib_core_plainboard.proofs.Fills.{at_home, fresh_filling, ready}
-use Rattle.fib_core_plainboard.proofs.filling.fill.Goals as goal
+use Rattle.trial_filling.specs.inner.Filling.{IsFilling}
+use Rattle.trial_filling.proofs.Fills.{at_home, fresh_filling, ready}
+use Rattle.trial_filling.proofs.filling.fill.Goals as goal
 
 pub loop-store-init : goal.loop-store-init
 loop-store-init g c = (fresh_filling (g.B.Board.view c.args.board.now) c.requires.fresh c.requires.objects c.requires.workers, omega arith, refl)

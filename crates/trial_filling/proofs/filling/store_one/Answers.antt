@@ -2,8 +2,8 @@ use Rattle.std.proofs.Common.{◌≡◌, ℕ, ◌+◌, ◌*◌, ◌/◌, ◌%◌
 use Rattle.fib_core.specs.declared.word.Word.{Word}
 use Rattle.fib_core_board.specs.Boards.{board_stored}
 use Rattle.fib_core_board.specs.May.{MayStore}
-use Rattle.fib_core_plainboard.proofs.Fills.{may_fill, stored_then}
-use Rattle.fib_core_plainboard.proofs.filling.store_one.Goals as goal
+use Rattle.trial_filling.proofs.Fills.{may_fill, stored_then}
+use Rattle.trial_filling.proofs.filling.store_one.Goals as goal
 
 whole : (k : ℕ) → 16 * (k / 16) + k % 16 ≡ k
 whole k = omega arith

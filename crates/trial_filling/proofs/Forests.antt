@@ -25,7 +25,7 @@ use Rattle.fib_core_rule.specs.Change.{MayChange, MayEnter, MayPlace}
 use Rattle.fib_core_rule.specs.Steady.{MayStoreSteadily}
 use Rattle.fib_core_board.specs.Boards.{Board, as_control}
 use Rattle.fib_core_board.specs.May.{Allows, MayStore}
-use Rattle.fib_core_plainboard.specs.inner.Filled.{Forest, IsForest, Fits, IsFilled}
+use Rattle.trial_filling.specs.inner.Filled.{Forest, IsForest, Fits, IsFilled}
 
 -- an edge that fits is one to a deeper ply or one to a balance
 abbrev IsDeeper : Forest → ℕ → Word → Type 0
