@@ -8,7 +8,7 @@ use crate::config::name;
 use fib_addr::{Addr, Prefix};
 use fib_control::{ApplyError, BatchApplyError, Control};
 use fib_core::Version;
-use fib_core_plainboard::PlainBoard;
+use fib_core_plainboard::{Passes, PlainBoard};
 use fib_resolve::{Edit, End, List, Need, PathSpec, Refusal, SpecKind};
 use fib_stack::Turn;
 use std::alloc::Global;
@@ -271,6 +271,7 @@ fn drops(control: &mut Control<PlainBoard>) -> Result<bool, Fail>
     if control.hop(0).is_some() {
         return Err("the first hop ends".into());
     }
+    control.tells_of_passes();
     match control.hop(0) {
         Some(_) => Ok(control.end(0).end == End::Drop),
         None => Err("the second hop doesn't end".into()),

@@ -7,7 +7,7 @@ ghost use Rattle.fib_core_plainboard.specs.Passes.{fresh_plain};
 
 use fib_addr::Addr;
 use fib_core::{Version, Word};
-use fib_core_plainboard::PlainBoard;
+use fib_core_plainboard::{Passes, PlainBoard};
 use fib_plane::{Plane, laws};
 use fib_plane_view::Objects;
 use fib_resolve::End;
@@ -70,6 +70,7 @@ fn a_pass_over_a_fresh_plane(rt: HostRuntime) -> Result<(), Fail> {
     let before = plane.running(1);
     plane.begin(1, Addr(7), 9);
     let after = plane.running(1);
+    plane.tells_of_passes();
     let end = plane.hop(1).ok_or("an edge")?;
     let record = plane.end(1);
     assert!(rt;

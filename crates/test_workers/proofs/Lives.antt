@@ -4,8 +4,8 @@ use Rattle.fib_core_lawful.specs.State.{Worker}
 use Rattle.fib_core_board.specs.Boards.{Board, IsFresh, board_scanned}
 use Rattle.fib_core_board.specs.Crews.{board_joined, board_sent}
 use Rattle.fib_core_board.specs.May.{MaySettle}
-use Rattle.fib_core_plainboard.specs.inner.Filling.{IsChanging, with_union}
-use Rattle.fib_core_plainboard.proofs.Changing as changing
+use Rattle.trial_filling.specs.inner.Filling.{IsChanging, with_union}
+use Rattle.trial_filling.proofs.Changing as changing
 use Rattle.fib_cells.specs.Seats.{fresh_live}
 
 pub fresh_board : (b : Board) (id : List ℕ) → b ≡ fresh_live id 64 1 → IsFresh b

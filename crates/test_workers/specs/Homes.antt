@@ -2,7 +2,7 @@
 use Rattle.std.specs.Prelude.{◌≡◌, ℕ, List, Option, Some, None}
 use Rattle.fib_core_board.specs.Boards.{Board}
 use Rattle.fib_core_board.specs.Crews.{Seated}
-use Rattle.fib_core_plainboard.specs.inner.Filling.{IsChanging}
+use Rattle.trial_filling.specs.inner.Filling.{IsChanging}
 
 -- the worker, if there is one, is of these words
 abbrev pub IsOf : List ℕ → Option Seated → Type 0

@@ -1,16 +1,16 @@
 // Each public call.
 ghost use Rattle.std.specs.Prelude.{IfOk, None, replicate, ◌≡◌};
-ghost use Rattle.fib_core_plainboard.specs.inner.Filling.{IsReady};
+ghost use Rattle.trial_filling.specs.inner.Filling.{IsReady};
 
 use crate::expect::{holds, same};
 use fib_addr::Addr;
 use fib_core::{Record, Version, Word};
 use fib_core_board::Board;
-use fib_core_plainboard::filling::fill;
-use fib_core_plainboard::{PlainBoard, filling};
+use fib_core_plainboard::{Passes, PlainBoard};
 use fib_resolve::{End, Tables};
 use std::alloc::{AllocError, Global};
 use std::test::Fail;
+use trial_filling::fill;
 
 #[test]
 fn a_pass_on_a_fresh_board(rt: HostRuntime) -> Result<(), Fail> {
@@ -74,6 +74,7 @@ fn a_change_beneath_a_pass(rt: HostRuntime) -> Result<(), Fail> {
     if board.hop(0).is_some() {
         return Err(Fail::from("no edge to the ply"));
     }
+    board.tells_of_passes();
     board.store(20, 0, Word::Plain(7));
     same(&rt, board.load(20, 0), Word::Plain(7));
     if board.hop(0).is_some() {

@@ -1,10 +1,10 @@
 // Live cells that stand for the fresh tables, for tests.
 ghost use Rattle.std.specs.Prelude.{◌≡◌};
 ghost use Rattle.fib_cells.specs.Seats.{fresh_live, id_in};
-ghost use Rattle.fib_core_plainboard.specs.inner.Filling.{IsReady, with_union};
+ghost use Rattle.trial_filling.specs.inner.Filling.{IsReady, with_union};
 
 use fib_cells::{Cells, ControlSeat, LiveBoard};
-use fib_core_plainboard::filling::fill;
+use trial_filling::fill;
 
 /// A board of 64 objects and one worker on fresh words, filled for these tables.
 pub fn filled_board<'a>(cells: &'a Cells, seat: ControlSeat) -> LiveBoard<'a>

@@ -1,6 +1,6 @@
 // A worker in a thread of its own, beside a change by the control plane.
 ghost use Rattle.std.specs.Prelude.{ℕ, All, IfSome, length, slice_index_or, ◌<◌, ◌≡◌};
-ghost use Rattle.fib_core_plainboard.specs.inner.Filling.{IsChanging};
+ghost use Rattle.trial_filling.specs.inner.Filling.{IsChanging};
 ghost use Rattle.test_workers.specs.declared.threads.Job.{Job as Work};
 ghost use Rattle.test_workers.specs.Homes.{IsOf, MayRun, SameBoard, SameSeat};
 

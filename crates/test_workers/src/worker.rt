@@ -1,7 +1,7 @@
 // Passes on live cells, all on one thread.
 ghost use Rattle.std.specs.Prelude.{IfOk, OnOk, ◌<◌, ◌≡◌};
 ghost use Rattle.fib_core_lawful.specs.State.{left_of};
-ghost use Rattle.fib_core_plainboard.specs.inner.Filling.{IsChanging};
+ghost use Rattle.trial_filling.specs.inner.Filling.{IsChanging};
 ghost use Rattle.fib_cells.specs.Seats.{fresh_live, id_in};
 
 use crate::expect::{holds, same};

@@ -1,5 +1,7 @@
 // A pass that is held while two routes come to lead to each other: the buckets that would close a cycle with what it stands on wait for its end.
 ghost use Rattle.std.specs.Prelude.{IfOk, None, OnOk, Some, [], ℕ, ◌+◌, ◌≡◌};
+ghost use Rattle.fib_core_board.specs.Boards.{Pass};
+ghost use Rattle.fib_core_plainboard.specs.Passes.{IsAlong, pass_of};
 ghost use Rattle.trial_plain.specs.Calm.{AreCalm};
 ghost use Rattle.trial_plain.specs.Seats.{IsHeld, IsUnchanged, IsRested, first_seats, seats_in};
 
@@ -10,7 +12,7 @@ use crate::trouble::Trouble;
 use fib_addr::Addr;
 use fib_control::Control;
 use fib_core::Record;
-use fib_core_plainboard::PlainBoard;
+use fib_core_plainboard::{Passes, PlainBoard};
 use fib_resolve::End;
 use fib_stack::Turn;
 use std::alloc::Global;
@@ -177,6 +179,13 @@ pub fn hold(control: &mut Control<PlainBoard>, addr: Addr, hash: u32, most: u32)
     hops(control, most)
 }
 
+// The pass that is held goes along the union, whatever was put beneath it.
+fn goes_along<P: Passes>(over: &P)
+    ensures { (q : Pass) → pass_of (P.board over.now) 0 ≡ Some q → IsAlong (P.board over.now) q.loads }
+{
+    over.tells_of_passes()
+}
+
 /// What is found while a pass is held, and after its end.
 #[derive(Clone, Copy, Debug, PartialEq, Eq)]
 pub struct Found {
@@ -205,6 +214,7 @@ fn hold_while_turned(
     route(alloc, control)?;
     let end = hold(control, Addr(0x3201_0101), 0, most);
     let turn = turn_round(alloc, control, made)?;
+    goes_along(control);
     let deferred = control.deferred();
     let held = calm(control);
     let record = go_on(control, end)?;

@@ -3,7 +3,7 @@ use Rattle.std.specs.Prelude.{slice_index, slice_index_or}
 use Rattle.fib_core_lawful.specs.State.{left_of}
 use Rattle.fib_core_board.specs.Boards.{Board}
 use Rattle.fib_core_plainboard.specs.Passes.{FoundEdge, IsOnItsWay, loads_in, pass_of}
-use Rattle.fib_core_plainboard.proofs.Changing as changing
+use Rattle.trial_filling.proofs.Changing as changing
 use Rattle.test_workers.proofs.plainboard.a_change_beneath_a_pass.Goals as goal
 
 pub begin-requires-clause-rests : goal.begin-requires-clause-rests

@@ -1,6 +1,6 @@
 use Rattle.std.proofs.Common.{ap, ◌∙◌}
 use Rattle.fib_core_board.specs.Boards.{Board}
-use Rattle.fib_core_plainboard.proofs.Changing as changing
+use Rattle.trial_filling.proofs.Changing as changing
 use Rattle.test_workers.proofs.threads.store_beneath.Goals as goal
 
 pub store-requires-clause-may : goal.store-requires-clause-may

@@ -1,7 +1,7 @@
 use Rattle.std.proofs.Common.{ap, sym, ◌∙◌}
 use Rattle.fib_core_board.specs.Boards.{Board}
 use Rattle.fib_core_board.specs.Crews.{Seated}
-use Rattle.fib_core_plainboard.proofs.Changing.{begins_changing}
+use Rattle.trial_filling.proofs.Changing.{begins_changing}
 use Rattle.test_workers.proofs.Lives.{home_settles, sent_changing}
 use Rattle.test_workers.proofs.worker.a_change_beneath_held_passes.Goals as goal
 

@@ -1,5 +1,5 @@
 use Rattle.std.proofs.Common.{◌≡◌}
-use Rattle.fib_core_plainboard.specs.inner.Filling.{IsChanging}
+use Rattle.trial_filling.specs.inner.Filling.{IsChanging}
 use Rattle.test_workers.proofs.worker.a_change_beneath_held_passes.Given as goal
 
 abbrev pub invariant-loop-held : goal.invariant-loop-held

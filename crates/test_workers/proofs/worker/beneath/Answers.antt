@@ -1,4 +1,4 @@
-use Rattle.fib_core_plainboard.proofs.Changing as changing
+use Rattle.trial_filling.proofs.Changing as changing
 use Rattle.test_workers.proofs.worker.beneath.Goals as goal
 
 pub store-requires-clause-may : goal.store-requires-clause-may

@@ -1,5 +1,5 @@
 use Rattle.std.proofs.Common.{◌≡◌}
-use Rattle.fib_core_plainboard.specs.inner.Filling.{IsChanging}
+use Rattle.trial_filling.specs.inner.Filling.{IsChanging}
 use Rattle.test_workers.proofs.worker.held_beneath_a_change.Given as goal
 
 abbrev pub invariant-loop : goal.invariant-loop

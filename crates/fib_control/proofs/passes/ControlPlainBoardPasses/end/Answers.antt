@@ -6,7 +6,7 @@ use Rattle.fib_core_results.specs.Steady.{IsSteady}
 use Rattle.fib_control.specs.Controls.{Control}
 use Rattle.fib_control.specs.inner.Standing.{IsStanding}
 use Rattle.fib_control.proofs.Kept.{passed_standing}
-use Rattle.fib_control.proofs.passes.Control+PlainBoard.end.Goals as goal
+use Rattle.fib_control.proofs.passes.ControlPlainBoardPasses.end.Goals as goal
 
 pub invariant_of-self : goal.invariant_of-self
 invariant_of-self c =

@@ -5,7 +5,7 @@ use Rattle.fib_plane.specs.Planes.{Plane}
 use Rattle.fib_control.specs.Controls.{Control}
 use Rattle.fib_control.specs.inner.Standing.{IsStanding}
 use Rattle.fib_control.proofs.Kept.{passed_standing}
-use Rattle.fib_control.proofs.passes.Control+PlainBoard.hop.Goals as goal
+use Rattle.fib_control.proofs.passes.ControlPlainBoardPasses.hop.Goals as goal
 
 pub invariant_of-self : goal.invariant_of-self
 invariant_of-self c =
