@@ -20,7 +20,7 @@ use trial_plain::changes::eight;
 use trial_plain::crowded::{Crowd, Crowded, crowded_after, crowded_below};
 use trial_plain::held::{Deleted, Found, Made, deleted_while_held, held_after};
 use trial_plain::prefixes::{add_new, first_balance, fresh, remove_both, started};
-use trial_plain::records::{first_user, let_go, listed_users, user_goes};
+use trial_plain::records::{first_user, kept_at, let_go, listed_users, second_user, user_goes};
 use trial_plain::sets::{Numbers, is_right};
 use trial_plain::steps::Answers;
 use trial_plain::trouble::Trouble;
@@ -69,6 +69,25 @@ fn record_comes_and_goes(shared: &mut Plane<PlainBoard>) -> Result<bool, Trouble
 fn a_record_comes_and_goes(rt: HostRuntime) -> Result<(), Fail> {
     let mut shared = fresh(rt.alloc())?;
     assert!(rt; record_comes_and_goes(&mut shared)?);
+    Ok(())
+}
+
+// Whether equal records are one object, and it is told what is kept there.
+fn equal_records_share(shared: &mut Plane<PlainBoard>) -> Result<bool, Trouble>
+    requires empty { IsEmpty (promise_of shared.old.plane.board) (view_of shared.old.plane) }
+    requires none { (m : AdjacencyRecord) → (view_of shared.old.plane).users m ≡ 0 }
+{
+    let first = first_user(shared)?;
+    let kept = kept_at(shared, first);
+    let second = second_user(shared)?;
+    let is_kept = kept.interface == 3 && kept.next_hop == Addr(7) && kept.mac == None;
+    Ok(is_kept && first == second && (shared.free(), shared.stored()) == (126, 3))
+}
+
+#[test]
+fn equal_records_are_one_object(rt: HostRuntime) -> Result<(), Fail> {
+    let mut shared = fresh(rt.alloc())?;
+    assert!(rt; equal_records_share(&mut shared)?);
     Ok(())
 }
 
