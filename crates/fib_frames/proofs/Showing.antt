@@ -13,7 +13,7 @@ use Rattle.fib_rounds.specs.Writes.{AppendsSome}
 use Rattle.fib_rounds.proofs.Moves.{Appends-more, Appends-none}
 use Rattle.fib_rounds.proofs.Running.{some_of_both, some_of_first}
 use Rattle.fib_words.specs.Words.{soak, files}
-use Rattle.fib_run.specs.Files.{Holds, IsCommands, IsRead, MayBeLong, Wanted, statuses, wanted_files}
+use Rattle.fib_run.specs.Files.{Holds, IsCommands, IsRead, MayBeLong, Wanted, statuses}
 use Rattle.fib_run.specs.declared.files.Fault.{Fault}
 use Rattle.fib_frames.specs.declared.seen.Seen.{Seen}
 use Rattle.fib_capture.proofs.Inside.{spans_lie}
@@ -78,16 +78,16 @@ module _ (holds held : Holds) (same : (name : List ℕ) → held name ≡ holds 
 -- a text and a file of a script that was read over a capture that was seen may be sent
 module _ (holds : Holds) (s : Settings) (commands : List ℕ) (capture : Option (List ℕ)) (file bytes : List ℕ) (packets : Capture) (spans : List Span) where
   may_send : IsCommands (holds commands) file → IsSeen holds capture bytes packets spans → (text frames : List ℕ)
-      → Shows (s.objects / 2) (lines_of file) bytes packets spans text frames → MaySend holds (wanted_files s commands capture) text frames
+      → Shows (s.objects / 2) (lines_of file) bytes packets spans text frames → MaySend holds (Some (s, files commands capture)) text frames
   may_send told seen text frames shows = (file, bytes, packets, spans, told, seen, shows)
 
   pub sends_both : (script : List (List ℕ)) (a b c d : Option (List ℕ)) → script ≡ lines_of file → IsCommands (holds commands) file → IsSeen holds capture bytes packets spans
-      → GainsBoth (Shows (s.objects / 2) script bytes packets spans) a b c d → GainsBoth (MaySend holds (wanted_files s commands capture)) a b c d
+      → GainsBoth (Shows (s.objects / 2) script bytes packets spans) a b c d → GainsBoth (MaySend holds (Some (s, files commands capture))) a b c d
   sends_both script a b c d is told seen g =
       (g.0, g.1, may_send told seen g.0 g.1 (subst (λ ls. Shows (s.objects / 2) ls bytes packets spans g.0 g.1) is g.2), g.3, g.4)
 
   pub sends_parts : (script : List (List ℕ)) (a b c d : Option (List ℕ)) → script ≡ lines_of file → IsCommands (holds commands) file → IsSeen holds capture bytes packets spans
-      → GainsParts (Shows (s.objects / 2) script bytes packets spans) a b c d → GainsParts (MaySend holds (wanted_files s commands capture)) a b c d
+      → GainsParts (Shows (s.objects / 2) script bytes packets spans) a b c d → GainsParts (MaySend holds (Some (s, files commands capture))) a b c d
   sends_parts script a b c d is told seen g =
       (g.0, g.1, may_send told seen g.0 g.1 (subst (λ ls. Shows (s.objects / 2) ls bytes packets spans g.0 g.1) is g.2), g.3, g.4)
 

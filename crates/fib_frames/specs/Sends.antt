@@ -1,14 +1,12 @@
 -- What a run sends: its text and its frames.
-use Rattle.std.specs.Prelude.{ℕ, ◌≡◌, ◌/◌, ◌++◌, [], List, Option, Some, None, Ok, is_some, option_map, Bool}
+use Rattle.std.specs.Prelude.{ℕ, ◌≡◌, ◌/◌, ◌++◌, [], List, Option, Some, None, Ok, is_some, Bool}
 use Rattle.fib_outside.specs.Outside.{Appends}
 use Rattle.fib_base_lines.specs.Lines.{lines_of}
 use Rattle.fib_core_results.specs.declared.record.Record.{Record}
 use Rattle.fib_capture.specs.Captures.{Capture}
 use Rattle.fib_capture.specs.Spans.{Span, spans_of}
 use Rattle.fib_worker_crew.specs.Results.{numbered}
-use Rattle.fib_words.specs.Words.{Origin, soak, files, asked}
-use Rattle.fib_core.specs.declared.settings.Settings.{Settings}
-use Rattle.fib_frames.specs.declared.words.Job.{Job}
+use Rattle.fib_words.specs.Words.{soak, files, asked}
 use Rattle.fib_rounds.specs.Output.{OutputWith}
 use Rattle.fib_rounds.specs.Writes.{AppendsSome}
 use Rattle.fib_run.specs.Files.{Holds, Wanted, IsCommands, IsRead, no_packets}
@@ -59,11 +57,3 @@ GainsParts P old new before after = (text frames : List ℕ) × P text frames ×
 -- neither did
 abbrev pub NoneGrew : Option (List ℕ) → Option (List ℕ) → Option (List ℕ) → Option (List ℕ) → Type 0
 NoneGrew old new before after = (new ≡ old) × (after ≡ before)
-
--- what a job of the program says, in the words of files that are asked for
-abbrev pub job_in : Job → Settings × Origin
-job_in job = (job.settings, files job.commands.now (option_map (λ s. s.now) job.capture))
-
--- its files, as what is wanted
-abbrev pub wants : Job → Wanted
-wants job = Some (job_in job)

@@ -5,17 +5,17 @@ ghost use Rattle.fib_outside.specs.declared.part.Part.{Part};
 ghost use Rattle.fib_core.specs.Ranges.{InRange};
 ghost use Rattle.fib_rounds.specs.Writes.{AppendsSome};
 ghost use Rattle.fib_run.specs.Files.{MayBeLong, MayOpen, MayRefuse, names_capture};
+ghost use Rattle.fib_run.specs.Jobs.{wants};
 ghost use Rattle.fib_frames.specs.Frames.{AreInside, expired_text, frame_file};
-ghost use Rattle.fib_frames.specs.Sends.{GainsBoth, GainsParts, MaySend, NoneGrew, Shows, wants};
+ghost use Rattle.fib_frames.specs.Sends.{GainsBoth, GainsParts, MaySend, NoneGrew, Shows};
 
 use crate::seen::{Seen, see_capture};
 use crate::send::{write_expired, write_frames};
-use crate::words::Job;
 use fib_commands::Script;
 use fib_core_results::Record;
 use fib_outside::{Gate, Part, Shelf, Sink};
 use fib_rounds_taps::KeptTap;
-use fib_run::{Fault, RunFault, Settings, read_commands, run_to};
+use fib_run::{Fault, FileTask, RunFault, read_commands, run_to};
 use std::alloc::Global;
 use std::sync::Wait;
 use std::thread::Threads;
@@ -50,58 +50,52 @@ fn send<K: Sink, F: Sink>(
 
 // Runs a script over a capture that was seen, and sends what it gives.
 fn run_seen<R: Threads + Wait + Sync, K: Sink, F: Sink, G: Gate>(
-    rt: &R,
-    alloc: Global,
-    settings: Settings,
+    task: &FileTask<'_, R, G>,
     script: &Script,
     seen: &Seen,
     text: &mut K,
     frames: &mut F,
-    gate: &G,
 ) -> Result<(), RunFault>
-    requires settings { InRange settings }
+    requires settings { InRange task.now.job.settings }
     requires inside { AreInside seen.now.bytes.items seen.now.spans }
     requires short { length seen.now.bytes.items ≤ 268435456 }
-    ensures ok { OnOk result (GainsBoth (Shows (settings.objects / 2) script.now seen.now.bytes.items seen.now.packets seen.now.spans)
+    ensures ok { OnOk result (GainsBoth (Shows (task.now.job.settings.objects / 2) script.now seen.now.bytes.items seen.now.packets seen.now.spans)
         (K.written text.old) (K.written text.new) (F.written frames.old) (F.written frames.new)) }
-    ensures err { OnErr result (GainsParts (Shows (settings.objects / 2) script.now seen.now.bytes.items seen.now.packets seen.now.spans)
+    ensures err { OnErr result (GainsParts (Shows (task.now.job.settings.objects / 2) script.now seen.now.bytes.items seen.now.packets seen.now.spans)
         (K.written text.old) (K.written text.new) (F.written frames.old) (F.written frames.new)) }
     ensures write { IsErrOf result RunFault.Write → HasRisen (K.faults text.old) (K.faults text.new)
         ⊎ HasRisen (F.faults frames.old) (F.faults frames.new) }
     ensures counted { K.faults text.old ≤ K.faults text.new }
     ensures frames_counted { F.faults frames.old ≤ F.faults frames.new }
 {
-    let mut tap = KeptTap::new(alloc);
+    let mut tap = KeptTap::new(task.alloc);
     run_to(
-        rt,
-        alloc,
-        settings,
+        task.rt,
+        task.alloc,
+        task.job.settings,
         script,
         &seen.packets,
         text,
         &mut tap,
-        gate,
+        task.gate,
     )?;
-    send(alloc, seen, tap.list(), text, frames)
+    send(task.alloc, seen, tap.list(), text, frames)
 }
 
 /// Runs the files of a job.
 pub fn run_job<R: Threads + Wait + Sync, H: Shelf, K: Sink, F: Sink, G: Gate>(
-    rt: &R,
-    alloc: Global,
-    job: Job<'_>,
+    task: &FileTask<'_, R, G>,
     shelf: &mut H,
     text: &mut K,
     frames: &mut F,
-    gate: &G,
 ) -> Result<(), Fault>
-    requires { InRange job.settings }
-    ensures done { OnOk result (GainsBoth (MaySend (H.holds shelf.old) (wants job.entry))
+    requires { InRange task.now.job.settings }
+    ensures done { OnOk result (GainsBoth (MaySend (H.holds shelf.old) (wants task.now.job))
         (K.written text.old) (K.written text.new) (F.written frames.old) (F.written frames.new)) }
     ensures part { OnErr result (NoneGrew (K.written text.old) (K.written text.new) (F.written frames.old) (F.written frames.new)
-        ⊎ GainsParts (MaySend (H.holds shelf.old) (wants job.entry)) (K.written text.old) (K.written text.new)
+        ⊎ GainsParts (MaySend (H.holds shelf.old) (wants task.now.job)) (K.written text.old) (K.written text.new)
         (F.written frames.old) (F.written frames.new)) }
-    ensures first { IsErrOf result Fault.Write → GainsParts (MaySend (H.holds shelf.old) (wants job.entry))
+    ensures first { IsErrOf result Fault.Write → GainsParts (MaySend (H.holds shelf.old) (wants task.now.job))
         (K.written text.old) (K.written text.new) (F.written frames.old) (F.written frames.new) }
     ensures unwritten { IsErrOf result Fault.Write → HasRisen (K.faults text.old) (K.faults text.new)
         ⊎ HasRisen (F.faults frames.old) (F.faults frames.new) }
@@ -110,13 +104,13 @@ pub fn run_job<R: Threads + Wait + Sync, H: Shelf, K: Sink, F: Sink, G: Gate>(
         → NoneGrew (K.written text.old) (K.written text.new) (F.written frames.old) (F.written frames.new) }
     ensures commands { IsErrOf result Fault.Commands → HasRisen (H.faults shelf.old Part.Commands) (H.faults shelf.new Part.Commands) }
     ensures capture { IsErrOf result Fault.Capture → HasRisen (H.faults shelf.old Part.Capture) (H.faults shelf.new Part.Capture) }
-    ensures opened { IsErrOf result Fault.Capture → MayOpen (H.holds shelf.old) (wants job.entry) }
-    ensures refused { IsErrOf result Fault.Refused → MayRefuse (H.holds shelf.old) (wants job.entry) }
-    ensures too_long { IsErrOf result Fault.TooLong → MayBeLong (H.holds shelf.old) (wants job.entry) }
-    ensures untouched { names_capture (wants job.entry) ≡ false → H.faults shelf.new Part.Capture ≡ H.faults shelf.old Part.Capture }
+    ensures opened { IsErrOf result Fault.Capture → MayOpen (H.holds shelf.old) (wants task.now.job) }
+    ensures refused { IsErrOf result Fault.Refused → MayRefuse (H.holds shelf.old) (wants task.now.job) }
+    ensures too_long { IsErrOf result Fault.TooLong → MayBeLong (H.holds shelf.old) (wants task.now.job) }
+    ensures untouched { names_capture (wants task.now.job) ≡ false → H.faults shelf.new Part.Capture ≡ H.faults shelf.old Part.Capture }
 {
-    let script = read_commands(alloc, shelf, job.commands)?;
-    let seen = see_capture(alloc, shelf, job.capture)?;
-    run_seen(rt, alloc, job.settings, &script, &seen, text, frames, gate)?;
+    let script = read_commands(task.alloc, shelf, task.job.commands)?;
+    let seen = see_capture(task.alloc, shelf, task.job.capture)?;
+    run_seen(task, &script, &seen, text, frames)?;
     Ok(())
 }

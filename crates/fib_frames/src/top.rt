@@ -8,7 +8,7 @@ ghost use Rattle.fib_frames.specs.Sends.{GainsBoth, GainsParts, MaySend, NoneGre
 use crate::run::run_job;
 use crate::words::read_job;
 use fib_outside::{Gate, Part, Shelf, Sink};
-use fib_run::Fault;
+use fib_run::{Fault, FileTask};
 use std::alloc::{AllocError, Global};
 use std::sync::Wait;
 use std::thread::Threads;
@@ -80,7 +80,13 @@ pub fn frames_main<R: Threads + Wait + Sync, H: Shelf, K: Sink, F: Sink, G: Gate
         Ok(None) => return 1,
         Err(AllocError) => return 6,
     };
-    match run_job(rt, alloc, job, shelf, text, frames, gate) {
+    let task = FileTask {
+        rt,
+        alloc,
+        gate,
+        job,
+    };
+    match run_job(&task, shelf, text, frames) {
         Ok(()) => 0,
         Err(Fault::Commands) => 2,
         Err(Fault::Capture) => 3,

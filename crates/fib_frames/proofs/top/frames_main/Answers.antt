@@ -1,6 +1,6 @@
 use Rattle.std.proofs.Common.{sym, ap, Err, Some}
 use Rattle.fib_run.proofs.Endings.{status_3, status_5}
-use Rattle.fib_frames.specs.Sends.{job_in}
+use Rattle.fib_run.specs.Jobs.{job_in}
 use Rattle.fib_frames.proofs.Showing.{status_4, status_7}
 use Rattle.fib_frames.proofs.top.frames_main.Goals as goal
 

@@ -10,8 +10,8 @@ take_adj-requires-clause-few g c = let one = c.requires.one in omega (arith, one
 pub take_adj-requires-clause-promise : goal.take_adj-requires-clause-promise
 take_adj-requires-clause-promise g c = may_clear (g.P.Objects.promise c.args.on.now) (g.P.Objects.view c.args.on.now) c.requires.empty
 
-pub returns-in-Some-clause-same : goal.returns-in-Some-clause-same
-returns-in-Some-clause-same g c =
+pub returns-in-Some : goal.returns-in-Some
+returns-in-Some g c =
     let took = subst (λ (r : Option ℕ). TookOne (g.P.Objects.view c.args.on.now) (g.P.Objects.view c.take_adj.new.self) (adjacency 3 7 None) (Ok r))
         c.in-Some.is c.in_ok-object.ensures.took in
     let one = c.requires.one in
