@@ -14,6 +14,6 @@ returns-in-Some-clause-empty g c = empty_took (g.P.Objects.promise c.args.on.now
 pub returns-in-Some-clause-one : goal.returns-in-Some-clause-one
 returns-in-Some-clause-one g c =
     let mine = (subst (λ (r : Option ℕ). TookOne (g.P.Objects.view c.args.on.now) (g.P.Objects.view c.take_adj.new.self) (adjacency 3 7 None) (Ok r))
-        c.in-Some.is c.in_ok-object.ensures.took).mine in
+    c.in-Some.is c.in_ok-object.ensures.took).mine in
     let none = c.requires.none (adjacency 3 7 None) in
     omega (arith, mine, none)

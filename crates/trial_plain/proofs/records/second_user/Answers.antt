@@ -13,6 +13,6 @@ take_adj-requires-clause-promise g c = may_clear (g.P.Objects.promise c.args.on.
 pub returns-in-Some : goal.returns-in-Some
 returns-in-Some g c =
     let took = subst (λ (r : Option ℕ). TookOne (g.P.Objects.view c.args.on.now) (g.P.Objects.view c.take_adj.new.self) (adjacency 3 7 None) (Ok r))
-        c.in-Some.is c.in_ok-object.ensures.took in
+    c.in-Some.is c.in_ok-object.ensures.took in
     let one = c.requires.one in
-    sym (took.kept (adjacency 3 7 None) (omega (arith, one))) ∙ took.here
+    record { same = sym (took.kept (adjacency 3 7 None) (omega (arith, one))) ∙ took.here }
