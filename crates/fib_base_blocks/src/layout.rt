@@ -47,6 +47,7 @@ pub fn find<T>(blocks: &[Vec<T>], starts: &[usize], place: usize) -> Place
     requires inside { place ≤ length (flat_map items_of blocks.now) }
     ensures { IsPlace blocks.now place result.block result.slot }
 {
+    // Only clauses name the blocks.
     let _blocks = blocks;
     let block = block_of(starts, place);
     Place {

@@ -132,6 +132,7 @@ fn last_mac(words: &Words<'_>) -> Result<(), BadText>
         None => Ok(()),
         Some((mac, rest)) => {
             finished(&rest)?;
+            // Read for its fault alone: a line that forgets a neighbor may name any MAC.
             let _mac = mac_in(mac)?;
             Ok(())
         }

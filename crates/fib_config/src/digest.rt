@@ -82,6 +82,7 @@ fn without_at<K: Eq + Hash + Drop>(keys: Option<IndexSet<K>>, place: usize) -> O
     let Some(mut set) = keys else {
         return None;
     };
+    // The key that goes is let go.
     let _gone = set.shift_remove_index(place);
     Some(set)
 }

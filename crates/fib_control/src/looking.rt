@@ -56,6 +56,7 @@ fn bits_of(addr: Addr) -> u32
 pub fn is_flow(addr: Addr, hash: u32)
     ensures { IsFlow addr hash }
 {
+    // Reading them tells that each has 32 bits.
     let _bits = bits_of(addr);
     let _hash = hash;
 }

@@ -154,6 +154,7 @@ impl PrefixSet {
     pub fn inside(&self, alloc: Global, prefix: Prefix) -> Result<Vec<Prefix>, AllocError>
         ensures { IfOk result (λ v. v.items ≡ filter (is_inside prefix) self.now) }
     {
+        // A length tells that it is a prefix: the bits past it are cleared.
         let _length = prefix.len();
         let last = Prefix::host(prefix.last());
         between(alloc, &self.members, prefix, last)
@@ -190,6 +191,7 @@ fn gather_all(alloc: Global, members: &BTreeSet<Prefix>) -> Result<Vec<Prefix>, 
     ensures listed { IfOk result (λ v. v.items ≡ members.now.keys) }
     ensures ordered { IsAscending members.now.keys }
 {
+    // A length tells that the set's members ascend.
     let _count = members.len();
     let mut out = Vec::new(alloc);
     for member in members.iter() {

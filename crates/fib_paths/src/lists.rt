@@ -101,6 +101,7 @@ impl PathLists {
     pub fn has_room(&self, content: &[Path]) -> bool
         ensures { IsTrue result ↔ IsUsedLess self.now content.now (2 ^ 32 - 1) }
     {
+        // The count tells that the lists are interned: each is there once, and has a user.
         let _count = self.rows.count();
         match self.rows.find(content) {
             Some(id) => self.rows.users(id) < u32::MAX,
@@ -116,6 +117,7 @@ impl PathLists {
         ensures interned { AreInterned self.new }
         ensures err { OnErr result (self.new ≡ self.old) }
     {
+        // The count tells that the lists are interned: each is there once, and has a user.
         let _count = self.rows.count();
         if let Some(id) = self.rows.find(content) {
             self.rows.hold(id);

@@ -24,6 +24,7 @@ pub fn goal_number(known: &Known<'_>, e: Prefix, kind: PathKind) -> Option<u32>
 {
     let goal = known.goal(e, kind)?;
     let number = known.number(goal)?;
+    // The list tells that there are fewer than 2^32 entries.
     let _few = known.entries();
     Some(number as u32)
 }
@@ -161,6 +162,7 @@ pub fn is_looped(
 {
     match known.number(Prefix::host(a)) {
         Some(k) => {
+            // The list tells that there are fewer than 2^32 entries.
             let _few = known.entries();
             on_cycles.contains(&(number, k as u32))
         }

@@ -182,6 +182,7 @@ impl<'a> Meaning<'a> {
         match p.kind {
             PathKind::Recursive(a) => match self.known.number(e) {
                 Some(number) => {
+                    // The list tells that there are fewer than 2^32 entries.
                     let _few = self.known.entries();
                     self.is_looped_from(e, number as u32, a)
                 }
@@ -209,6 +210,7 @@ impl<'a> Meaning<'a> {
         ensures below { IfSome result (λ k. k < length (entries self.now)) }
         ensures few { length (entries self.now) < 2 ^ 32 }
     {
+        // The list tells that there are fewer than 2^32 entries.
         let _few = self.known.entries();
         self.known.number(prefix)
     }

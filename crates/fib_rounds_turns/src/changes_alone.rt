@@ -48,6 +48,7 @@ pub fn pass_line(progress: &mut Progress)
     ensures progress { progress.new ≡ counted progress.old }
     ensures fewer { progress.new.refused < progress.new.lines }
 {
+    // No batch is open, so none is taken out.
     let _none = progress.next_line();
 }
 

@@ -266,6 +266,7 @@ pub fn finish(progress: &Progress, out: &mut Vec<u8>) -> Result<u32, AllocError>
 {
     match progress.begun() {
         Some(begun) => {
+            // The type's invariant tells, once a field is used, that fewer lines were refused than run.
             let _lines = progress.lines();
             put_batch(out, begun, BatchFault::NotCommitted)?;
             Ok(progress.refused() + 1)

@@ -176,6 +176,7 @@ impl Queue {
             ≡ (if same_prefix prefix d then Some rank else rank_in self.old.members d) }
         ensures spare { self.old.spare ≤ self.new.spare + 1 }
     {
+        // The key tells that it is a prefix: the bits past its length are cleared.
         let _key = key_of(prefix);
         let place = count_before(&self.order, &Queued { prefix, rank });
         self.ranks.insert(Queued { prefix, rank });

@@ -137,6 +137,7 @@ pub fn trace<'a>(
 {
     let mut seat = seat.start();
     let lo = seat.version();
+    // Reading it tells that an address has 32 bits.
     let _bits = bits_of(addr);
     trail.clear();
     let end = run(&mut seat, Stage::first(), addr, hash, lo, trail);

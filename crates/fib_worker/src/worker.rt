@@ -93,6 +93,7 @@ impl<'a> Worker<'a> {
         let Worker { seat } = self;
         let mut seat = seat.start();
         let lo = seat.version();
+        // Reading it tells that an address has 32 bits.
         let _bits = bits_of(addr);
         Pass {
             seat,
@@ -113,6 +114,7 @@ impl<'a> Worker<'a> {
         let Worker { seat } = self;
         let mut seat = seat.start();
         let known = seat.version();
+        // Reading it tells that an address has 32 bits.
         let _bits = bits_of(addr);
         let end = walk(&mut seat, Stage::first(), addr, hash);
         let hi = seat.version();

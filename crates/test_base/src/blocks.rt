@@ -59,6 +59,7 @@ fn elements_come_and_go(rt: HostRuntime) -> Result<(), Fail> {
     same(&rt, number_at(&list, 500), Some(498));
     for _ in 0..999 {
         if list.len() > 0 {
+            // The element that goes is let go.
             let _gone = list.remove(0);
         }
     }

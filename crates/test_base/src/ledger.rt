@@ -29,6 +29,7 @@ fn buckets_are_deferred_and_cleared(rt: HostRuntime) -> Result<(), Fail> {
     holds(&rt, late.len() == 1);
     late.take_out(0);
     same(&rt, late.len(), 0);
+    // Its allocator can be asked for.
     let _alloc = late.allocator();
     Ok(())
 }

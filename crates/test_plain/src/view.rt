@@ -63,6 +63,7 @@ fn usable_path(view: &Snapshot<'_>, e: Prefix, row: &[PathFacts], place: usize, 
     requires there { slice_get (chosen view.now e) place ≡ Some p.now }
     ensures { result ≡ usable view.now e p.now }
 {
+    // Only clauses name the path.
     let _path = *p;
     usable_at(view, e, row, place)
 }

@@ -89,6 +89,7 @@ pub fn turns(rig: &mut Rig, most: u32) -> Result<(), AllocError>
     ensures { OnOk result (IsRigged rig.new) }
 {
     for _turn in 0..most {
+        // Whether more are queued isn't asked.
         let _more = turn(rig)?;
     }
     Ok(())

@@ -89,6 +89,7 @@ fn drive(alloc: Global, rig: &mut Rig, changes: u32, seed: u32) -> Result<bool, 
     for number in 0..changes {
         state = state.wrapping_mul(1_664_525).wrapping_add(1_013_904_223);
         let line = LINES[(state / 65_536 % 20) as usize];
+        // A line that is refused changes nothing.
         let _made = make(alloc, rig, line)?;
         turns(rig, state / 4_096 % 4)?;
         if number % 5 == 0 && !agrees(alloc, rig)? {

@@ -118,6 +118,7 @@ pub fn finished<'a>(mut pass: Pass<'a>) -> Finished<'a>
     ensures { result.worker.id ≡ pass.entry.seat.id }
 {
     loop {
+        // The count of hops tells that they are fewer than the objects, so the loop ends.
         let _hops = pass.hops();
         match pass.hop() {
             Step::More(on) => pass = on,

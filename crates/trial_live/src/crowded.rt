@@ -183,6 +183,7 @@ pub fn crowd_at<'a>(
 {
     set_up(alloc, control, first)?;
     let (edit, other) = edits(alloc, first)?;
+    // The seven seats are out and at rest: none of them comes home.
     let _resting = seven(control);
     crowd_while_held(control, &edit, &other, most)
 }

@@ -70,6 +70,7 @@ fn finish(control: &mut Control<PlainBoard>, end: End) -> Record
     ensures rested { (n : ℕ) → IsHeld (n + 1) (Some end) (seats_in control.old) → IsRested n (seats_in control.new) }
     ensures kept { IsUnchanged control.old control.new }
 {
+    // Only clauses name the end.
     let _end = end;
     control.end(0)
 }
