@@ -1,5 +1,5 @@
 -- Stations as their workers leave and as they come back.
-use Rattle.std.proofs.Common.{◌≡◌, ◌<◌, ◌≤◌, ◌+◌, ◌*◌, ◌^◌, ◌++◌, ◌∷◌, [], ℕ, List, length, take, arith, refl, ap, ◌∙◌, sym, subst, suc, Option, Some, None}
+use Rattle.std.proofs.Common.{◌≡◌, ◌<◌, ◌≤◌, ◌+◌, ◌*◌, ◌^◌, ◌++◌, ◌∷◌, ◌⊎◌, inl, inr, [], ℕ, List, Bool, true, false, length, take, arith, refl, ap, ◌∙◌, sym, subst, suc, Option, Some, None}
 use Rattle.std.specs.Prelude.{slice_index, slice_index_or, All}
 use Rattle.std.proofs.Math.Seq.{take-append_seam}
 use Rattle.std.proofs.lemmas.List.Elements.{All-cons, All-nil}
@@ -8,7 +8,11 @@ use Rattle.fib_capture.specs.declared.packet.Packet.{Packet}
 use Rattle.fib_core_lawful.specs.State.{left_of}
 use Rattle.fib_core_board.specs.Boards.{Board}
 use Rattle.fib_core_board.specs.Crews.{Seated, new_seat}
-use Rattle.fib_rounds_homing.specs.Stations.{MayWorkBy, IsReady, HasDoneBy, HasDone, IsMustered, IsCrew, IsNew, IsBack, AreBack}
+use Rattle.fib_worker_crew.specs.Frames.{frames}
+use Rattle.fib_worker_crew.specs.Results.{Told, results_of}
+use Rattle.fib_worker_crew.specs.Work.{HasMissed, HasWorked, results_in, steps_of, steps_so_far}
+use Rattle.fib_worker_crew.specs.declared.claims.Frame.{Frame}
+use Rattle.fib_rounds_homing.specs.Stations.{MayWorkBy, IsReady, HasDoneBy, HasDone, HasPassed, HasWorkedBy, IsMustered, IsCrew, IsNew, IsBack, AreBack}
 use Rattle.fib_rounds_homing.specs.declared.station.Station.{Station}
 
 pub crew_more : (b : Board) (at : ℕ) (crew : List Station) (s : Station) → IsCrew b at crew → IsMustered b (at + length crew) s → IsCrew b at (crew ++ s ∷ [])
@@ -38,21 +42,62 @@ new_of b number v e = record {
   id = ap (λ (s : Seated). s.id) e;
   number = ap (λ (s : Seated). s.worker.number) e;
   pass = ap (λ (s : Seated). s.worker.pass) e;
+  loads = ap (λ (s : Seated). s.worker.version_loads) e;
   past = ap (λ (s : Seated). s.worker.past) e;
   claims = ap (λ (s : Seated). s.worker.claims) e;
 }
+
+-- the last claim, which names none, has no results
+last_none : (list : List Frame) → results_in (steps_so_far list) ≡ results_in (steps_of list)
+last_none [] = refl
+last_none (f ∷ list) = ap (λ rs. results_of f.results.list ++ rs) (last_none list)
+
+-- a worker that left with nothing behind it
+passed_by : (words : List ℕ) (n p k first base m : ℕ) (taken : List Packet) (v w : Seated) (steps : List (Option Frame)) (list : List Frame) → IsNew words n p v → HasWorked k first base m taken v w steps
+    → results_in steps ≡ results_in (steps_of list) → HasPassed p w list
+passed_by words n p k first base m taken v w steps list new worked same =
+    let past : w.worker.past ≡ worked.trails = worked.past ∙ ap (λ ts. ts ++ worked.trails) new.past in
+    let long = ap length past in
+    let passes = worked.passes in
+    let loads = worked.loads in
+    let left = new.pass in
+    let none = new.loads in
+    record {
+      flows = subst (λ ts. Told ts (results_in (steps_of list))) (sym past) (subst (Told worked.trails) same worked.told);
+      passes = omega (arith, long, passes, left);
+      loads = omega (arith, long, loads, none);
+    }
+
+-- a claim that was missed is no pass
+passed_on : (p base count : ℕ) (v w : Seated) (list : List Frame) → HasPassed p v list → HasMissed base count v w ⊎ ((w ≡ v) × (length list ≡ count + 1)) → HasPassed p w list
+passed_on p base count v w list h last = elim last [
+  | inl missed ↦ subst (λ s. HasPassed p s list) (sym missed.claimed) (record { flows = h.flows; passes = h.passes; loads = h.loads })
+  | inr same ↦ subst (λ s. HasPassed p s list) (sym same.0) h
+]
+
+passed_in : (words : List ℕ) (n p k first base : ℕ) (taken : List Packet) (v w : Seated) (t : Station) (done : Bool) → t.done ≡ done → IsNew words n p v → HasWorkedBy k first base taken v w t → HasPassed p w t.frames.items
+passed_in words n p k first base taken v w t true is new back =
+    passed_by words n p k first base (frames taken + 1) taken v w (steps_of t.frames.items) t.frames.items new (back.worked is) refl
+passed_in words n p k first base taken v w t false is new back =
+    let stopped = back.stopped is in
+    passed_on p base (frames taken) stopped.between w t.frames.items
+    (passed_by words n p k first base (frames taken + 1) taken v stopped.between (steps_so_far t.frames.items) t.frames.items new stopped.worked (last_none t.frames.items))
+    stopped.last
 
 back_by : (b : Board) (k first base number : ℕ) (taken : List Packet) (s t : Station) (v w : Option Seated) → IsMustered b number s → s.worker ≡ v → t.worker ≡ w → HasDoneBy k first base taken t v w
     → IsBack b.id b.rests k first base number taken t
 back_by b k first base number taken s t None w m sv tw d = absurd d
 back_by b k first base number taken s t (Some v) None m sv tw d = absurd d
-back_by b k first base number taken s t (Some v) (Some w) m sv tw d = record {
-  left = v;
-  new = new_of b number v (some_same (sym sv ∙ m));
-  worker = w;
-  has = tw;
-  back = d;
-}
+back_by b k first base number taken s t (Some v) (Some w) m sv tw d =
+    let new = new_of b number v (some_same (sym sv ∙ m)) in
+    record {
+      left = v;
+      new = new;
+      worker = w;
+      has = tw;
+      back = d;
+      passed = passed_in b.id number (slice_index b.rests number) k first base taken v w t t.done refl new d;
+    }
 
 pub back_all : (b : Board) (k first base at : ℕ) (taken : List Packet) (before after : List Station) → IsCrew b at before → length after ≡ length before
     → ((i : ℕ) (d : Station) → i < length before → HasDone k first base taken (slice_index_or before i d) (slice_index_or after i d)) → AreBack b.id b.rests k first base at taken after

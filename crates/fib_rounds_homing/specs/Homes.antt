@@ -33,9 +33,9 @@ abbrev pub claims_of : ℕ → List Packet → ℕ
 claims_of workers [] = 0
 claims_of workers (p ∷ packets) = frames (p ∷ packets) + workers
 
--- What a round of so many workers brought home, its claims counted from the base: the results of its flows, cut into frames as its packets are; a claim for each
--- frame, and one more a worker, which names none; and, in the order of the claims, one trail for each flow of the frame that is named, in packet order, which
--- follows it and whose result is the flow's.
+-- What a round of so many workers brought home, its claims counted from the base: the results of its flows, cut into frames as its packets
+-- are; a claim for each frame, and one more a worker, which names none; and, in the order of the claims, one trail for each flow of the frame
+-- that is named, in packet order, which follows it and whose result is the flow's.
 pub record HasGathered (workers base : ℕ) (taken : List Packet) (results : List Record) (claims : List ℕ) (trails : List Trail) : Type 0 where
   pub parts : List (List Record)
   pub whole : results ≡ joined parts
@@ -43,8 +43,8 @@ pub record HasGathered (workers base : ℕ) (taken : List Packet) (results : Lis
   pub count : length claims ≡ claims_of workers taken
   pub told : Told trails (claimed base parts claims)
 
--- Of a round that opened at version k with these packets, of which the first has that number: so many workers came home with all that they gathered, and each place has
--- the results of its frame. One after the other they are the results of all flows, each once and in packet order.
+-- Of a round that opened at version k with these packets, of which the first has that number: so many workers came home with all that they
+-- gathered, and each place has the results of its frame. One after the other they are the results of all flows, each once and in packet order.
 pub record IsHome (k first base workers : ℕ) (taken : List Packet) (before after : Board) (places : List (Option Kept)) : Type 0 where
   pub filled : AreFilled k first after.log.history taken 0 places
   pub answered : Matched (IsRightOf k after.log.history) taken (joined (parts_of places))

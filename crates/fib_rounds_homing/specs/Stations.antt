@@ -1,5 +1,5 @@
 -- The workers of a round at their stations: as they leave, and after their work.
-use Rattle.std.specs.Prelude.{ℕ, ◌≡◌, ◌+◌, ◌++◌, ◌&&◌, ◌∷◌, [], Bool, true, false, List, Option, Some, None, slice_index, slice_set}
+use Rattle.std.specs.Prelude.{ℕ, ◌≡◌, ◌+◌, ◌*◌, ◌++◌, ◌&&◌, ◌∷◌, [], Bool, true, false, List, Option, Some, None, length, slice_index, slice_set}
 use Rattle.fib_capture.specs.declared.packet.Packet.{Packet}
 use Rattle.fib_core.specs.Trails.{Trail}
 use Rattle.fib_core_board.specs.Boards.{Board}
@@ -8,7 +8,9 @@ use Rattle.fib_worker_crew.specs.Frames.{frames}
 use Rattle.fib_worker_crew.specs.Taking.{frames_taken, packets_taken}
 use Rattle.fib_worker_crew.specs.declared.claims.Taken.{Taken}
 use Rattle.fib_capture.specs.Captures.{Capture}
-use Rattle.fib_worker_crew.specs.Work.{HasStopped, HasWorked, MayWork, steps_of}
+use Rattle.fib_worker_crew.specs.Results.{Told}
+use Rattle.fib_worker_crew.specs.Work.{HasStopped, HasWorked, MayWork, results_in, steps_of}
+use Rattle.fib_worker_crew.specs.declared.claims.Frame.{Frame}
 use Rattle.fib_rounds_homing.specs.declared.station.Station.{Station}
 
 -- the station has a worker, which may work at a round of so many frames that opened at version k
@@ -47,8 +49,16 @@ pub record IsNew (words : List ℕ) (n p : ℕ) (v : Seated) : Type 0 where
   pub id : v.id ≡ words
   pub number : v.worker.number ≡ n
   pub pass : v.worker.pass ≡ p
+  pub loads : v.worker.version_loads ≡ 0
   pub past : v.worker.past ≡ []
   pub claims : v.worker.claims ≡ []
+
+-- Since a worker left with the pass word p it made a pass for each flow of these frames, in order, and no other. Each raises its pass word by two, and loads
+-- the version exactly twice.
+pub record HasPassed (p : ℕ) (w : Seated) (list : List Frame) : Type 0 where
+  pub flows : Told w.worker.past (results_in (steps_of list))
+  pub passes : w.worker.pass ≡ p + 2 * length w.worker.past
+  pub loads : w.worker.version_loads ≡ 2 * length w.worker.past
 
 -- the station has its worker back
 pub record IsBack (words rests : List ℕ) (k first base number : ℕ) (taken : List Packet) (t : Station) : Type 0 where
@@ -57,6 +67,7 @@ pub record IsBack (words rests : List ℕ) (k first base number : ℕ) (taken : 
   pub worker : Seated
   pub has : t.worker ≡ Some worker
   pub back : HasWorkedBy k first base taken left worker t
+  pub passed : HasPassed (slice_index rests number) worker t.frames.items
 
 -- and so have all stations, with the numbers from one on
 abbrev pub AreBack : List ℕ → List ℕ → ℕ → ℕ → ℕ → ℕ → List Packet → List Station → Type 0

@@ -90,6 +90,7 @@ fn come_home<'a>(
     ensures come { IsComing taken.opened taken.first taken.base (length crew.entry.items)
         (packets_taken packets.now taken) control.old.plane.board control.new.plane.board places.old places.new result [] }
 {
+    // Only clauses name the packets, and what the round took of them.
     let _packets = packets;
     let _taken = taken;
     let mut done = true;

@@ -81,7 +81,8 @@ fn work_all<'a, R: Threads + Sync, G: Gate>(
     );
 }
 
-/// Each worker works in a thread of its own. Each station must have a worker that may work at the round.
+/// Each worker works in a thread of its own. Each station must have a worker that may work at the round. A worker makes a pass for each flow of the
+/// frames that it forwards and no other, and loads the version twice a pass (`HasPassed`).
 pub fn forward_all<'a, R: Threads + Sync, G: Gate>(
     rt: &R,
     alloc: Global,
