@@ -390,6 +390,7 @@ fn close_gap(
         → rows.old ≡ opened before g p source k r → dependants ≡ r.dependants → cover ≡ r.prefix → over.now ≡ k.led → rows.new ≡ before }
 {
     aim_all(alloc, rows, over, cover);
+    // The dependants that the cover had in between are let go.
     let _kept = exchange_dependants(rows, g.cover, dependants);
     take_out(rows, g.place);
 }

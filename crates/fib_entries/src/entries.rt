@@ -82,6 +82,7 @@ impl Entries {
         let listed = meaning.listed(alloc)?;
         let mut lists = PathLists::new(alloc);
         let ids = take_all(alloc, &mut lists, meaning.pairs())?;
+        // The count tells that the lists are interned: each is there once, and has a user.
         let _count = lists.count();
         let made = whole::rows_anew(alloc, &meaning, &lists, ids.as_slice(), listed.as_slice())?;
         let rows = Blocks::of(alloc, made)?;

@@ -94,6 +94,7 @@ fn add_new(
         out.new.touched ≡ (if is_new before.now.rows S T s.now.prefix then out.old.touched ++ s.now.prefix ∷ [] else out.old.touched)) }
     ensures moved { OnOk result (out.new.moved ≡ out.old.moved ++ moved_new before.now.rows after.now.rows s.now.prefix) }
 {
+    // Only clauses name the entries after.
     let _rows = after;
     match before.row_of(s.prefix) {
         Some(_) => Ok(()),
@@ -158,6 +159,7 @@ impl Entries {
         ensures touched { IfOk result (λ list. AreTouched before.now after.now list) }
         ensures err { OnErr result (self.new ≡ self.old) }
     {
+        // Only clauses name the tables before.
         let _before = before;
         let made = Entries::of(self.allocator(), after)?;
         let found = compared(self.allocator(), self, &made)?;
@@ -329,6 +331,7 @@ impl Entries {
             Differ changes.now S after.now.tables → IsTooMany (size after.now.tables) most e) }
         ensures err { OnErr result (self.new ≡ self.old) }
     {
+        // Only clauses name the changes.
         let _changes = changes;
         let made = Entries::of(self.allocator(), after.tables())?;
         if made.size() > most {

@@ -248,6 +248,7 @@ fn cover_with(rows: &mut Blocks<Row>, cover: Prefix, both: Dependants)
     ensures { rows.new ≡ map (covering cover both) rows.old }
 {
     if let Some(at) = place_of(rows, cover) {
+        // The dependants that it had are let go: they are among the new ones.
         let _former = exchange_dependants(rows, at, both);
     }
 }
@@ -358,6 +359,7 @@ impl Entries {
         }
         let (touched, moved) = self.told(&between, prefix, plan.course.again.as_slice())?;
         let both = self.both(&between)?;
+        // What it tells is told already.
         let _replaced = self.carry_out(&to, plan)?;
         self.release(prefix, between.cover, both);
         Ok(Some(Followed {

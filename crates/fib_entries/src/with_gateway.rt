@@ -132,6 +132,7 @@ impl Entries {
         ensures { IfSome result (λ x. (old : Items PathValue)
             × IsLosing self.now.rows self.now.lists tables.now prefix source x.0.0 x.0.1 old x.1) }
     {
+        // Only clauses name the tables.
         let _tables = tables;
         let Some(place) = leaf_place(&self.rows, prefix, source) else {
             return None;

@@ -123,6 +123,7 @@ impl Entries {
         ensures { IfSome result (λ x. (old : Items PathValue)
             × IsParting self.now.rows self.now.lists (map prefix_of self.now.rows) tables.now prefix source x.0.0 x.0.1 old x.1) }
     {
+        // Only clauses name the tables.
         let _tables = tables;
         if !is_short(prefix) {
             return None;

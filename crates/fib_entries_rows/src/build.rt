@@ -22,6 +22,7 @@ pub fn take_all(
     let mut out = Vec::with_capacity(alloc, pairs.len())?;
     for x in pairs {
         let id = lists.take(x.paths.as_slice())?;
+        // The count tells that the lists are interned: each is there once, and has a user.
         let _count = lists.count();
         out.push(id)?;
     }

@@ -53,6 +53,7 @@ pub fn belongs(
     ensures belongs { IfSome result (λ place. IsBelonging rows.now tables.now p source place) }
     ensures inside { IfSome result (λ place. place ≤ length rows.now) }
 {
+    // Only clauses name the tables.
     let _tables = tables;
     // Read so that the proof knows that it is a prefix.
     let _len = p.len();
@@ -136,6 +137,7 @@ pub fn filled(
     ensures { result ≡ pair ∷ [] }
 {
     let mut pairs = room;
+    // There is room, so it is pushed.
     let _done = pairs.push(pair);
     List::from_vec(pairs)
 }

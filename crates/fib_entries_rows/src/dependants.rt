@@ -104,6 +104,7 @@ impl Dependants {
     pub fn remove(&mut self, p: Prefix)
         ensures { IsWithout p self.old self.new }
     {
+        // Whether it was there isn't asked.
         let _was_there = self.held.swap_remove(&p);
     }
 }

@@ -42,6 +42,7 @@ pub fn leaving(
     ensures leaving { IfSome result (λ x. (old : Items PathValue) × IsLeaving rows.now lists.now tables.now p source x.0 x.1 old) }
     ensures inside { IfSome result (λ x. x.0 < length rows.now) }
 {
+    // Only clauses name the tables.
     let _tables = tables;
     let Some(place) = leaf_place(rows, p, source) else {
         return None;

@@ -46,6 +46,7 @@ pub fn dependants_of(
     requires back { AreSourcesIn (length order.now) edges.now back.now }
     ensures { IfOk result (λ v. (e : PrefixValue) → slice_get order.now place ≡ Some e → AreSources order.now edges.now e v) }
 {
+    // Only clauses name the edges.
     let _edges = edges;
     let mut out = List::new(alloc);
     for from in back.targets(place as u32) {

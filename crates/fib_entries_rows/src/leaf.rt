@@ -283,6 +283,7 @@ pub fn ready(
     requires clear { IsClear rows.now tables.now.neighbors p }
     ensures { IfSome result (λ x. (old : Items PathValue) × IsReady rows.now lists.now tables.now p source x.0 x.1 old) }
 {
+    // Only clauses name the tables.
     let _tables = tables;
     if !is_short(p) {
         return None;

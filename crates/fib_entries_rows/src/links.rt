@@ -103,6 +103,7 @@ fn link(rows: &mut Blocks<Row>, place: usize, p: Prefix, path: &Path) -> Result<
     ensures back { OnOk result (IsLinked place p rows.old rows.new) }
     ensures err { OnErr result (rows.new ≡ rows.old) }
 {
+    // Only clauses name the path.
     let _path = path;
     push_at(rows, place, p)
 }

@@ -100,6 +100,7 @@ fn place_of(parts: Parts<'_>, prefix: Prefix, number: usize, source: FibSource) 
     ensures place { result ≡ position (λ x. same_prefix prefix x.prefix && same_source source x.source) (pairs parts.entry.meaning.now) }
     ensures inside { IfSome result (λ k. k < length parts.entry.ids.now) }
 {
+    // Only clauses name the prefix.
     let _prefix = prefix;
     read_slot(parts.places, 7 * number + usize::from(source.rank()))
 }
@@ -132,6 +133,7 @@ fn is_looped_at(meaning: &Meaning<'_>, e: Prefix, place: usize, p: &Path) -> boo
     requires { slice_get (chosen meaning.now e) place ≡ Some p.now }
     ensures { result ≡ looped_kind meaning.now e p.now.kind }
 {
+    // Only clauses name the place.
     let _place = place;
     meaning.is_looped(e, p)
 }
@@ -172,6 +174,7 @@ pub fn mets_of(
     requires { paths.now ≡ chosen meaning.now e }
     ensures { IfOk result (λ v. v ≡ map (λ p. kind_met meaning.now p.need p.kind) (chosen meaning.now e)) }
 {
+    // Only clauses name the entry.
     let _entry = e;
     let mut out = Vec::with_capacity(alloc, paths.len())?;
     for p in paths {
@@ -202,6 +205,7 @@ fn does_count(meaning: &Meaning<'_>, e: Prefix, p: &Path, looped: bool) -> bool
     requires { looped ≡ looped_kind meaning.now e p.now.kind }
     ensures { result ≡ kind_counts meaning.now e p.now.need p.now.kind }
 {
+    // Only clauses name the entry.
     let _entry = e;
     match p.kind {
         PathKind::Drop => false,

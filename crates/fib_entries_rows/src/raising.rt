@@ -230,6 +230,7 @@ pub fn raise(
     if !climb(rows, p, &mut ranks, &mut todo)? {
         return Ok(None);
     }
+    // A length tells that each prefix stands there once.
     let _count = ranks.len();
     let raised = listed(alloc, &ranks)?;
     Ok(Some(List::from_vec(raised)))

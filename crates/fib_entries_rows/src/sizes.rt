@@ -46,6 +46,7 @@ fn plies_of(meaning: &Meaning<'_>, order: &[Prefix], count: u32) -> usize
     requires same { (e : PrefixValue) → Contains order.now e ↔ Contains (entries meaning.now) e }
     ensures { result ≡ length (plies meaning.now) }
 {
+    // Only clauses name the meaning.
     let _meaning = meaning;
     plies_in(order, count)
 }

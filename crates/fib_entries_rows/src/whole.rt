@@ -37,6 +37,7 @@ fn row_at(
     ensures row { IfOk result (λ r. IsRow parts.entry.lists.now parts.entry.meaning.now r) }
     ensures own { IfOk result (λ r. (r.prefix ≡ prefix) × (r.rank ≡ rank)) }
 {
+    // The count tells that the lists are interned: each is there once, and has a user.
     let _count = parts.lists.count();
     // Read so that the proof knows that it is a prefix.
     let _len = prefix.len();
@@ -74,6 +75,7 @@ fn rows_of(
     requires same { (e : PrefixValue) → Contains order.now e ↔ Contains (entries parts.meaning.now) e }
     ensures { IfOk result (λ v. AreRows parts.entry.lists.now parts.entry.meaning.now order.now ranks.now (length order.now) v.items) }
 {
+    // Only clauses name the edges.
     let _edges = edges;
     let mut out = Vec::with_capacity(alloc, order.len())?;
     for place in 0..order.len() {

@@ -134,6 +134,7 @@ impl Urpf {
         ensures queued { IfOk result (λ u. (e : PrefixValue) → is_some (rank_in u.queue e) ≡ has_entry tables.now e) }
         ensures done { IfOk result (λ u. u.done ≡ []) }
     {
+        // Only clauses name the tables.
         let _tables = tables;
         let all = entries_of(alloc, entries)?;
         let mut queue = Queue::new(alloc);
@@ -176,6 +177,7 @@ impl Urpf {
         ensures stands { OnOk result (IsFor self.new tables.now (rank_of entries.now.rows)) }
         ensures err { OnErr result (self.new ≡ self.old) }
     {
+        // Only clauses name the tables.
         let _tables = tables;
         let queued = queued_of(self.alloc, &self.queue)?;
         let touched = touched.list();
@@ -201,6 +203,7 @@ impl Urpf {
         ensures stands { IsFor self.new tables.now (rank_of entries.now.rows) }
         ensures err { OnErr result (IsSame self.old self.new) }
     {
+        // Only clauses name the tables.
         let _tables = tables;
         let Some(next) = self.queue.least() else {
             return Ok(None);
