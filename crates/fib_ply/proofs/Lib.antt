@@ -16,6 +16,7 @@ pub mod Removes
 pub mod Rowing
 pub mod Longest
 pub mod Needing
+pub mod Upto
 pub mod Rewatching
 pub mod Tables
 pub mod Hops

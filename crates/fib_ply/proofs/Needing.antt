@@ -91,23 +91,23 @@ module _ (low : ℕ) where
           let t : (rank x == k) ≡ false = ne_eqb (rank x) k (λ f. omega (arith, f, less, le)) in
           rest (rw t at e)
 
-object_some : (m : Option Row) (o : ℕ) → object_of m ≡ Some o → (q : Row) × (m ≡ Some q)
+pub object_some : (m : Option Row) (o : ℕ) → object_of m ≡ Some o → (q : Row) × (m ≡ Some q)
 unfolding object_of
 object_some None o e = absurd (none_not o e)
 object_some (Some q) o e = (q, refl)
 
 -- a multiple of a block's size inside of a block is its beginning
-div_between : (a w m : ℕ) → w * m ≤ a → a < (w + 1) * m → a / m ≡ w
+pub div_between : (a w m : ℕ) → w * m ≤ a → a < (w + 1) * m → a / m ≡ w
 div_between a w m low high = div-eq_of_lt-le {k = w} m low high
 
 pub whole_is : (a m : ℕ) → a % m ≡ 0 → a / m * m ≡ a
 whole_is a m whole = let h : m * (a / m) + a % m ≡ a = div-add-mod a m in omega (arith, h, whole)
 
-only_start : (a w k : ℕ) → a % 2 ^ k ≡ 0 → w * 2 ^ k ≤ a → a < (w + 1) * 2 ^ k → a ≡ w * 2 ^ k
+pub only_start : (a w k : ℕ) → a % 2 ^ k ≡ 0 → w * 2 ^ k ≤ a → a < (w + 1) * 2 ^ k → a ≡ w * 2 ^ k
 only_start a w k whole low high = sym (whole_is a (2 ^ k) whole) ∙ ap (λ i. i * 2 ^ k) (div_between a w (2 ^ k) low high)
 
 -- and so is a multiple of a larger size
-larger : (a k j : ℕ) → a % 2 ^ (k + j) ≡ 0 → a % 2 ^ k ≡ 0
+pub larger : (a k j : ℕ) → a % 2 ^ (k + j) ≡ 0 → a % 2 ^ k ≡ 0
 larger a k j whole =
     let e : a / 2 ^ (k + j) * 2 ^ (k + j) ≡ a = whole_is a (2 ^ (k + j)) whole in
     let f : a / 2 ^ (k + j) * 2 ^ j * 2 ^ k ≡ a = (let g : 2 ^ (k + j) ≡ 2 ^ k * 2 ^ j = pow-add 2 k j in grind (arith, g, e)) in

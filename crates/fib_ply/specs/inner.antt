@@ -2,3 +2,4 @@
 pub mod View
 pub mod Trie
 pub mod Change
+pub mod Upto

@@ -1,8 +1,9 @@
 // The prefixes of a table with their objects.
-ghost use Rattle.std.specs.Prelude.{◌≡◌, ◌≢◌, ◌<◌, ◌-◌, ◌^◌, ◌≤◌, ◌+◌, ◌*◌, ℕ, None, Some, [], IfSome, OnOk};
+ghost use Rattle.std.specs.Prelude.{◌≡◌, ◌≢◌, ◌<◌, ◌-◌, ◌^◌, ◌≤◌, ◌↔◌, ◌+◌, ◌*◌, ℕ, None, Some, [], IfNone, IfSome, IsTrue, OnOk};
 ghost use Rattle.fib_addr.specs.Prefixes.{Prefix as PrefixValue, IsPrefix};
 ghost use Rattle.fib_core_promise.specs.Matches.{added, look_of, removed};
 ghost use Rattle.fib_ply.specs.Rows.{ArePrefixes, held};
+ghost use Rattle.fib_ply.specs.inner.Upto.{Begins, HasNone, IsCommon, IsLast};
 
 use crate::set::Prefixes;
 use fib_addr::{Addr, Prefix};
@@ -82,6 +83,16 @@ impl Rows {
         }
     }
 
+    /// The last row that stands no later than the block of the first `len` bits `top`: all prefixes that contain the block stand up to it.
+    fn last_up_to(&self, len: u32, top: u32) -> Option<Row>
+        requires len { len ≤ 32 }
+        requires top { top < 2 ^ len }
+        ensures some { IfSome result (λ r. IsLast (held self.now.members) len top r) }
+        ensures none { IfNone result (HasNone (held self.now.members) len top) }
+    {
+        self.rows.last_below(key_of(prefix_of(len, top)) + 1)
+    }
+
     /// Tells contracts that each row has a prefix.
     pub fn are_prefixes(&self)
         ensures { ArePrefixes self.now.members }
@@ -121,6 +132,38 @@ fn prefix_of(len: u32, top: u32) -> Prefix
     Prefix::masked(Addr(first as u32), len as u8)
 }
 
+/// A block of addresses, by the length and the value of its first bits.
+#[derive(Clone, Copy)]
+struct Block {
+    len: u32,
+    top: u32,
+}
+
+/// Whether the prefix is that long and begins with these bits.
+fn begins(prefix: Prefix, len: u32, top: u32) -> bool
+    requires len { (0 < len) × (len ≤ 32) }
+    ensures { IsTrue result ↔ Begins prefix len top }
+{
+    len <= u32::from(prefix.len()) && prefix.bits().0 >> (32 - len) == top
+}
+
+/// The longest block in which both the prefix and the block of the first `len` bits `top` lie.
+fn common(prefix: Prefix, len: u32, top: u32) -> Block
+    requires prefix { IsPrefix prefix }
+    requires len { len ≤ 32 }
+    requires top { top < 2 ^ len }
+    ensures common { IsCommon prefix len top result.len result.top }
+    ensures top { result.top < 2 ^ result.len }
+{
+    let mut n = len;
+    let mut block = top;
+    while n > 0 && !begins(prefix, n, block) {
+        n -= 1;
+        block /= 2;
+    }
+    Block { len: n, top: block }
+}
+
 impl Prefixes for Rows {
     ghost use Rattle.fib_core_promise.specs.Matches.{look_of};
     ghost use Rattle.fib_ply.specs.Rows.{held};
@@ -133,11 +176,15 @@ impl Prefixes for Rows {
         let mut n = len;
         let mut block = top;
         while n > 0 {
-            if let Some(object) = self.find(prefix_of(n, block)) {
-                return Some(object);
+            let Some(row) = self.last_up_to(n, block) else {
+                return None;
+            };
+            let common = common(row.prefix, n, block);
+            if common.len == u32::from(row.prefix.len()) {
+                return Some(row.object);
             }
-            n -= 1;
-            block /= 2;
+            n = common.len;
+            block = common.top;
         }
         self.find(prefix_of(0, block))
     }
