@@ -2,7 +2,7 @@
 ghost use Rattle.std.specs.Prelude.{◌≡◌, ◌⊎◌, ℕ, ◌+◌, ◌-◌, ◌*◌, ◌<◌, ◌≤◌, ◌++◌, ◌∷◌, [], drop, flat_map, length, slice_get, slice_index_or, vec_capacity};
 ghost use Rattle.std.specs.List.{AllByRecursion};
 ghost use Rattle.fib_base_ordered.specs.Sets.{IsAscending, first_of, last_of};
-ghost use Rattle.fib_base_ordered.specs.inner.Blocks.{AreRoomy, IsCut, IsFilled, IsIdle, IsWide, after, before, items_of, row};
+ghost use Rattle.fib_base_ordered.specs.inner.Blocks.{AreRoomy, IsCut, IsFilled, IsIdle, IsWide, after, before, cost, items_of, row};
 
 /// What has a key. Members of a set with one key are one member.
 pub trait Keyed {
@@ -146,6 +146,7 @@ fn put<T: Copy + Drop>(blocks: &mut Vec<Block<T>>, place: Place, member: T)
     ensures wide { IsWide blocks.new.items place.block }
     ensures len { length blocks.new.items ≡ length blocks.old.items }
     ensures capacity { vec_capacity blocks.new ≡ vec_capacity blocks.old }
+    ensures cost { cost blocks.new.items ≤ cost blocks.old.items + 1 }
 {
     let row = &mut blocks[place.block].items;
     let Ok(()) = row.insert(place.slot, member) else {
@@ -168,6 +169,7 @@ fn split<T: Copy + Drop>(blocks: &mut Vec<Block<T>>, idle: &mut Vec<Block<T>>, a
     ensures idle_len { length idle.new.items + 1 ≡ length idle.old.items }
     ensures capacity { vec_capacity blocks.new ≡ vec_capacity blocks.old }
     ensures idle_capacity { vec_capacity idle.new ≡ vec_capacity idle.old }
+    ensures cost { 64 < length (row items_of (slice_get blocks.old.items at)) → cost blocks.new.items ≤ cost blocks.old.items }
 {
     let Some(mut upper) = idle.pop() else {
         unreachable!()
@@ -195,6 +197,8 @@ pub fn take_out<T: Copy + Drop>(blocks: &mut Vec<Block<T>>, idle: &mut Vec<Block
     ensures idle { AllByRecursion IsIdle idle.new.items }
     ensures spare { length idle.old.items ≤ length idle.new.items }
     ensures roomy { AreRoomy blocks.new.items idle.new.items (vec_capacity blocks.new) (vec_capacity idle.new) }
+    ensures all { length blocks.new.items + length idle.new.items ≡ length blocks.old.items + length idle.old.items }
+    ensures cost { cost blocks.new.items ≤ cost blocks.old.items }
 {
     let row = &mut blocks[place.block].items;
     row.remove(place.slot);
@@ -223,6 +227,8 @@ pub fn put_in<T: Copy + Drop>(
     ensures idle { AllByRecursion IsIdle idle.new.items }
     ensures spare { length idle.old.items ≤ length idle.new.items + 1 }
     ensures roomy { AreRoomy blocks.new.items idle.new.items (vec_capacity blocks.new) (vec_capacity idle.new) }
+    ensures all { length blocks.new.items + length idle.new.items ≡ length blocks.old.items + length idle.old.items }
+    ensures cost { cost blocks.new.items ≤ cost blocks.old.items + 1 }
 {
     put(blocks, place, member);
     if blocks[place.block].items.as_slice().len() > 64 {

@@ -1,8 +1,8 @@
 // A set in the order of its members' keys.
-ghost use Rattle.std.specs.Prelude.{◌≡◌, ◌<◌, ◌≤◌, ◌+◌, ◌++◌, ◌∷◌, ◌==◌, ◌↔◌, ℕ, [], None, Some, if◌then◌else◌, IfOk, IsSome, IsTrue, OnErr, OnOk, flat_map, length, vec_capacity};
+ghost use Rattle.std.specs.Prelude.{◌≡◌, ◌<◌, ◌≤◌, ◌⊎◌, ◌+◌, ◌/◌, ◌++◌, ◌∷◌, ◌==◌, ◌↔◌, ℕ, [], None, Some, if◌then◌else◌, IfOk, IsSome, IsTrue, OnErr, OnOk, flat_map, length, vec_capacity};
 ghost use Rattle.std.specs.List.{AllByRecursion};
 ghost use Rattle.fib_base_ordered.specs.Sets.{IsAscending, above, below, first_of, found, from, last_of};
-ghost use Rattle.fib_base_ordered.specs.inner.Blocks.{AreRoomy, IsFilled, IsIdle, items_of};
+ghost use Rattle.fib_base_ordered.specs.inner.Blocks.{AreRoomy, Covers, IsFilled, IsIdle, cost, items_of};
 
 use crate::block::{Block, Keyed, cut, locate, peek, peek_back, put_in, take_out};
 use std::alloc::{AllocError, Global};
@@ -18,12 +18,18 @@ pub struct Ordered<T: Keyed> {
     blocks: Vec<Block<T>>,
     /// Blocks to come.
     idle: Vec<Block<T>>,
+    /// For how many more members these blocks are enough.
+    spare: usize,
 }
 
 // The prover follows what a drop does here, once, and not at every way out past an owner.
 impl<T: Keyed + Drop> Drop for Ordered<T> {
     fn drop(self) {
-        let Ordered { blocks: _, idle: _ } = self;
+        let Ordered {
+            blocks: _,
+            idle: _,
+            spare: _,
+        } = self;
     }
 }
 
@@ -34,9 +40,9 @@ impl<T: Keyed> Model for Ordered<T> {
 
     ghost Value = { Order T };
 
-    ghost view = { λ s. record { members = flat_map items_of s.blocks.items; spare = length s.idle.items } };
+    ghost view = { λ s. record { members = flat_map items_of s.blocks.items; spare = s.spare } };
 
-    ghost invariant = { λ s. AreBlocks T.rank s.blocks.items s.idle.items (vec_capacity s.blocks) (vec_capacity s.idle) };
+    ghost invariant = { λ s. AreBlocks T.rank s.blocks.items s.idle.items (vec_capacity s.blocks) (vec_capacity s.idle) s.spare };
 }
 
 impl<T: Keyed + Copy + Drop> Ordered<T> {
@@ -48,6 +54,7 @@ impl<T: Keyed + Copy + Drop> Ordered<T> {
         Ordered {
             blocks: Vec::new(alloc),
             idle: Vec::new(alloc),
+            spare: 0,
         }
     }
 
@@ -57,7 +64,16 @@ impl<T: Keyed + Copy + Drop> Ordered<T> {
         ensures room { OnOk result (more ≤ self.new.spare) }
         ensures spare { self.old.spare ≤ self.new.spare }
     {
-        make_room(alloc, &mut self.blocks, &mut self.idle, more)
+        if more <= self.spare {
+            return Ok(());
+        }
+        match make_room(alloc, &mut self.blocks, &mut self.idle, more) {
+            Ok(()) => {
+                self.spare = more;
+                Ok(())
+            }
+            Err(error) => Err(error),
+        }
     }
 
     /// For how many more members there is room at least.
@@ -65,7 +81,7 @@ impl<T: Keyed + Copy + Drop> Ordered<T> {
         ensures spare { result ≡ self.now.spare }
         ensures ordered { IsAscending T.rank self.now.members }
     {
-        self.idle.len()
+        self.spare
     }
 
     /// The member with that key; None exactly where there is none.
@@ -136,10 +152,12 @@ impl<T: Keyed + Copy + Drop> Ordered<T> {
         let blocks = self.blocks.as_slice();
         if blocks.is_empty() {
             begin(&mut self.blocks, &mut self.idle, member);
+            self.spare -= 1;
             return;
         }
         let place = locate(blocks, key);
         put_in(&mut self.blocks, &mut self.idle, place, member);
+        self.spare -= 1;
     }
 
     /// Takes the member with that key out. None exactly where there is none; the set is as before then.
@@ -175,6 +193,8 @@ fn begin<T: Copy + Drop>(blocks: &mut Vec<Block<T>>, idle: &mut Vec<Block<T>>, m
     ensures filled { AllByRecursion IsFilled blocks.new.items }
     ensures idle { AllByRecursion IsIdle idle.new.items }
     ensures spare { length idle.old.items ≤ length idle.new.items + 1 }
+    ensures all { length blocks.new.items + length idle.new.items ≡ length idle.old.items }
+    ensures cost { cost blocks.new.items ≡ 32 }
     ensures roomy { AreRoomy blocks.new.items idle.new.items (vec_capacity blocks.new) (vec_capacity idle.new) }
 {
     let Some(mut block) = idle.pop() else {
@@ -184,7 +204,16 @@ fn begin<T: Copy + Drop>(blocks: &mut Vec<Block<T>>, idle: &mut Vec<Block<T>>, m
     blocks.push_reserved(block);
 }
 
-/// That many idle blocks at least.
+/// How many idle blocks are enough for that many members more, beside so many blocks.
+fn enough(blocks: usize, more: usize) -> usize
+    ensures { (more ≤ result) ⊎ (blocks + more / 32 + 2 ≤ result) }
+{
+    let few = blocks.saturating_add(more / 32).saturating_add(2);
+    if more < few { more } else { few }
+}
+
+/// Idle blocks for that many members more: no more of them than members, and else what the blocks that there are may be split into, and
+/// one for 32 members that come.
 fn make_room<T: Copy + Drop>(
     alloc: Global,
     blocks: &mut Vec<Block<T>>,
@@ -196,10 +225,11 @@ fn make_room<T: Copy + Drop>(
     ensures same { blocks.new.items ≡ blocks.old.items }
     ensures idle { AllByRecursion IsIdle idle.new.items }
     ensures spare { length idle.old.items ≤ length idle.new.items }
-    ensures room { OnOk result (more ≤ length idle.new.items) }
+    ensures room { OnOk result (AllByRecursion IsFilled blocks.old.items → Covers more blocks.new.items idle.new.items) }
     ensures roomy { AreRoomy blocks.new.items idle.new.items (vec_capacity blocks.new) (vec_capacity idle.new) }
 {
-    while idle.len() < more {
+    let wanted = enough(blocks.len(), more);
+    while idle.len() < wanted {
         blocks.reserve(idle.len().saturating_add(1))?;
         idle.reserve(blocks.len().saturating_add(1))?;
         let items = Vec::with_capacity(alloc, MOST + 1)?;

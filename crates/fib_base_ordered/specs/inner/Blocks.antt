@@ -1,5 +1,5 @@
 -- How the members lie in blocks. No contract of a public call rests on this. items says which members a block has.
-use Rattle.std.specs.Prelude.{◌≡◌, ℕ, suc, ◌+◌, ◌<◌, ◌≤◌, List, [], ◌∷◌, ◌++◌, Option, Some, None, flat_map, length, take, drop, slice_get, vec_capacity}
+use Rattle.std.specs.Prelude.{◌≡◌, ℕ, suc, ◌+◌, ◌-◌, ◌*◌, max, ◌<◌, ◌≤◌, List, [], ◌∷◌, ◌++◌, Option, Some, None, flat_map, length, take, drop, slice_get, vec_capacity}
 use Rattle.std.specs.List.{AllByRecursion}
 use Rattle.fib_base_ordered.specs.declared.block.Block.{Block}
 use Rattle.fib_base_ordered.specs.Sets.{IsAscending}
@@ -44,12 +44,29 @@ pub record AreRoomy {T : Type 0} (blocks idle : List (Block T)) (room idle_room 
   pub all : length blocks + length idle ≤ room
   pub spare : length blocks + length idle ≤ idle_room
 
+-- a block counts as 32 members at least: so one of 65 counts as much as the two that it is split into
+abbrev pub weight : {T : Type 0} → Block T → ℕ
+weight b = max 32 (length (items_of b))
+
+abbrev pub span : {T : Type 0} → List (Block T) → ℕ
+span [] = 0
+span (b ∷ bs) = weight b + span bs
+
+-- the first member that comes takes a block
+abbrev pub cost : {T : Type 0} → List (Block T) → ℕ
+cost blocks = max 32 (span blocks)
+
+-- there is room for so many members more: one a block, or, over all blocks that there are, 32 a block
+abbrev pub Covers : {T : Type 0} → ℕ → List (Block T) → List (Block T) → Type 0
+Covers spare blocks idle = spare ≤ max (length idle) (32 * (length blocks + length idle) - cost blocks)
+
 -- how the fields of a set fit together
-pub record AreBlocks {T : Type 0} (rank : T → ℕ) (blocks idle : List (Block T)) (room idle_room : ℕ) : Type 0 where
+pub record AreBlocks {T : Type 0} (rank : T → ℕ) (blocks idle : List (Block T)) (room idle_room spare : ℕ) : Type 0 where
   pub ordered : IsAscending rank (flat_map items_of blocks)
   pub filled : AllByRecursion IsFilled blocks
   pub empty : AllByRecursion IsIdle idle
   pub roomy : AreRoomy blocks idle room idle_room
+  pub covered : Covers spare blocks idle
 
 -- all blocks but one are as between calls, and that one has a member more at most
 pub record IsWide {T : Type 0} (blocks : List (Block T)) (i : ℕ) : Type 0 where

@@ -13,4 +13,4 @@ invariant-loop-alloc g l = record {
 }
 
 abbrev pub decreases-loop-alloc : goal.decreases-loop-alloc
-decreases-loop-alloc g l = l.more - length l.idle.items
+decreases-loop-alloc g l = l.wanted - length l.idle.items

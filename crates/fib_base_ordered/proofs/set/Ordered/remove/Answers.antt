@@ -3,6 +3,7 @@ use Rattle.std.specs.Prelude.{flat_map}
 use Rattle.fib_base_ordered.specs.Sets.{IsAscending, found, first_of}
 use Rattle.fib_base_ordered.specs.inner.Blocks.{items_of, before, after, IsCut}
 use Rattle.fib_base_ordered.proofs.Sets.{absent, absent_found, no_first, other_first, same_first, out_members, out_found, out_ascending, moved}
+use Rattle.fib_base_ordered.proofs.Spans.{covers_out}
 use Rattle.fib_base_ordered.proofs.set.Ordered.remove.Goals as goal
 
 pub returns-in_err-member-clause-removed : goal.returns-in_err-member-clause-removed
@@ -91,4 +92,4 @@ invariant_of-self g c =
     let p = c.locate-place.result in
     let cut = subst (λ l. IsCut g.T.Keyed.rank c.args.key (flat_map items_of l) (before items_of l p.block p.slot) (after items_of l p.block p.slot)) c.as_slice-blocks.ensures.value c.locate-place.ensures.cut in
     let first = moved (λ l. first_of (after items_of l p.block p.slot)) _ _ _ c.as_slice-blocks.ensures.value c.in_ok-member.ensures in
-    record { ordered = subst (IsAscending g.T.Keyed.rank) (sym c.take_out.ensures.members) (out_ascending g.T.Keyed.rank c.args.key (flat_map items_of bs) (before items_of bs p.block p.slot) (after items_of bs p.block p.slot) cut c.self.invariant.ordered _ first (sym c.key.ensures ∙ c.if-key.false)); filled = c.take_out.ensures.filled; empty = c.take_out.ensures.idle; roomy = c.take_out.ensures.roomy }
+    record { ordered = subst (IsAscending g.T.Keyed.rank) (sym c.take_out.ensures.members) (out_ascending g.T.Keyed.rank c.args.key (flat_map items_of bs) (before items_of bs p.block p.slot) (after items_of bs p.block p.slot) cut c.self.invariant.ordered _ first (sym c.key.ensures ∙ c.if-key.false)); filled = c.take_out.ensures.filled; empty = c.take_out.ensures.idle; roomy = c.take_out.ensures.roomy; covered = covers_out c.self.inside.spare _ _ _ _ c.self.invariant.covered c.take_out.ensures.all c.take_out.ensures.spare c.take_out.ensures.cost }
