@@ -41,10 +41,12 @@ pub record GoesOn (script : List (List ℕ)) (from : ℕ) (before : Stage) (old 
   pub text : new ≡ old ++ said
   pub prints : (packets : Capture) (o : Round) (results : List Record) (rest : List ℕ)
       → Prints packets (to + 1) o after (drop to script) results rest → Prints packets (from + 1) o before (drop from script) results (said ++ rest)
-  pub rounds : (packets : Capture) (o : Round) → rounds_from packets (to + 1) o after (drop to script) ≡ rounds_from packets (from + 1) o before (drop from script)
+  pub rounds : (packets : Capture) (o : Round)
+      → rounds_from packets (to + 1) o after (drop to script) ≡ rounds_from packets (from + 1) o before (drop from script)
   pub last : stage_after (to + 1) after (drop to script) ≡ stage_after (from + 1) before (drop from script)
   pub counts : (packets : Capture) (o : Round) (S : Tables) (quiet : Bool) (c : Summary)
-      → counted packets (to + 1) (is_still_quiet quiet from to) o S after.router (drop to script) c ≡ counted packets (from + 1) quiet o S before.router (drop from script) c
+      → counted packets (to + 1) (is_still_quiet quiet from to) o S after.router (drop to script) c
+      ≡ counted packets (from + 1) quiet o S before.router (drop from script) c
   pub quiet : to ≡ from → after ≡ before
 
 -- the round that opens here
@@ -54,7 +56,8 @@ round_at packets version o = record { opened = version; first = o.first; taken =
 -- what may be printed from the opening of a round on, or after the last round
 abbrev pub PrintsFrom : Capture → List (List ℕ) → Stage → Option Opening → List Record → List ℕ → Type 0
 PrintsFrom packets script at None results out = (results ≡ []) × (out ≡ last_text packets.cut)
-PrintsFrom packets script at (Some o) results out = Prints packets (o.place + 1) (round_at packets.packets at.router.changes o) at (drop o.place script) results out
+PrintsFrom packets script at (Some o) results out =
+    Prints packets (o.place + 1) (round_at packets.packets at.router.changes o) at (drop o.place script) results out
 
 abbrev pub rounds_at : Capture → List (List ℕ) → Stage → Option Opening → List Round
 rounds_at packets script at None = []
@@ -97,7 +100,8 @@ closed_by at None = record { router = closed_router at.router None; history = at
 closed_by at (Some o) = at
 
 -- a round was run: what it prints and with which results
-pub record HasRun (script : List (List ℕ)) (packets : Capture) (before : Stage) (round : Opening) (after : Stage) (next : Option Opening) (results : List Record) (out : List ℕ) : Type 0 where
+pub record HasRun (script : List (List ℕ)) (packets : Capture) (before : Stage) (round : Opening) (after : Stage) (next : Option Opening)
+    (results : List Record) (out : List ℕ) : Type 0 where
   pub prints : (later : List Record) (rest : List ℕ)
       → PrintsFrom packets script after next later rest → PrintsFrom packets script before (Some round) (results ++ later) (out ++ rest)
   pub rounds : rounds_at packets script before (Some round) ≡ round_at packets.packets before.router.changes round ∷ rounds_at packets script after next

@@ -22,7 +22,8 @@ pub record IsAtRest (workers place : ℕ) (c : Control) : Type 0 where
   pub settled : c.plane.board.log.version.settled ≡ applied_in c
 
 -- What the lines print, where they stop, and the round's results, by frames.
-pub record HasForwardedRound (script : List (List ℕ)) (packets : List Packet) (round : Opening) (before : Control) (early : Progress) (old : List ℕ) (stop : Stop) (after : Control) (late : Progress) (new : List ℕ) (places : List (Option Kept)) : Type 0 where
+pub record HasForwardedRound (script : List (List ℕ)) (packets : List Packet) (round : Opening) (before : Control) (early : Progress)
+    (old : List ℕ) (stop : Stop) (after : Control) (late : Progress) (new : List ℕ) (places : List (Option Kept)) : Type 0 where
   pub on : GoesOn script round.place (stage_of before early) old stop.place (stage_of after late) new
   pub stops : StopsAt (drop stop.place script) (router_of after late) stop.asked
   pub later : round.place ≤ stop.place
@@ -31,7 +32,8 @@ pub record HasForwardedRound (script : List (List ℕ)) (packets : List Packet) 
   pub few : applied_in after ≤ stop.place
   pub lines : late.lines ≡ lines_run stop.place stop.asked
   pub history : IsHistory (stage_of before early) → IsHistory (stage_of after late)
-  pub home : IsHome (applied_in before) round.first (length before.plane.board.gathered) before.plane.board.workers (span packets round.first round.to) before.plane.board after.plane.board places
+  pub home : IsHome (applied_in before) round.first (length before.plane.board.gathered) before.plane.board.workers
+      (span packets round.first round.to) before.plane.board after.plane.board places
   pub none : NoneOut after.plane.board
   pub fewer : frames (span packets round.first round.to) ≤ 2 ^ 24
   pub passes : (n : ℕ) → left_of (slice_index before.plane.board.rests n) ≤ left_of (slice_index after.plane.board.rests n) + 2 ^ 33
