@@ -1,5 +1,5 @@
 // The entries follow changes, once the queue has room for all that they may touch.
-ghost use Rattle.std.specs.Prelude.{◌≡◌, ◌∷◌, ◌*◌, ◌+◌, ◌<◌, ◌≤◌, ◌^◌, ◌-◌, ◌||◌, [], IfErr, IfOk, None, OnErr, OnOk, min};
+ghost use Rattle.std.specs.Prelude.{◌≡◌, ◌*◌, ◌<◌, ◌≤◌, ◌^◌, ◌-◌, ◌||◌, IfErr, IfOk, None, OnErr, OnOk, min};
 ghost use Rattle.fib_addr.specs.Prefixes.{Prefix as PrefixValue};
 ghost use Rattle.fib_resolve.specs.Edits.{edited};
 ghost use Rattle.fib_resolve.specs.Reachable.{IsWritten};
@@ -10,7 +10,7 @@ ghost use Rattle.fib_resolve.specs.Sizes.{size};
 ghost use Rattle.fib_resolve.specs.Touched.{is_touched};
 ghost use Rattle.fib_resolve.specs.declared.types.Tables.{Tables as TablesValue};
 ghost use Rattle.fib_resolve_changes.specs.Differ.{Differ};
-ghost use Rattle.fib_entries_rows.specs.Changes.{AreMoved, AreTouched};
+ghost use Rattle.fib_entries_rows.specs.Changes.{FromBefore, IsFollowed};
 ghost use Rattle.fib_entries_rows.specs.Known.{StandsFor, rank_of};
 ghost use Rattle.fib_stack_queue.specs.Queues.{rank_in};
 ghost use Rattle.fib_core_promise.specs.Stack.{is_some};
@@ -68,16 +68,10 @@ fn follow_within(
     limits: Limits,
 ) -> Result<Followed, ApplyError>
     requires room { limits.room < 2 ^ 32 - 1 }
-    ensures stands { OnOk result ((S : TablesValue) → StandsFor entries.old S → Differ changes.now S config.now.tables
-        → StandsFor entries.new config.now.tables) }
-    ensures touched { IfOk result (λ f. (S : TablesValue) → StandsFor entries.old S → Differ changes.now S config.now.tables
-        → AreTouched S config.now.tables f.touched) }
-    ensures moved { IfOk result (λ f. (S : TablesValue) → StandsFor entries.old S → Differ changes.now S config.now.tables
-        → AreMoved entries.old.rows entries.new.rows f.moved) }
-    ensures fits { OnOk result ((S : TablesValue) → StandsFor entries.old S → Differ changes.now S config.now.tables
-        → (size config.now.tables ≤ limits.room) × (size config.now.tables ≤ limits.free)) }
-    ensures why { IfErr result (λ e. (S : TablesValue) → StandsFor entries.old S → Differ changes.now S config.now.tables
-        → IsTooMuch limits (size config.now.tables) e) }
+    ensures followed { IfOk result (λ f. FromBefore entries.old changes.now config.now.tables
+        (λ S. IsFollowed entries.old entries.new S config.now.tables (min limits.room limits.free) f)) }
+    ensures why { IfErr result (λ e. FromBefore entries.old changes.now config.now.tables
+        (λ _. IsTooMuch limits (size config.now.tables) e)) }
     ensures err { OnErr result (entries.new ≡ entries.old) }
 {
     match entries.follow_changes(config, changes, least_of(limits)) {
@@ -98,17 +92,11 @@ fn follow(
     limits: Limits,
 ) -> Result<Followed, ApplyError>
     requires room { limits.room < 2 ^ 32 - 1 }
-    ensures stands { OnOk result ((S : TablesValue) → StandsFor entries.old S → Differ changes.now S config.now.tables
-        → StandsFor entries.new config.now.tables) }
-    ensures touched { IfOk result (λ f. (S : TablesValue) → StandsFor entries.old S → Differ changes.now S config.now.tables
-        → AreTouched S config.now.tables f.touched) }
-    ensures moved { IfOk result (λ f. (S : TablesValue) → StandsFor entries.old S → Differ changes.now S config.now.tables
-        → AreMoved entries.old.rows entries.new.rows f.moved) }
-    ensures fits { OnOk result ((S : TablesValue) → StandsFor entries.old S → Differ changes.now S config.now.tables
-        → (size config.now.tables ≤ limits.room) × (size config.now.tables ≤ limits.free)) }
+    ensures followed { IfOk result (λ f. FromBefore entries.old changes.now config.now.tables
+        (λ S. IsFollowed entries.old entries.new S config.now.tables (min limits.room limits.free) f)) }
     ensures space { OnOk result (4 * limits.room ≤ queue.new.spare) }
-    ensures why { IfErr result (λ e. (S : TablesValue) → StandsFor entries.old S → Differ changes.now S config.now.tables
-        → IsTooMuch limits (size config.now.tables) e) }
+    ensures why { IfErr result (λ e. FromBefore entries.old changes.now config.now.tables
+        (λ _. IsTooMuch limits (size config.now.tables) e)) }
     ensures queue { queue.new.members ≡ queue.old.members }
     ensures err { OnErr result (entries.new ≡ entries.old) }
 {

@@ -23,14 +23,13 @@ use Rattle.fib_resolve_changes.proofs.Edits.{any_in, in_cases, in_front, in_rest
 use Rattle.fib_resolve_changes.proofs.SamePairs.{map_in}
 use Rattle.fib_base_interned.specs.Interned.{AreInterned, Takes, kept_of}
 use Rattle.fib_base_interned.proofs.Finding.{contains_at}
-use Rattle.fib_entries_rows.specs.Changes.{AreMoved}
+use Rattle.fib_entries_rows.specs.Changes.{AreMoved, IsFollowed}
 use Rattle.fib_entries_rows.specs.Known.{Known, PathKept, StandsFor, content_of, prefix_of, rank_of}
 use Rattle.fib_entries.specs.inner.Above.{IsPlanned}
 use Rattle.fib_entries.specs.inner.Adopting.{ComesOver, IsAdopted, IsBetween, IsKin, IsOpen, IsTurnedOver, aimed, aimed_in, aimed_mark, cover_mark, drop_list, dropping, open_row, opened, with_dependants}
 use Rattle.fib_entries_rows.specs.inner.Building.{AreHeld}
 use Rattle.fib_entries_rows.specs.inner.Ends.{aim_exit, has_exit}
 use Rattle.fib_entries_rows.specs.inner.Fields.{AreAmong, AreFields, AreNamed, Index, IsForgotten, IsIndexed, IsNoted, are_several, count_in, has_several}
-use Rattle.fib_entries_rows.specs.inner.Leaf.{IsFollowed}
 use Rattle.fib_entries_rows.specs.inner.Led.{IsReaching}
 use Rattle.fib_entries_rows.specs.inner.Plies.{IsGap, entry_at, entry_before, own_size}
 use Rattle.fib_entries_rows.specs.inner.Reaching.{HasReached}

@@ -44,7 +44,7 @@ use Rattle.fib_entries_rows.specs.declared.ends.News.{News}
 use Rattle.fib_entries_rows.specs.declared.ends.News.TheVariants as news
 use Rattle.fib_entries_rows.specs.declared.changes.Followed.{Followed}
 use Rattle.fib_entries_rows.specs.inner.Ends.{IsEndEdit, IsNews, HasNear, end_over, has_flag, renewed, is_old, is_old_row}
-use Rattle.fib_entries_rows.specs.inner.Leaf.{IsFollowed}
+use Rattle.fib_entries_rows.specs.Changes.{IsFollowed}
 use Rattle.fib_entries_rows.proofs.Comparing.{differ_not}
 use Rattle.fib_entries_rows.proofs.Ending.{cover_same, looped_same, met_same}
 use Rattle.fib_entries_rows.proofs.Leafing.{base_cases, each_has, front, near_half, only_one}

@@ -29,12 +29,12 @@ use Rattle.fib_resolve_changes.proofs.SamePairs.{map_from, map_in, from_origin, 
 use Rattle.fib_base_interned.specs.Interned.{AreInterned}
 use Rattle.fib_base_interned.proofs.Finding.{contains_at}
 use Rattle.fib_entries_rows.specs.Known.{Known, content_of, prefix_of, rank_of, rank_in, ArePairs, IsRow, StandsFor, holders, kind_met}
-use Rattle.fib_entries_rows.specs.Changes.{AreTouched, AreMoved}
+use Rattle.fib_entries_rows.specs.Changes.{AreTouched, AreMoved, IsFollowed}
 use Rattle.fib_entries_rows.specs.inner.Clear.{IsApart}
 use Rattle.fib_entries_rows.specs.inner.Coming.{blank_row, with_pairs}
 use Rattle.fib_entries_rows.specs.inner.Fields.{AreCounted}
 use Rattle.fib_entries_rows.specs.inner.Gateway.{IsGaining, HasGained}
-use Rattle.fib_entries_rows.specs.inner.Leaf.{IsLeafEdit, IsFollowed, IsButFor, goals_of, plain_own, moved_at}
+use Rattle.fib_entries_rows.specs.inner.Leaf.{IsLeafEdit, IsButFor, goals_of, plain_own, moved_at}
 use Rattle.fib_entries_rows.specs.inner.Part.{in_part, IsButForPart, IsPartEdit, IsPartMade}
 use Rattle.fib_entries_rows.specs.inner.Plies.{own_size, entry_at, entry_before}
 use Rattle.fib_entries_rows.specs.declared.changes.Followed.{Followed}

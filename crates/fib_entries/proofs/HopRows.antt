@@ -25,7 +25,7 @@ use Rattle.fib_resolve_changes.specs.declared.change.Change.TheVariants as chang
 use Rattle.fib_resolve_changes.proofs.SamePairs.{map_from, map_in}
 use Rattle.fib_base_interned.proofs.Finding.{contains_at}
 use Rattle.fib_entries_rows.specs.Known.{Known, content_of, prefix_of, rank_of, ArePairs, IsRow, StandsFor, holders}
-use Rattle.fib_entries_rows.specs.Changes.{AreTouched, AreMoved}
+use Rattle.fib_entries_rows.specs.Changes.{AreTouched, AreMoved, IsFollowed}
 use Rattle.fib_entries_rows.specs.Rows.{Row}
 use Rattle.fib_entries_rows.specs.declared.changes.Followed.{Followed}
 use Rattle.fib_entries_rows.specs.declared.ends.News.{News}
@@ -34,7 +34,6 @@ use Rattle.fib_entries_rows.specs.inner.Coming.{with_pairs}
 use Rattle.fib_entries_rows.specs.inner.Ends.{is_old, is_old_row, renewed_row}
 use Rattle.fib_entries_rows.specs.inner.Fields.{AreCounted}
 use Rattle.fib_entries.specs.inner.Hop.{IsHopRow, NoneAsks, hop_pairs}
-use Rattle.fib_entries_rows.specs.inner.Leaf.{IsFollowed}
 use Rattle.fib_entries.specs.inner.Near.{near_list}
 use Rattle.fib_entries_rows.proofs.EndRows.{ascending_left}
 use Rattle.fib_entries.proofs.HopLaws.{IsHopEdit, hop_chosen, hop_entries, hop_entry, hop_falls, hop_others, hop_right, hop_row, hop_touched}

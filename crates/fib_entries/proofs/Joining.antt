@@ -18,10 +18,10 @@ use Rattle.fib_resolve_changes.specs.declared.change.Change.TheVariants as chang
 use Rattle.fib_resolve_changes.proofs.SamePairs.{map_from, map_in}
 use Rattle.fib_base_interned.specs.Interned.{AreInterned}
 use Rattle.fib_entries_rows.specs.Known.{PathKept, Known, content_of, prefix_of, rank_of, rank_in, IsRow, StandsFor, holders}
-use Rattle.fib_entries_rows.specs.Changes.{AreTouched, AreMoved}
+use Rattle.fib_entries_rows.specs.Changes.{AreTouched, AreMoved, IsFollowed}
 use Rattle.fib_entries_rows.specs.inner.Coming.{IsArriving, IsBelonging, IsPlaced, HasCome, blank_row, with_pairs}
 use Rattle.fib_entries_rows.specs.inner.Fields.{AreCounted, AreFields, Index, IsForgotten, IsNoted}
-use Rattle.fib_entries_rows.specs.inner.Leaf.{IsLeafEdit, IsFollowed, IsButFor, goals_of, plain_own, moved_at}
+use Rattle.fib_entries_rows.specs.inner.Leaf.{IsLeafEdit, IsButFor, goals_of, plain_own, moved_at}
 use Rattle.fib_entries_rows.specs.inner.Plies.{own_size, entry_at, entry_before}
 use Rattle.fib_entries_rows.specs.declared.changes.Followed.{Followed}
 use Rattle.fib_entries_rows.specs.Rows.{Row}

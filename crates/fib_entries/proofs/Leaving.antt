@@ -22,10 +22,10 @@ use Rattle.fib_resolve_changes.proofs.SamePairs.{map_from, from_origin, base}
 use Rattle.fib_base_interned.specs.Interned.{AreInterned, kept_of}
 use Rattle.fib_base_interned.proofs.Finding.{some_is, contains_at}
 use Rattle.fib_entries_rows.specs.Known.{PathKept, Known, content_of, prefix_of, rank_of, rank_in, IsRow, StandsFor, holders}
-use Rattle.fib_entries_rows.specs.Changes.{AreTouched, AreMoved}
+use Rattle.fib_entries_rows.specs.Changes.{AreTouched, AreMoved, IsFollowed}
 use Rattle.fib_entries_rows.specs.inner.Fields.{AreCounted, AreFields, Index, IsForgotten}
 use Rattle.fib_entries_rows.specs.inner.Going.{IsLeaving, IsWithdrawn, HasLeft}
-use Rattle.fib_entries_rows.specs.inner.Leaf.{IsLeafEdit, IsFollowed, IsButFor, goals_of, is_plain, moved_at}
+use Rattle.fib_entries_rows.specs.inner.Leaf.{IsLeafEdit, IsButFor, goals_of, is_plain, moved_at}
 use Rattle.fib_entries_rows.specs.inner.Plies.{own_size, entry_at, entry_before, before_of, IsGap}
 use Rattle.fib_entries_rows.specs.declared.changes.Followed.{Followed}
 use Rattle.fib_entries_rows.specs.Rows.{Row}

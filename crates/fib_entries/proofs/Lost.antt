@@ -29,11 +29,11 @@ use Rattle.fib_resolve_changes.proofs.SamePairs.{map_from, map_in, flat_map_from
 use Rattle.fib_base_interned.specs.Interned.{AreInterned}
 use Rattle.fib_base_interned.proofs.Finding.{contains_at, some_is}
 use Rattle.fib_entries_rows.specs.Known.{Known, PathKept, content_of, prefix_of, row_of, rank_of, rank_in, ArePairs, IsRow, StandsFor, holders, kind_met}
-use Rattle.fib_entries_rows.specs.Changes.{AreTouched, AreMoved}
+use Rattle.fib_entries_rows.specs.Changes.{AreTouched, AreMoved, IsFollowed}
 use Rattle.fib_entries_rows.specs.inner.Clear.{IsApart}
 use Rattle.fib_entries_rows.specs.inner.Coming.{with_pairs}
 use Rattle.fib_entries_rows.specs.inner.Fields.{AreCounted}
-use Rattle.fib_entries_rows.specs.inner.Leaf.{IsLeafEdit, IsFollowed, IsButFor, goals_of, moved_at}
+use Rattle.fib_entries_rows.specs.inner.Leaf.{IsLeafEdit, IsButFor, goals_of, moved_at}
 use Rattle.fib_entries_rows.specs.inner.Losing.{IsLosing, HasLost}
 use Rattle.fib_entries_rows.specs.inner.Part.{in_part, IsButForPart, IsPartEdit, IsPartKept, IsPartMade}
 use Rattle.fib_entries_rows.specs.inner.Plies.{IsGap, before_of, own_size, entry_at, entry_before}

@@ -30,7 +30,7 @@ use Rattle.fib_resolve_changes.proofs.SamePairs.{map_in, map_from}
 use Rattle.fib_base_interned.specs.Interned.{AreInterned}
 use Rattle.fib_base_interned.proofs.Finding.{contains_at}
 use Rattle.fib_entries_rows.specs.Known.{Known, content_of, prefix_of, rank_of, rank_in, IsRow, StandsFor, holders, kind_met}
-use Rattle.fib_entries_rows.specs.Changes.{AreTouched, AreMoved}
+use Rattle.fib_entries_rows.specs.Changes.{AreTouched, AreMoved, IsFollowed}
 use Rattle.fib_entries_rows.specs.Rows.{Row}
 use Rattle.fib_entries_rows.specs.declared.changes.Followed.{Followed}
 use Rattle.fib_entries_rows.specs.declared.ends.News.{News}
@@ -39,7 +39,7 @@ use Rattle.fib_entries_rows.specs.inner.Coming.{IsPlaced, blank_row, with_pairs}
 use Rattle.fib_entries_rows.specs.inner.Ends.{is_old, is_old_row, renewed_row}
 use Rattle.fib_entries_rows.specs.inner.Fields.{AreCounted}
 use Rattle.fib_entries_rows.specs.inner.Going.{IsWithdrawn}
-use Rattle.fib_entries_rows.specs.inner.Leaf.{IsButFor, IsFollowed, goals_of, moved_at, plain_own}
+use Rattle.fib_entries_rows.specs.inner.Leaf.{IsButFor, goals_of, moved_at, plain_own}
 use Rattle.fib_entries.specs.inner.Near.{near_list, are_some, are_more, IsNearComing, IsNearGoing}
 use Rattle.fib_entries_rows.specs.inner.Plies.{own_size, entry_at, entry_before, before_of, IsGap}
 use Rattle.fib_entries_rows.proofs.Arriving.{mid_own, with_it, there_came, row_from, ordered_came}

@@ -30,7 +30,8 @@ use Rattle.fib_entries_rows.specs.Known.{Known, PathKept, content_of, prefix_of,
 use Rattle.fib_entries.specs.inner.Above.{IsUnder, doubled}
 use Rattle.fib_entries_rows.specs.inner.Coming.{with_pairs}
 use Rattle.fib_entries_rows.specs.inner.Fields.{AreCounted}
-use Rattle.fib_entries_rows.specs.inner.Leaf.{IsFollowed, is_plain}
+use Rattle.fib_entries_rows.specs.Changes.{IsFollowed}
+use Rattle.fib_entries_rows.specs.inner.Leaf.{is_plain}
 use Rattle.fib_entries_rows.specs.inner.Part.{IsPartKept}
 use Rattle.fib_entries_rows.specs.Rows.{Row}
 use Rattle.fib_entries_rows.specs.declared.changes.Followed.{Followed}

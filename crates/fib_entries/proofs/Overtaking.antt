@@ -29,7 +29,8 @@ use Rattle.fib_entries_rows.specs.inner.Coming.{with_pairs}
 use Rattle.fib_entries_rows.specs.inner.Course.{IsCourse, made_of}
 use Rattle.fib_entries_rows.specs.inner.Ends.{has_exit}
 use Rattle.fib_entries_rows.specs.inner.Fields.{AreAmong, AreFields, AreNamed, Index, IsForgotten, IsIndexed, IsNoted, count_in, has_several, IsSeveral}
-use Rattle.fib_entries_rows.specs.inner.Leaf.{AreReplaced, IsFollowed}
+use Rattle.fib_entries_rows.specs.Changes.{IsFollowed}
+use Rattle.fib_entries_rows.specs.inner.Leaf.{AreReplaced}
 use Rattle.fib_entries_rows.specs.inner.Led.{IsReaching}
 use Rattle.fib_entries_rows.specs.inner.Looping.{AreRelooped}
 use Rattle.fib_entries_rows.specs.inner.Reaching.{HasPairs, HasReached, IsFitGone, IsFitLate, IsRelisted, IsUnseen, looped_own}

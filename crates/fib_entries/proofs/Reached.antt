@@ -35,8 +35,7 @@ use Rattle.std.proofs.lemmas.List.Elements.{Contains-append_cases, Contains-appe
 use Rattle.fib_resolve.proofs.Covering.{filter_from, filter_in}
 use Rattle.fib_resolve_changes.specs.Differ.{Differ}
 use Rattle.fib_resolve_changes.specs.declared.change.Change.TheVariants as changes
-use Rattle.fib_entries_rows.specs.Changes.{AreMoved, AreTouched, prefix_moved}
-use Rattle.fib_entries_rows.specs.inner.Leaf.{IsFollowed}
+use Rattle.fib_entries_rows.specs.Changes.{AreMoved, AreTouched, prefix_moved, IsFollowed}
 use Rattle.fib_entries_rows.specs.declared.changes.Followed.{Followed}
 use Rattle.fib_entries_rows.specs.declared.changes.Moved.{Moved}
 use Rattle.fib_entries_rows.proofs.Anew.{filter_differ}

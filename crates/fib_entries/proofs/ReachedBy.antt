@@ -18,7 +18,7 @@ use Rattle.fib_base_interned.specs.Interned.{AreInterned}
 use Rattle.fib_base_interned.proofs.Finding.{none_some, some_is}
 use Rattle.fib_entries_rows.specs.Known.{Known, PathKept, StandsFor, content_of, prefix_of}
 use Rattle.fib_entries_rows.specs.inner.Course.{IsCourse, made_of}
-use Rattle.fib_entries_rows.specs.inner.Leaf.{IsFollowed}
+use Rattle.fib_entries_rows.specs.Changes.{IsFollowed}
 use Rattle.fib_entries_rows.specs.inner.Led.{IsReaching}
 use Rattle.fib_entries_rows.specs.inner.Looping.{AreLoops, AreReached, next_with}
 use Rattle.fib_entries_rows.specs.inner.Reaching.{HasCover, HasReached, IsRisenKept, IsRelisted, looped_own, turned_hosts}

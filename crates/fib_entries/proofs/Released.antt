@@ -28,14 +28,14 @@ use Rattle.fib_resolve.specs.declared.types.Tables.{Tables}
 use Rattle.fib_resolve.proofs.Covering.{filter_from, filter_in}
 use Rattle.fib_resolve.proofs.PairLaws.{cover_at_host}
 use Rattle.fib_resolve.proofs.Touching.{untouched_pairs}
-use Rattle.fib_entries_rows.specs.Changes.{AreMoved, AreTouched, prefix_moved}
+use Rattle.fib_entries_rows.specs.Changes.{AreMoved, AreTouched, prefix_moved, IsFollowed}
 use Rattle.fib_entries_rows.specs.Known.{Known, prefix_of, rank_in, rank_of, IsRow, StandsFor}
 use Rattle.fib_entries_rows.specs.Rows.{Row}
 use Rattle.fib_entries_rows.specs.declared.changes.Followed.{Followed}
 use Rattle.fib_entries_rows.specs.declared.changes.Moved.{Moved}
 use Rattle.fib_entries.specs.declared.releasing.Between.{Between}
 use Rattle.fib_entries.specs.inner.Adopting.{ComesOver, IsOpen, dropping}
-use Rattle.fib_entries_rows.specs.inner.Leaf.{IsFollowed, moved_at}
+use Rattle.fib_entries_rows.specs.inner.Leaf.{moved_at}
 use Rattle.fib_entries_rows.specs.inner.Led.{IsLedEdit, IsReaching}
 use Rattle.fib_entries.specs.inner.Releasing.{AreJoined, HasOnly, IsBetween, IsReleased, but_for}
 use Rattle.fib_entries.proofs.AdoptEdges.{open_alike, open_edges_own, open_is_over, over_other, short_edge, small}

@@ -34,7 +34,8 @@ use Rattle.fib_base_interned.proofs.Finding.{contains_at, some_is}
 use Rattle.fib_entries_rows.specs.Known.{Known, content_of, prefix_of, rank_of, ArePairs, IsHeld, IsRow, StandsFor, holders, kind_met}
 use Rattle.fib_entries_rows.specs.inner.Coming.{with_pairs}
 use Rattle.fib_entries_rows.specs.inner.Fields.{AreCounted}
-use Rattle.fib_entries_rows.specs.inner.Leaf.{IsFollowed, is_plain}
+use Rattle.fib_entries_rows.specs.Changes.{IsFollowed}
+use Rattle.fib_entries_rows.specs.inner.Leaf.{is_plain}
 use Rattle.fib_entries_rows.specs.inner.Part.{IsPartKept}
 use Rattle.fib_entries_rows.specs.inner.Under.{HasBest, IsBared, IsNext}
 use Rattle.fib_entries_rows.specs.Rows.{Row}

@@ -37,12 +37,12 @@ use Rattle.fib_resolve_changes.proofs.Targets.{hop_entry}
 use Rattle.fib_base_interned.specs.Interned.{AreInterned}
 use Rattle.fib_base_interned.proofs.Finding.{contains_at, some_is, none_some}
 use Rattle.fib_entries_rows.specs.Known.{Known, content_of, prefix_of, rank_of, rank_in, ArePairs, IsRow, StandsFor, holders, kind_met}
-use Rattle.fib_entries_rows.specs.Changes.{AreTouched, AreMoved}
+use Rattle.fib_entries_rows.specs.Changes.{AreTouched, AreMoved, IsFollowed}
 use Rattle.fib_entries_rows.specs.inner.Clear.{IsApart}
 use Rattle.fib_entries_rows.specs.inner.Coming.{blank_row}
 use Rattle.fib_entries_rows.specs.inner.Fields.{AreCounted}
 use Rattle.fib_entries_rows.specs.inner.Hosting.{IsHosting, HasHosted, host_own}
-use Rattle.fib_entries_rows.specs.inner.Leaf.{IsLeafEdit, AreWhole, IsFollowed, AreAttached, goal_of, goals_of, pushed, plain_own}
+use Rattle.fib_entries_rows.specs.inner.Leaf.{IsLeafEdit, AreWhole, AreAttached, goal_of, goals_of, pushed, plain_own}
 use Rattle.fib_entries_rows.specs.inner.Part.{in_part, IsButForPart, IsPartEdit, IsPartMade}
 use Rattle.fib_entries_rows.specs.declared.changes.Followed.{Followed}
 use Rattle.fib_entries_rows.specs.declared.hosting.Late.{Late}

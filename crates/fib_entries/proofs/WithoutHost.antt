@@ -28,10 +28,10 @@ use Rattle.fib_resolve_changes.proofs.SamePairs.{flat_map_from, map_from, map_in
 use Rattle.fib_base_interned.specs.Interned.{AreInterned}
 use Rattle.fib_base_interned.proofs.Finding.{contains_at}
 use Rattle.fib_entries_rows.specs.Known.{Known, content_of, prefix_of, rank_of, rank_in, StandsFor, holders}
-use Rattle.fib_entries_rows.specs.Changes.{AreTouched, AreMoved}
+use Rattle.fib_entries_rows.specs.Changes.{AreTouched, AreMoved, IsFollowed}
 use Rattle.fib_entries_rows.specs.inner.Clear.{IsApart}
 use Rattle.fib_entries_rows.specs.inner.Fields.{AreCounted}
-use Rattle.fib_entries_rows.specs.inner.Leaf.{IsLeafEdit, AreWhole, IsFollowed, goals_of}
+use Rattle.fib_entries_rows.specs.inner.Leaf.{IsLeafEdit, AreWhole, goals_of}
 use Rattle.fib_entries_rows.specs.inner.Part.{in_part, IsButForPart, IsPartEdit, IsPartMade}
 use Rattle.fib_entries_rows.specs.inner.Parting.{IsParting, HasParted}
 use Rattle.fib_entries_rows.specs.declared.changes.Followed.{Followed}

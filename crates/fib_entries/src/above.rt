@@ -1,5 +1,6 @@
 // A route that comes above the other lists of its prefix: all that these lead to stays, but they aren't chosen any more.
-ghost use Rattle.std.specs.Prelude.{◌≡◌, ◌≢◌, ◌<◌, ◌-◌, ◌^◌, ◌∷◌, [], ℕ, None, Some, IfOk, IfSome, IfNone, IsFalse, IsSome, IsTrue, OnErr, OnOk, Contains, length, map, slice_get, List as Items};
+ghost use Rattle.std.specs.Prelude.{◌≡◌, ◌≢◌, ◌<◌, ◌-◌, ◌^◌, ◌∷◌, [], ℕ, None, Some, IfOk, IfSome, IfNone, IsFalse, IsSome, IsTrue, OnErr, OnOk};
+ghost use Rattle.std.specs.Prelude.{Contains, length, map, slice_get, List as Items};
 ghost use Rattle.fib_addr.specs.Prefixes.{Prefix as PrefixValue};
 ghost use Rattle.fib_cover.specs.Covers.{IsAscending};
 ghost use Rattle.fib_base_interned.specs.Interned.{kept_of, users_of};
@@ -16,7 +17,7 @@ ghost use Rattle.fib_entries_rows.specs.Rows.{Row as RowValue};
 ghost use Rattle.fib_entries.specs.inner.Above.{IsAbove, IsOver, IsPlanned, IsUnder, doubled};
 ghost use Rattle.fib_entries_rows.specs.inner.Building.{AreHeld};
 ghost use Rattle.fib_entries_rows.specs.inner.Fields.{AreAmong, has_several};
-ghost use Rattle.fib_entries_rows.specs.inner.Leaf.{IsFollowed};
+ghost use Rattle.fib_entries_rows.specs.Changes.{IsFollowed};
 
 use crate::entries::Entries;
 use fib_addr::Prefix;

@@ -1,5 +1,6 @@
 // A prefix that comes with its route between hosts and their cover.
-ghost use Rattle.std.specs.Prelude.{◌≡◌, ◌↔◌, ◌⊎◌, ◌≤◌, ◌<◌, ◌-◌, ◌^◌, ◌∷◌, [], true, false, None, Some, IfNone, IfOk, IfSome, IsSome, IsTrue, OnErr, OnOk, Contains, length, map, not, slice_get, List as Items};
+ghost use Rattle.std.specs.Prelude.{◌≡◌, ◌↔◌, ◌⊎◌, ◌≤◌, ◌<◌, ◌-◌, ◌^◌, ◌∷◌, [], true, false, None, Some, IfNone, IfOk, IfSome, IsSome, IsTrue, OnErr};
+ghost use Rattle.std.specs.Prelude.{OnOk, Contains, length, map, not, slice_get, List as Items};
 ghost use Rattle.std.specs.List.{insert, list_all, list_any};
 ghost use Rattle.fib_addr.specs.Prefixes.{Prefix as PrefixValue, contains};
 ghost use Rattle.fib_cover.specs.Covers.{IsAscending, IsLongestMatch};
@@ -17,10 +18,11 @@ ghost use Rattle.fib_resolve_changes.specs.declared.change.Change.TheVariants as
 ghost use Rattle.fib_entries_rows.specs.Known.{StandsFor, content_of, prefix_of, rank_of};
 ghost use Rattle.fib_entries_rows.specs.Rows.{Row as RowValue};
 ghost use Rattle.fib_entries.specs.declared.adopting.Kin.{Kin as KinValue};
-ghost use Rattle.fib_entries.specs.inner.Adopting.{IsAdopted, IsBetween, IsKin, IsTurnedOver, drop_mark, has_cover_mark, is_aimed_at, is_cover_mark, is_covered, open_row, opened};
+ghost use Rattle.fib_entries.specs.inner.Adopting.{IsAdopted, IsBetween, IsKin, IsTurnedOver, drop_mark, has_cover_mark, is_aimed_at, is_cover_mark};
+ghost use Rattle.fib_entries.specs.inner.Adopting.{is_covered, open_row, opened};
 ghost use Rattle.fib_entries_rows.specs.inner.Building.{AreHeld};
 ghost use Rattle.fib_entries_rows.specs.inner.Fields.{AreAmong, has_several};
-ghost use Rattle.fib_entries_rows.specs.inner.Leaf.{IsFollowed};
+ghost use Rattle.fib_entries_rows.specs.Changes.{IsFollowed};
 ghost use Rattle.fib_entries_rows.specs.inner.Plies.{IsGap};
 
 use crate::above::{is_shared, plan};

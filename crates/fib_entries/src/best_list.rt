@@ -13,7 +13,8 @@ ghost use Rattle.fib_entries_rows.specs.inner.Course.{IsCourse};
 ghost use Rattle.fib_entries_rows.specs.inner.Led.{IsReaching};
 ghost use Rattle.fib_entries_rows.specs.inner.Raising.{moved_from};
 ghost use Rattle.fib_entries_rows.specs.inner.Reaching.{HasReached, gone_moved, late_moved, turned_hosts};
-ghost use Rattle.fib_entries_rows.specs.inner.Leaf.{IsFollowed, is_plain};
+ghost use Rattle.fib_entries_rows.specs.Changes.{IsFollowed};
+ghost use Rattle.fib_entries_rows.specs.inner.Leaf.{is_plain};
 ghost use Rattle.fib_resolve_changes.specs.Differ.{Differ};
 ghost use Rattle.fib_resolve_changes.specs.declared.change.Change.TheVariants as changes;
 

@@ -1,5 +1,6 @@
 // Entries that follow a change of the tables.
-ghost use Rattle.std.specs.Prelude.{◌≡◌, ◌≤◌, ◌++◌, ◌∷◌, [], IfSome, IfNone, IfOk, IfErr, OnOk, OnErr, Some, ◌<◌, ◌-◌, ◌==◌, ◌^◌, map, flat_map, filter, min, if◌then◌else◌};
+ghost use Rattle.std.specs.Prelude.{◌≡◌, ◌++◌, ◌∷◌, [], IfSome, IfNone, IfOk, IfErr, OnOk, OnErr, Some};
+ghost use Rattle.std.specs.Prelude.{◌<◌, ◌-◌, ◌==◌, ◌^◌, map, flat_map, filter, min, if◌then◌else◌};
 ghost use Rattle.fib_resolve.specs.Sizes.{size};
 ghost use Rattle.fib_resolve.specs.Tables.{IsSound};
 ghost use Rattle.fib_resolve.specs.Touched.{is_touched};
@@ -8,8 +9,7 @@ ghost use Rattle.fib_resolve_changes.specs.Differ.{Differ};
 ghost use Rattle.fib_resolve_changes.specs.declared.change.Change.TheVariants as change_kinds;
 ghost use Rattle.fib_entries_rows.specs.Known.{StandsFor, prefix_of, row_of, rank_of};
 ghost use Rattle.fib_entries_rows.specs.inner.Compare.{AreKept, is_new, moved_one, moved_new};
-ghost use Rattle.fib_entries_rows.specs.inner.Leaf.{IsFollowed};
-ghost use Rattle.fib_entries_rows.specs.Changes.{AreTouched, AreMoved, IsTooMany};
+ghost use Rattle.fib_entries_rows.specs.Changes.{AreTouched, AreMoved, FromBefore, IsTooMany, IsFollowed};
 
 use crate::entries::Entries;
 use fib_addr::{Addr, Prefix};
@@ -179,16 +179,10 @@ impl Entries {
         most: u32,
     ) -> Result<Followed, FollowError>
         requires { most < 2 ^ 32 - 1 }
-        ensures stands { OnOk result ((S : TablesValue) → StandsFor self.old S →
-            Differ changes.now S after.now.tables → StandsFor self.new after.now.tables) }
-        ensures touched { IfOk result (λ f. (S : TablesValue) → StandsFor self.old S →
-            Differ changes.now S after.now.tables → AreTouched S after.now.tables f.touched) }
-        ensures moved { IfOk result (λ f. (S : TablesValue) → StandsFor self.old S →
-            Differ changes.now S after.now.tables → AreMoved self.old.rows self.new.rows f.moved) }
-        ensures fits { OnOk result ((S : TablesValue) → StandsFor self.old S →
-            Differ changes.now S after.now.tables → size after.now.tables ≤ most) }
-        ensures too_many { IfErr result (λ e. (S : TablesValue) → StandsFor self.old S →
-            Differ changes.now S after.now.tables → IsTooMany (size after.now.tables) most e) }
+        ensures followed { IfOk result (λ f. FromBefore self.old changes.now after.now.tables
+            (λ S. IsFollowed self.old self.new S after.now.tables most f)) }
+        ensures too_many { IfErr result (λ e. FromBefore self.old changes.now after.now.tables
+            (λ _. IsTooMany (size after.now.tables) most e)) }
         ensures err { OnErr result (self.new ≡ self.old) }
     {
         match self.follow_one(after, changes, most)? {
@@ -205,16 +199,10 @@ impl Entries {
         most: u32,
     ) -> Result<Followed, FollowError>
         requires { most < 2 ^ 32 - 1 }
-        ensures stands { OnOk result ((S : TablesValue) → StandsFor self.old S →
-            Differ changes.now S after.now.tables → StandsFor self.new after.now.tables) }
-        ensures touched { IfOk result (λ f. (S : TablesValue) → StandsFor self.old S →
-            Differ changes.now S after.now.tables → AreTouched S after.now.tables f.touched) }
-        ensures moved { IfOk result (λ f. (S : TablesValue) → StandsFor self.old S →
-            Differ changes.now S after.now.tables → AreMoved self.old.rows self.new.rows f.moved) }
-        ensures fits { OnOk result ((S : TablesValue) → StandsFor self.old S →
-            Differ changes.now S after.now.tables → size after.now.tables ≤ most) }
-        ensures too_many { IfErr result (λ e. (S : TablesValue) → StandsFor self.old S →
-            Differ changes.now S after.now.tables → IsTooMany (size after.now.tables) most e) }
+        ensures followed { IfOk result (λ f. FromBefore self.old changes.now after.now.tables
+            (λ S. IsFollowed self.old self.new S after.now.tables most f)) }
+        ensures too_many { IfErr result (λ e. FromBefore self.old changes.now after.now.tables
+            (λ _. IsTooMany (size after.now.tables) most e)) }
         ensures err { OnErr result (self.new ≡ self.old) }
     {
         match self.too_many(after, changes, most)? {
@@ -319,16 +307,10 @@ impl Entries {
         most: u32,
     ) -> Result<Followed, FollowError>
         requires { most < 2 ^ 32 - 1 }
-        ensures stands { OnOk result ((S : TablesValue) → StandsFor self.old S →
-            Differ changes.now S after.now.tables → StandsFor self.new after.now.tables) }
-        ensures touched { IfOk result (λ f. (S : TablesValue) → StandsFor self.old S →
-            Differ changes.now S after.now.tables → AreTouched S after.now.tables f.touched) }
-        ensures moved { IfOk result (λ f. (S : TablesValue) → StandsFor self.old S →
-            Differ changes.now S after.now.tables → AreMoved self.old.rows self.new.rows f.moved) }
-        ensures fits { OnOk result ((S : TablesValue) → StandsFor self.old S →
-            Differ changes.now S after.now.tables → size after.now.tables ≤ most) }
-        ensures too_many { IfErr result (λ e. (S : TablesValue) → StandsFor self.old S →
-            Differ changes.now S after.now.tables → IsTooMany (size after.now.tables) most e) }
+        ensures followed { IfOk result (λ f. FromBefore self.old changes.now after.now.tables
+            (λ S. IsFollowed self.old self.new S after.now.tables most f)) }
+        ensures too_many { IfErr result (λ e. FromBefore self.old changes.now after.now.tables
+            (λ _. IsTooMany (size after.now.tables) most e)) }
         ensures err { OnErr result (self.new ≡ self.old) }
     {
         // Only clauses name the changes.

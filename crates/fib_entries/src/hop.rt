@@ -10,7 +10,7 @@ ghost use Rattle.fib_resolve_changes.specs.declared.change.Change.TheVariants as
 ghost use Rattle.fib_entries_rows.specs.Known.{StandsFor, prefix_of};
 ghost use Rattle.fib_entries_rows.specs.inner.Building.{AreHeld};
 ghost use Rattle.fib_entries.specs.inner.Hop.{IsHopRow, NoneAsks, asks_host, hop_pairs};
-ghost use Rattle.fib_entries_rows.specs.inner.Leaf.{IsFollowed};
+ghost use Rattle.fib_entries_rows.specs.Changes.{IsFollowed};
 
 use crate::entries::Entries;
 use crate::near::{hop_path, mac_news};

@@ -1,5 +1,6 @@
 // A neighbor that comes with its host's row, or goes with it.
-ghost use Rattle.std.specs.Prelude.{◌≡◌, ◌+◌, ◌-◌, ◌^◌, ◌<◌, ◌≤◌, ◌∷◌, [], IfOk, IfSome, IfNone, IsSome, IsTrue, None, OnErr, Some, Contains, cond, length, map};
+ghost use Rattle.std.specs.Prelude.{◌≡◌, ◌+◌, ◌-◌, ◌^◌, ◌<◌, ◌≤◌, ◌∷◌, [], IfOk, IfSome, IfNone};
+ghost use Rattle.std.specs.Prelude.{IsSome, IsTrue, None, OnErr, Some, Contains, cond, length, map};
 ghost use Rattle.fib_cover.specs.Covers.{IsAscending, IsLongestMatch};
 ghost use Rattle.fib_resolve.specs.Pairs.{attached_of, plain};
 ghost use Rattle.fib_resolve.specs.Resolution.{mac_of};
@@ -13,7 +14,7 @@ ghost use Rattle.fib_entries_rows.specs.Rows.{Row as RowValue};
 ghost use Rattle.fib_entries_rows.specs.declared.ends.News.TheVariants as news;
 ghost use Rattle.fib_entries_rows.specs.inner.Building.{AreHeld};
 ghost use Rattle.fib_entries_rows.specs.inner.Compare.{AreKept};
-ghost use Rattle.fib_entries_rows.specs.inner.Leaf.{IsFollowed};
+ghost use Rattle.fib_entries_rows.specs.Changes.{IsFollowed};
 ghost use Rattle.fib_entries.specs.inner.Near.{IsAttaching, IsNearComing, IsNearGoing, are_more, are_some};
 
 use crate::entries::Entries;

@@ -4,7 +4,7 @@ ghost use Rattle.fib_resolve.specs.Tables.{IsSound};
 ghost use Rattle.fib_resolve.specs.declared.types.Tables.{Tables as TablesValue};
 ghost use Rattle.fib_entries_rows.specs.Known.{StandsFor};
 ghost use Rattle.fib_entries_rows.specs.inner.Ends.{IsNews};
-ghost use Rattle.fib_entries_rows.specs.inner.Leaf.{IsFollowed};
+ghost use Rattle.fib_entries_rows.specs.Changes.{IsFollowed};
 ghost use Rattle.fib_resolve_changes.specs.Differ.{Differ};
 ghost use Rattle.fib_resolve_changes.specs.declared.change.Change.TheVariants as changes;
 

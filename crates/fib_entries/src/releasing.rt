@@ -1,5 +1,6 @@
 // A prefix shorter than a host that goes with its one route, and was the cover of hosts that lead to the next shorter entry from then on.
-ghost use Rattle.std.specs.Prelude.{◌≡◌, ◌<◌, ◌+◌, ◌-◌, ◌^◌, ◌++◌, ◌∷◌, [], ◌↔◌, ◌⊎◌, ℕ, IfNone, IfOk, IfSome, IsTrue, IsFalse, IsSome, None, OnErr, OnOk, Some, Contains, length, map, nat_lt, slice_get, List as Items};
+ghost use Rattle.std.specs.Prelude.{◌≡◌, ◌<◌, ◌+◌, ◌-◌, ◌^◌, ◌++◌, ◌∷◌, [], ◌↔◌, ◌⊎◌, ℕ, IfNone, IfOk, IfSome, IsTrue, IsFalse, IsSome, None, OnErr};
+ghost use Rattle.std.specs.Prelude.{OnOk, Some, Contains, length, map, nat_lt, slice_get, List as Items};
 ghost use Rattle.std.specs.List.{list_all};
 ghost use Rattle.std.specs.Set.{is_member};
 ghost use Rattle.fib_addr.specs.Prefixes.{Prefix as PrefixValue, same_prefix};
@@ -17,7 +18,8 @@ ghost use Rattle.fib_entries.specs.inner.Adopting.{drop_list};
 ghost use Rattle.fib_entries_rows.specs.inner.Building.{AreHeld};
 ghost use Rattle.fib_entries_rows.specs.inner.Compare.{AreKept};
 ghost use Rattle.fib_entries_rows.specs.inner.Hosting.{IsLoose};
-ghost use Rattle.fib_entries_rows.specs.inner.Leaf.{IsFollowed, moved_at};
+ghost use Rattle.fib_entries_rows.specs.Changes.{IsFollowed};
+ghost use Rattle.fib_entries_rows.specs.inner.Leaf.{moved_at};
 ghost use Rattle.fib_entries.specs.inner.Releasing.{AreJoined, HasOnly, IsBetween, IsReleased, but_for, covering, is_ending, only_in, released};
 
 use crate::best_list::Plan;

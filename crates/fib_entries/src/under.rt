@@ -12,7 +12,7 @@ ghost use Rattle.fib_resolve_changes.specs.declared.change.Change.TheVariants as
 ghost use Rattle.fib_entries_rows.specs.Known.{StandsFor, prefix_of};
 ghost use Rattle.fib_entries_rows.specs.Rows.{Row as RowValue};
 ghost use Rattle.fib_entries_rows.specs.inner.Coming.{with_pairs};
-ghost use Rattle.fib_entries_rows.specs.inner.Leaf.{IsFollowed};
+ghost use Rattle.fib_entries_rows.specs.Changes.{IsFollowed};
 ghost use Rattle.fib_entries_rows.specs.inner.Under.{HasBest, IsBared, IsNext};
 
 use crate::entries::Entries;

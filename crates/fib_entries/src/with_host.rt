@@ -6,7 +6,8 @@ ghost use Rattle.fib_resolve.specs.declared.types.Tables.{Tables as TablesValue}
 ghost use Rattle.fib_entries_rows.specs.Known.{StandsFor, prefix_of};
 ghost use Rattle.fib_resolve.specs.declared.types.Path.{Path as PathValue};
 ghost use Rattle.fib_entries_rows.specs.inner.Hosting.{IsHosting};
-ghost use Rattle.fib_entries_rows.specs.inner.Leaf.{IsClear, IsFollowed};
+ghost use Rattle.fib_entries_rows.specs.Changes.{IsFollowed};
+ghost use Rattle.fib_entries_rows.specs.inner.Leaf.{IsClear};
 ghost use Rattle.fib_entries_rows.specs.inner.Parting.{IsParting};
 ghost use Rattle.fib_resolve_changes.specs.Differ.{Differ};
 ghost use Rattle.fib_resolve_changes.specs.declared.change.Change.TheVariants as changes;

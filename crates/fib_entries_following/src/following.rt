@@ -1,5 +1,5 @@
 // The entries follow an edit of the tables.
-ghost use Rattle.std.specs.Prelude.{◌≡◌, ◌<◌, ◌≤◌, ◌^◌, ◌-◌, ℕ, IfErr, IfOk, None, OnErr, OnOk};
+ghost use Rattle.std.specs.Prelude.{◌≡◌, ◌<◌, ◌^◌, ◌-◌, ℕ, IfErr, IfOk, None, OnErr, OnOk};
 ghost use Rattle.fib_resolve.specs.Edits.{edited};
 ghost use Rattle.fib_resolve.specs.Reachable.{IsWritten};
 ghost use Rattle.fib_resolve.specs.Refusals.{first_reason, reasons, refused};
@@ -7,7 +7,7 @@ ghost use Rattle.fib_resolve.specs.Sizes.{size};
 ghost use Rattle.fib_resolve.specs.declared.types.Edit.{Edit as EditValue};
 ghost use Rattle.fib_resolve.specs.declared.types.Tables.{Tables as TablesValue};
 ghost use Rattle.fib_config.specs.Config.{TellsRefusal};
-ghost use Rattle.fib_entries_rows.specs.Changes.{AreMoved, AreTouched, IsTooMany};
+ghost use Rattle.fib_entries_rows.specs.Changes.{IsFollowed, IsTooMany};
 ghost use Rattle.fib_entries_rows.specs.Known.{StandsFor};
 ghost use Rattle.fib_entries_following.specs.Following.{TellsChange};
 
@@ -53,10 +53,7 @@ pub fn change_tables(
     requires most { most < 2 ^ 32 - 1 }
     ensures accepted { OnOk result (refused config.old.tables most edit.now ≡ None) }
     ensures edited { OnOk result (config.new ≡ record config.old { tables = edited config.old.tables edit.now }) }
-    ensures stands { OnOk result (StandsFor entries.new config.new.tables) }
-    ensures fits { OnOk result (size config.new.tables ≤ most) }
-    ensures touched { IfOk result (λ f. AreTouched config.old.tables config.new.tables f.touched) }
-    ensures moved { IfOk result (λ f. AreMoved entries.old.rows entries.new.rows f.moved) }
+    ensures followed { IfOk result (IsFollowed entries.old entries.new config.old.tables config.new.tables most) }
     ensures why { IfErr result (TellsChange config.old.tables most edit.now) }
     ensures config { OnErr result (config.new ≡ config.old) }
     ensures entries { OnErr result (entries.new ≡ entries.old) }

@@ -20,8 +20,8 @@ use Rattle.fib_entries_rows.specs.inner.Fields.{AreFields, Index, IsForgotten, I
 use Rattle.fib_entries_rows.proofs.Naming.{named_replaced, replaced_from, replaced_names, named_held, some_content}
 use Rattle.fib_base_interned.proofs.Finding.{some_is, none_some, contains_at}
 use Rattle.fib_entries_rows.specs.Known.{PathKept, Known, content_of, rank_of, rank_in, StandsFor}
-use Rattle.fib_entries_rows.specs.Changes.{AreTouched, AreMoved}
-use Rattle.fib_entries_rows.specs.inner.Leaf.{IsReady, IsReplaced, AreReplaced, IsChanged, IsFollowed, goals_of, own_row, plain_own, moved_at}
+use Rattle.fib_entries_rows.specs.Changes.{AreTouched, AreMoved, IsFollowed}
+use Rattle.fib_entries_rows.specs.inner.Leaf.{IsReady, IsReplaced, AreReplaced, IsChanged, goals_of, own_row, plain_own, moved_at}
 use Rattle.fib_entries_rows.specs.Rows.{Row}
 use Rattle.fib_entries_rows.specs.declared.changes.Followed.{Followed}
 use Rattle.fib_entries_rows.proofs.Exits.{exit_alike, in_alike, in_index, in_more, in_own, indexed_each, indexed_less, none_hosted, own_leaves}

@@ -28,14 +28,13 @@ use Rattle.fib_resolve_changes.proofs.Edits.{in_front, in_rest}
 use Rattle.fib_resolve_changes.proofs.SamePairs.{map_from}
 use Rattle.fib_base_interned.proofs.Finding.{some_is, none_some}
 use Rattle.fib_entries_rows.specs.Known.{PathKept, Known, prefix_of, rank_of, ArePairs, IsRow, StandsFor, kind_met}
-use Rattle.fib_entries_rows.specs.Changes.{AreTouched, AreMoved}
+use Rattle.fib_entries_rows.specs.Changes.{AreTouched, AreMoved, IsFollowed}
 use Rattle.fib_entries_rows.specs.Rows.{Row}
 use Rattle.fib_entries_rows.specs.declared.changes.Followed.{Followed}
 use Rattle.fib_entries_rows.specs.inner.Fields.{AreFields, Index}
 use Rattle.fib_entries_rows.specs.declared.ends.News.{News}
 use Rattle.fib_entries_rows.specs.declared.ends.News.TheVariants as news
 use Rattle.fib_entries_rows.specs.inner.Ends.{IsEndEdit, aim_over, aim_at, has_flag, has_mac, with_counts, with_aim, renewed, is_old, is_old_row, renewed_row, mapped}
-use Rattle.fib_entries_rows.specs.inner.Leaf.{IsFollowed}
 use Rattle.fib_entries_rows.proofs.Anew.{filter_differ}
 use Rattle.fib_entries_rows.proofs.Comparing.{map_same}
 use Rattle.fib_entries_rows.proofs.Ending.{same_entry, chosen_same, targets_same, looped_kind_same, kind_met_same, falls_same, entry_same, holders_same, size_same, pairs_same}

@@ -1,5 +1,6 @@
 -- What is known of the entries of tables, as rows and lists, and the tables for which it stands.
-use Rattle.std.specs.Prelude.{◌≡◌, ◌↔◌, ◌^◌, ◌-◌, ◌<◌, true, ℕ, Bool, List, [], ◌∷◌, map, min, find, count_by, Contains, Option, Some, None, option_map, if◌then◌else◌}
+use Rattle.std.specs.Prelude.{◌≡◌, ◌↔◌, ◌^◌, ◌-◌, ◌<◌, true, ℕ, Bool, List, [], ◌∷◌}
+use Rattle.std.specs.Prelude.{map, min, find, count_by, Contains, Option, Some, None, option_map, if◌then◌else◌}
 use Rattle.std.specs.List.{AllByRecursion}
 use Rattle.std.specs.Cmp.Lexicographic.{pointwise}
 use Rattle.fib_reach.specs.Walks.{AllDiffer}

@@ -1,5 +1,6 @@
 // A change of a leaf's route, followed in its own row.
-ghost use Rattle.std.specs.Prelude.{◌≡◌, ◌≢◌, ◌<◌, ◌≤◌, ◌+◌, ◌-◌, ◌^◌, ◌∷◌, [], true, false, IsTrue, IsSome, OnOk, OnErr, IfOk, IfSome, IfNone, Some, map, if◌then◌else◌, ◌==◌};
+ghost use Rattle.std.specs.Prelude.{◌≡◌, ◌≢◌, ◌<◌, ◌≤◌, ◌+◌, ◌-◌, ◌^◌, ◌∷◌, [], true, false, IsTrue, IsSome, OnOk, OnErr, IfOk, IfSome, IfNone, Some};
+ghost use Rattle.std.specs.Prelude.{map, if◌then◌else◌, ◌==◌};
 ghost use Rattle.fib_base_interned.specs.Interned.{kept_of};
 ghost use Rattle.fib_paths.specs.PathLists.{IsUsedLess};
 ghost use Rattle.fib_entries_rows.specs.Known.{content_of};

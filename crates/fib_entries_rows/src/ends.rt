@@ -1,5 +1,6 @@
 // A change of an interface's flag or of a neighbor's MAC, followed in the marks of the rows.
-ghost use Rattle.std.specs.Prelude.{◌≡◌, ◌∷◌, ◌++◌, ℕ, [], IsTrue, IsSome, Some, IfOk, OnOk, OnErr, Contains, map, filter, option_copied, find, if◌then◌else◌, List as Items};
+ghost use Rattle.std.specs.Prelude.{◌≡◌, ◌∷◌, ◌++◌, ℕ, [], IsTrue, IsSome, Some, IfOk, OnOk};
+ghost use Rattle.std.specs.Prelude.{OnErr, Contains, map, filter, option_copied, find, if◌then◌else◌, List as Items};
 ghost use Rattle.fib_addr.specs.Prefixes.{host, Prefix as PrefixValue};
 ghost use Rattle.fib_cover.specs.Covers.{IsAscending};
 ghost use Rattle.fib_base_interned.specs.Interned.{kept_of};
@@ -12,7 +13,8 @@ ghost use Rattle.fib_entries_rows.specs.Rows.{Row as RowValue};
 ghost use Rattle.fib_entries_rows.specs.inner.Building.{AreHeld};
 ghost use Rattle.fib_entries_rows.specs.inner.Compare.{AreKept};
 ghost use Rattle.fib_entries_rows.specs.inner.Fields.{AreAmong};
-ghost use Rattle.fib_entries_rows.specs.inner.Ends.{aim_over, aim_at, has_flag, has_mac, renewed, is_exit, has_exit, is_old, is_old_row, is_old_in, renewed_row, AreRenewing, IsLink, IsNear};
+ghost use Rattle.fib_entries_rows.specs.inner.Ends.{aim_over, aim_at, has_flag, has_mac, renewed, is_exit, has_exit, is_old, is_old_row, is_old_in};
+ghost use Rattle.fib_entries_rows.specs.inner.Ends.{renewed_row, AreRenewing, IsLink, IsNear};
 
 use crate::changes::{Followed, Touched};
 use crate::look::{place_of, row};

@@ -1,5 +1,6 @@
 // The gateway of a route: the host of a next hop that no other route has, where it has other pairs too, as it gets its pair with the route.
-ghost use Rattle.std.specs.Prelude.{◌≡◌, ◌≢◌, ◌+◌, ◌-◌, ◌<◌, ◌≤◌, ◌^◌, ◌++◌, ◌∷◌, [], ℕ, true, IfOk, IfSome, IsSome, IsTrue, OnErr, Some, Contains, filter_map, length, map, slice_get, List as Items};
+ghost use Rattle.std.specs.Prelude.{◌≡◌, ◌≢◌, ◌+◌, ◌-◌, ◌<◌, ◌≤◌, ◌^◌, ◌++◌, ◌∷◌, [], ℕ, true, IfOk, IfSome, IsSome, IsTrue, OnErr, Some, Contains};
+ghost use Rattle.std.specs.Prelude.{filter_map, length, map, slice_get, List as Items};
 ghost use Rattle.std.specs.List.{list_all};
 ghost use Rattle.fib_addr.specs.Prefixes.{host};
 ghost use Rattle.fib_cover.specs.Covers.{IsAscending};

@@ -1,5 +1,6 @@
 // The host of a next hop that no other route has, as it comes with the route.
-ghost use Rattle.std.specs.Prelude.{◌≡◌, ◌≢◌, ◌↔◌, ◌⊎◌, true, false, ◌+◌, ◌-◌, ◌^◌, ◌<◌, ◌≤◌, ◌∷◌, [], None, IfOk, IfSome, IsTrue, OnOk, OnErr, Some, Contains, filter_map, length, map, slice_get, vec_capacity, List as Items};
+ghost use Rattle.std.specs.Prelude.{◌≡◌, ◌≢◌, ◌↔◌, ◌⊎◌, true, false, ◌+◌, ◌-◌, ◌^◌, ◌<◌, ◌≤◌, ◌∷◌, [], None, IfOk, IfSome, IsTrue, OnOk, OnErr, Some};
+ghost use Rattle.std.specs.Prelude.{Contains, filter_map, length, map, slice_get, vec_capacity, List as Items};
 ghost use Rattle.std.specs.Set.{is_member};
 ghost use Rattle.std.specs.List.{list_all};
 ghost use Rattle.fib_addr.specs.Prefixes.{Prefix as PrefixValue, host, same_prefix};

@@ -1,5 +1,6 @@
 // A route of a prefix that nothing leads to: what it takes to see that, and what its row gets.
-ghost use Rattle.std.specs.Prelude.{◌≡◌, ◌↔◌, ◌⊎◌, ◌+◌, ◌∷◌, [], ◌≤◌, ◌<◌, ◌^◌, true, false, IsTrue, IfOk, IfSome, Some, map, length, slice_get, Contains, List as Items};
+ghost use Rattle.std.specs.Prelude.{◌≡◌, ◌↔◌, ◌⊎◌, ◌+◌, ◌∷◌, [], ◌≤◌, ◌<◌, ◌^◌, true, false};
+ghost use Rattle.std.specs.Prelude.{IsTrue, IfOk, IfSome, Some, map, length, slice_get, Contains, List as Items};
 ghost use Rattle.fib_resolve.specs.declared.types.Path.{Path as PathValue};
 ghost use Rattle.fib_entries_rows.specs.inner.Building.{AreHeld};
 ghost use Rattle.std.specs.List.{list_all, list_any};
@@ -9,7 +10,8 @@ ghost use Rattle.fib_resolve.specs.Edits.{paths_at};
 ghost use Rattle.fib_resolve.specs.Keys.{source_rank};
 ghost use Rattle.fib_entries_rows.specs.Rows.{Row as RowValue};
 ghost use Rattle.fib_entries_rows.specs.Known.{prefix_of, row_of, rank_of};
-ghost use Rattle.fib_entries_rows.specs.inner.Leaf.{is_plain, plain_aim, plain_counts, plain_mark, goal_of, goals_of, has_end, has_other, shared_kind, shared_path, IsClear, IsLeafAt, IsReady};
+ghost use Rattle.fib_entries_rows.specs.inner.Leaf.{is_plain, plain_aim, plain_counts, plain_mark, goal_of, goals_of, has_end, has_other};
+ghost use Rattle.fib_entries_rows.specs.inner.Leaf.{shared_kind, shared_path, IsClear, IsLeafAt, IsReady};
 
 use crate::ends::{is_at, is_up, mac_of};
 use crate::look::{is_same, place_of, row};

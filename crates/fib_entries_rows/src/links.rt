@@ -1,5 +1,6 @@
 // Dependants of the next hops of one prefix's list, as the list changes.
-ghost use Rattle.std.specs.Prelude.{false, ◌≡◌, ◌<◌, ◌-◌, ◌^◌, ◌∷◌, [], option_to_list, IfOk, OnOk, OnErr, IfSome, IfNone, Some, map, length, slice_get, slice_set, List as Items};
+ghost use Rattle.std.specs.Prelude.{false, ◌≡◌, ◌<◌, ◌-◌, ◌^◌, ◌∷◌, [], option_to_list, IfOk, OnOk, OnErr, IfSome, IfNone, Some, map, length};
+ghost use Rattle.std.specs.Prelude.{slice_get, slice_set, List as Items};
 ghost use Rattle.std.specs.Set.{is_member};
 ghost use Rattle.std.specs.List.{list_any};
 ghost use Rattle.fib_addr.specs.Prefixes.{same_prefix, Prefix as PrefixValue};

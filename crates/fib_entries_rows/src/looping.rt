@@ -6,7 +6,8 @@ ghost use Rattle.fib_loops.specs.Loops.{AreEdges};
 ghost use Rattle.fib_reach.specs.Walks.{AllDiffer};
 ghost use Rattle.fib_entries_rows.specs.Known.{prefix_of, row_of};
 ghost use Rattle.fib_entries_rows.specs.inner.Leaf.{goal_of, goals_of};
-ghost use Rattle.fib_entries_rows.specs.inner.Looping.{entry_of, aims_of, led_in, late_next, next_with, has_ends, same_ends, AreLoops, AreReached, Sees, SeesLate, SeesLed, AddsEdge, AddsEdges, AreEdgesAmong, AreMarkedEnds, AreLoopedEnds};
+ghost use Rattle.fib_entries_rows.specs.inner.Looping.{entry_of, aims_of, led_in, late_next, next_with, has_ends, same_ends, AreLoops, AreReached};
+ghost use Rattle.fib_entries_rows.specs.inner.Looping.{Sees, SeesLate, SeesLed, AddsEdge, AddsEdges, AreEdgesAmong, AreMarkedEnds, AreLoopedEnds};
 
 use crate::dependants::Dependants;
 use crate::links::goal_of;

@@ -1,5 +1,6 @@
 // The gateway of a route, as the pair that the route's next hop makes goes with the route.
-ghost use Rattle.std.specs.Prelude.{◌≡◌, ◌≢◌, ◌+◌, ◌-◌, ◌<◌, ◌++◌, ◌∷◌, [], ℕ, true, IfOk, IfSome, IsSome, OnErr, Some, Contains, filter_map, length, map, slice_get, take, List as Items};
+ghost use Rattle.std.specs.Prelude.{◌≡◌, ◌≢◌, ◌+◌, ◌-◌, ◌<◌, ◌++◌, ◌∷◌, [], ℕ, true, IfOk, IfSome, IsSome, OnErr, Some, Contains, filter_map, length};
+ghost use Rattle.std.specs.Prelude.{map, slice_get, take, List as Items};
 ghost use Rattle.std.specs.List.{list_all};
 ghost use Rattle.fib_addr.specs.Prefixes.{host};
 ghost use Rattle.fib_cover.specs.Covers.{IsAscending};

@@ -1,5 +1,6 @@
 // The host of a next hop that no other route has, as it goes with the route.
-ghost use Rattle.std.specs.Prelude.{◌≡◌, ◌≢◌, ◌+◌, ◌<◌, ◌≤◌, ◌^◌, ◌∷◌, [], ℕ, true, false, IfOk, IfSome, IsSome, IsTrue, OnErr, Some, Contains, filter_map, length, map, slice_get, List as Items};
+ghost use Rattle.std.specs.Prelude.{◌≡◌, ◌≢◌, ◌+◌, ◌<◌, ◌≤◌, ◌^◌, ◌∷◌, [], ℕ, true, false, IfOk, IfSome, IsSome, IsTrue, OnErr, Some, Contains};
+ghost use Rattle.std.specs.Prelude.{filter_map, length, map, slice_get, List as Items};
 ghost use Rattle.std.specs.List.{list_all, list_any};
 ghost use Rattle.fib_addr.specs.Prefixes.{Prefix as PrefixValue, host};
 ghost use Rattle.fib_cover.specs.Covers.{IsAscending};

@@ -7,7 +7,8 @@ ghost use Rattle.fib_reach.specs.Walks.{AllDiffer};
 ghost use Rattle.fib_entries_rows.specs.Known.{prefix_of, rank_of, row_of};
 ghost use Rattle.fib_entries_rows.specs.Rows.{Row as RowValue};
 ghost use Rattle.fib_entries_rows.specs.inner.Waking.{aims_at};
-ghost use Rattle.fib_entries_rows.specs.inner.Raising.{AreRaised, IsAbove, IsClimb, IsGrown, mapped_rank, raised_entry, raised_prefix, raised_row, width_in, with_rank};
+ghost use Rattle.fib_entries_rows.specs.inner.Raising.{AreRaised, IsAbove, IsClimb, IsGrown, mapped_rank, raised_entry};
+ghost use Rattle.fib_entries_rows.specs.inner.Raising.{raised_prefix, raised_row, width_in, with_rank};
 
 use crate::aims::aims_at;
 use crate::changes::Moved;

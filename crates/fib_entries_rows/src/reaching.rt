@@ -1,5 +1,6 @@
 // The list of a prefix's best route replaced by another where cycles may lead through it, and a host may come with it and another go.
-ghost use Rattle.std.specs.Prelude.{◌≡◌, ◌≢◌, ◌<◌, ◌≤◌, ◌^◌, ◌-◌, ◌++◌, ◌∷◌, [], true, false, None, IsSome, IsTrue, IsFalse, IfOk, IfSome, OnErr, OnOk, Some, Contains, map, List as Items};
+ghost use Rattle.std.specs.Prelude.{◌≡◌, ◌≢◌, ◌<◌, ◌≤◌, ◌^◌, ◌-◌, ◌++◌, ◌∷◌, [], true, false, None, IsSome, IsTrue, IsFalse, IfOk, IfSome, OnErr};
+ghost use Rattle.std.specs.Prelude.{OnOk, Some, Contains, map, List as Items};
 ghost use Rattle.std.specs.List.{list_all, list_any};
 ghost use Rattle.fib_cover.specs.Covers.{IsAscending};
 ghost use Rattle.fib_addr.specs.Prefixes.{Prefix as PrefixValue, host, same_prefix};
@@ -18,7 +19,9 @@ ghost use Rattle.fib_entries_rows.specs.inner.Led.{IsReaching, but_hops, has_hop
 ghost use Rattle.fib_entries_rows.specs.inner.Looping.{AreRelooped};
 ghost use Rattle.fib_entries_rows.specs.declared.parting.Last.{Last as LastValue};
 ghost use Rattle.fib_entries_rows.specs.inner.Raising.{moved_from, raised_prefix};
-ghost use Rattle.fib_entries_rows.specs.inner.Reaching.{AreBelow, HasCover, HasPairs, IsBestAt, IsCoverStill, IsExchanged, IsFitGone, IsFitLate, HasReached, IsLateBelow, IsOut, IsRelisted, IsUnseen, gone_hosts, gone_moved, late_hosts, late_moved, IsRisenKept, kept_goal, kind_loops, looped_mark, looped_own, turned_hosts};
+ghost use Rattle.fib_entries_rows.specs.inner.Reaching.{AreBelow, HasCover, HasPairs, IsBestAt, IsCoverStill, IsExchanged, IsFitGone, IsFitLate};
+ghost use Rattle.fib_entries_rows.specs.inner.Reaching.{HasReached, IsLateBelow, IsOut, IsRelisted, IsUnseen, gone_hosts, gone_moved, late_hosts};
+ghost use Rattle.fib_entries_rows.specs.inner.Reaching.{late_moved, IsRisenKept, kept_goal, kind_loops, looped_mark, looped_own, turned_hosts};
 
 use crate::change::{Target, copied};
 use crate::changes::{Followed, Moved, Touched};

@@ -5,7 +5,9 @@ ghost use Rattle.fib_addr.specs.Prefixes.{Prefix as PrefixValue, same_prefix};
 ghost use Rattle.fib_cover.specs.Covers.{IsAscending};
 ghost use Rattle.fib_entries_rows.specs.Known.{prefix_of};
 ghost use Rattle.fib_entries_rows.specs.Rows.{Row as RowValue};
-ghost use Rattle.fib_entries_rows.specs.inner.Looping.{AreRelooped, KeepMarks, aim_loops, aim_recursive, grows, grows_at, is_relooped_at, loops_of, mark_with, marks_with, relooped_at, relooped_in, relooped_of, row_grows, same_flags, with_all, with_one};
+ghost use Rattle.fib_entries_rows.specs.inner.Looping.{AreRelooped, KeepMarks, aim_loops, aim_recursive, grows, grows_at};
+ghost use Rattle.fib_entries_rows.specs.inner.Looping.{is_relooped_at, loops_of, mark_with, marks_with, relooped_at, relooped_in};
+ghost use Rattle.fib_entries_rows.specs.inner.Looping.{relooped_of, row_grows, same_flags, with_all, with_one};
 
 use crate::look::{is_same, place_of, row};
 use crate::looping::Loops;

@@ -37,7 +37,8 @@ abbrev pub doubled : List Row → ℕ → FibSource × ℕ → Row → List Row
 doubled rows place pair r = slice_set rows place (with_pairs (pair ∷ r.pairs) r)
 
 -- the change of the prefix's best list to the tables' can be followed, and what comes of it; no host comes or goes with it
-pub record IsPlanned (rows : List Row) (lists : List PathKept) (order : List Prefix) (T : Tables) (p : Prefix) (source : FibSource) (new : List Path) (rank : ℕ) (c : Course) : Type 0 where
+pub record IsPlanned (rows : List Row) (lists : List PathKept) (order : List Prefix) (T : Tables) (p : Prefix) (source : FibSource)
+    (new : List Path) (rank : ℕ) (c : Course) : Type 0 where
   pub place : ℕ
   pub id : ℕ
   pub old : List Path
@@ -45,12 +46,14 @@ pub record IsPlanned (rows : List Row) (lists : List PathKept) (order : List Pre
   pub course : IsCourse rows T p source old new rank None None c
 
 -- the same where the row has its best list once more, as that source's
-pub record IsAbove (rows : List Row) (lists : List PathKept) (order : List Prefix) (T : Tables) (p : Prefix) (source : FibSource) (new : List Path) (a : Above) : Type 0 where
+pub record IsAbove (rows : List Row) (lists : List PathKept) (order : List Prefix) (T : Tables) (p : Prefix) (source : FibSource)
+    (new : List Path) (a : Above) : Type 0 where
   pub under : IsUnder rows lists p source a.at.place a.at.id
   pub planned : IsPlanned (doubled rows a.at.place (source, a.at.id) under.row) lists order T p source new under.row.rank a.course
 
 -- the list was replaced where the row has it once more, and then it got that user back
-pub record IsOver (old new : List Row) (lists later : List PathKept) (order : List Prefix) (T : Tables) (p : Prefix) (source : FibSource) (paths : List Path) (a : Above) (m : IsAbove old lists order T p source paths a) (f : Followed) : Type 0 where
+pub record IsOver (old new : List Row) (lists later : List PathKept) (order : List Prefix) (T : Tables) (p : Prefix) (source : FibSource)
+    (paths : List Path) (a : Above) (m : IsAbove old lists order T p source paths a) (f : Followed) : Type 0 where
   pub between : List PathKept
   pub made : ℕ
   pub reached : HasReached (doubled old a.at.place (source, a.at.id) m.under.row) new lists between p a.at.id paths a.course.own None None m.planned.course.few m.planned.course.edges a.course.again a.course.raised made f

@@ -1,6 +1,7 @@
 -- A prefix shorter than a host that comes as an entry between hosts and their cover, or goes from there. No contract of a public call rests on
 -- this.
-use Rattle.std.specs.Prelude.{◌≡◌, ◌↔◌, ◌⊎◌, ◌≤◌, ◌<◌, ◌^◌, ◌&&◌, ◌==◌, ℕ, Bool, true, false, List, [], ◌∷◌, map, Contains, Option, Some, None, slice_get, slice_set, if◌then◌else◌}
+use Rattle.std.specs.Prelude.{◌≡◌, ◌↔◌, ◌⊎◌, ◌≤◌, ◌<◌, ◌^◌, ◌&&◌, ◌==◌, ℕ, Bool, true, false, List, [], ◌∷◌, map, Contains, Option, Some, None}
+use Rattle.std.specs.Prelude.{slice_get, slice_set, if◌then◌else◌}
 use Rattle.std.specs.List.{insert, list_all, list_any}
 use Rattle.std.specs.Set.{is_member}
 use Rattle.fib_reach.specs.Walks.{AllDiffer, Reaches, Next}
@@ -69,7 +70,8 @@ drop_mark = record { aim = aims.Ends answers.Drop; counts = false; weight = 1; p
 
 -- the row that comes
 abbrev pub open_row : Prefix → FibSource → ℕ → List Prefix → Row
-open_row p source id over = record { prefix = p; pairs = (source, id) ∷ []; looped = false ∷ []; met = true ∷ []; marked = drop_mark ∷ []; dependants = over; rank = 0 }
+open_row p source id over =
+    record { prefix = p; pairs = (source, id) ∷ []; looped = false ∷ []; met = true ∷ []; marked = drop_mark ∷ []; dependants = over; rank = 0 }
 
 abbrev pub with_dependants : List Prefix → Row → Row
 with_dependants list r = record { prefix = r.prefix; pairs = r.pairs; looped = r.looped; met = r.met; marked = r.marked; dependants = list; rank = r.rank }
@@ -135,7 +137,8 @@ abbrev pub opened : List Row → Gap → Prefix → FibSource → Kin → Row �
 opened rows g p source k r = map (aimed_in k.led p) (slice_set (insert rows g.place (open_row p source g.list k.led)) g.cover (with_dependants k.kept r))
 
 -- the list of the prefix's row was replaced, and then that which it had got its user back; those that came over are told too
-pub record IsTurnedOver (old new : List Row) (lists later : List PathKept) (order : List Prefix) (T : Tables) (p : Prefix) (source : FibSource) (paths : List Path) (id : ℕ) (over : List Prefix) (f : Followed) : Type 0 where
+pub record IsTurnedOver (old new : List Row) (lists later : List PathKept) (order : List Prefix) (T : Tables) (p : Prefix)
+    (source : FibSource) (paths : List Path) (id : ℕ) (over : List Prefix) (f : Followed) : Type 0 where
   pub course : Course
   pub planned : IsPlanned old lists order T p source paths 0 course
   pub between : List PathKept
@@ -149,6 +152,7 @@ pub record IsTurnedOver (old new : List Row) (lists later : List PathKept) (orde
   pub moved : f.moved ≡ told.moved
 
 -- and it all stands between what was and what is
-pub record IsAdopted (old new : List Row) (lists later : List PathKept) (order : List Prefix) (T : Tables) (p : Prefix) (source : FibSource) (paths : List Path) (g : Gap) (k : Kin) (r : Row) (f : Followed) : Type 0 where
+pub record IsAdopted (old new : List Row) (lists later : List PathKept) (order : List Prefix) (T : Tables) (p : Prefix)
+    (source : FibSource) (paths : List Path) (g : Gap) (k : Kin) (r : Row) (f : Followed) : Type 0 where
   pub turned : IsTurnedOver (opened old g p source k r) new lists later order T p source paths g.list k.led f
   pub other : content_of lists g.list ≡ Some paths → ⊥

@@ -16,9 +16,11 @@ use Rattle.fib_entries_rows.specs.Rows.{Row}
 
 -- the prefix's row is at that spot, and what comes with the list is that, in all tables that have the list and are like these but for routes; there
 -- is room for the list, and so many objects at most
-pub record IsPlan (rows : List Row) (lists : List PathKept) (order : List Prefix) (objects : ℕ) (T : Tables) (p : Prefix) (source : FibSource) (new : List Path) (most : ℕ) (m : Plan) : Type 0 where
+pub record IsPlan (rows : List Row) (lists : List PathKept) (order : List Prefix) (objects : ℕ) (T : Tables) (p : Prefix)
+    (source : FibSource) (new : List Path) (most : ℕ) (m : Plan) : Type 0 where
   pub old : List Path
-  pub reaching : (routes : List Route) → new ≡ paths_at p source routes → IsReaching rows lists order (with_routes T routes) p source m.spot.place m.spot.id old m.spot.turned.late m.spot.turned.gone
+  pub reaching : (routes : List Route) → new ≡ paths_at p source routes
+      → IsReaching rows lists order (with_routes T routes) p source m.spot.place m.spot.id old m.spot.turned.late m.spot.turned.gone
   pub course : IsCourse rows T p source old new m.rank m.spot.turned.late m.spot.turned.gone m.course
   pub rank_is : (r : Row) → slice_get rows m.spot.place ≡ Some r → m.rank ≡ r.rank
   pub other : content_of lists m.spot.id ≢ Some new

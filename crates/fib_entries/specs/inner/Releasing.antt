@@ -1,5 +1,6 @@
 -- A prefix shorter than a host that goes from between hosts and their cover. No contract of a public call rests on this.
-use Rattle.std.specs.Prelude.{◌≡◌, ◌⊎◌, ◌+◌, ◌-◌, ◌<◌, ◌++◌, not, ℕ, Bool, true, false, List, [], ◌∷◌, map, filter, nat_lt, Contains, Option, Some, None, slice_get, if◌then◌else◌}
+use Rattle.std.specs.Prelude.{◌≡◌, ◌⊎◌, ◌+◌, ◌-◌, ◌<◌, ◌++◌, not, ℕ, Bool, true, false, List, [], ◌∷◌, map, filter, nat_lt, Contains, Option, Some}
+use Rattle.std.specs.Prelude.{None, slice_get, if◌then◌else◌}
 use Rattle.std.specs.List.{list_all, remove}
 use Rattle.std.specs.Set.{is_member}
 use Rattle.fib_reach.specs.Walks.{AllDiffer}

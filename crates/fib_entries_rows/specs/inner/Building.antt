@@ -1,5 +1,6 @@
 -- What stands while entries are made anew. No contract of a public call rests on this.
-use Rattle.std.specs.Prelude.{◌≡◌, ◌↔◌, ◌⊎◌, true, ◌<◌, ℕ, Bool, List, length, count_by, Contains, Option, Some, None, IsSome, slice_get, slice_index, slice_index_or, slice_set, option_map, position, ◌&&◌, ◌+◌, ◌*◌}
+use Rattle.std.specs.Prelude.{◌≡◌, ◌↔◌, ◌⊎◌, true, ◌<◌, ℕ, Bool, List, length, count_by, Contains, Option, Some, None, IsSome, slice_get, slice_index}
+use Rattle.std.specs.Prelude.{slice_index_or, slice_set, option_map, position, ◌&&◌, ◌+◌, ◌*◌}
 use Rattle.std.specs.List.{AllZip, list_any, position_from}
 use Rattle.std.specs.Set.{is_member}
 use Rattle.std.specs.Cmp.Lexicographic.{pointwise}
@@ -40,11 +41,14 @@ is_pair_of p s x = same_prefix p x.prefix && same_source s x.source
 
 -- the slots have the first places of the entries' pairs, where the first of these stands at the place n
 abbrev pub AreSlots : Tables → ℕ → List Pair → List (Option ℕ) → Type 0
-AreSlots S n xs places = (p : Prefix) (s : FibSource) (k : ℕ) → number_in S p ≡ Some k → slice_index_or places (7 * k + source_rank s) None ≡ position_from (is_pair_of p s) n xs
+AreSlots S n xs places =
+    (p : Prefix) (s : FibSource) (k : ℕ) → number_in S p ≡ Some k
+    → slice_index_or places (7 * k + source_rank s) None ≡ position_from (is_pair_of p s) n xs
 
 abbrev pub ArePlaced : Tables → List Pair → List (Option ℕ) → Type 0
 ArePlaced S xs places =
-    (p : Prefix) (s : FibSource) (k : ℕ) → number_in S p ≡ Some k → slice_index_or places (7 * k + source_rank s) None ≡ position (λ x. same_prefix p x.prefix && same_source s x.source) xs
+    (p : Prefix) (s : FibSource) (k : ℕ) → number_in S p ≡ Some k
+    → slice_index_or places (7 * k + source_rank s) None ≡ position (λ x. same_prefix p x.prefix && same_source s x.source) xs
 
 -- the tables are sound, and all else is what they mean
 pub record AreParts (parts : Parts) : Type 0 where
@@ -61,7 +65,8 @@ pub record ArePicked (e : Prefix) (xs : List Pair) (ids : List ℕ) (done : ℕ)
   pub best_first : AreBestFirst held
   pub below : (p : FibSource × ℕ) → Contains held p → source_rank p.0 < done
   pub found : (x : Pair) → Contains xs x → e ≡ x.prefix → source_rank x.source < done → (p : FibSource × ℕ) × Contains held p × (p.0 ≡ x.source)
-  pub real : (p : FibSource × ℕ) → Contains held p → (k : ℕ) × (x : Pair) × (slice_get xs k ≡ Some x) × (slice_get ids k ≡ Some p.1) × (e ≡ x.prefix) × (p.0 ≡ x.source)
+  pub real : (p : FibSource × ℕ) → Contains held p → (k : ℕ) × (x : Pair) × (slice_get xs k ≡ Some x) × (slice_get ids k ≡ Some p.1)
+      × (e ≡ x.prefix) × (p.0 ≡ x.source)
 
 -- by places in an order of entries, an edge that is left without looped paths
 abbrev pub IsKeptEdge : Tables → List Prefix → ℕ × ℕ → Type 0

@@ -51,7 +51,8 @@ pub record IsPlaced (old new : List Row) (lists later : List PathKept) (place : 
   pub apart : AreInterned later
 
 -- that, and what is told is the prefix, and that it had no rank
-pub record HasCome (T : Tables) (old new : List Row) (lists later : List PathKept) (place : ℕ) (p : Prefix) (source : FibSource) (after : List Path) (rank : ℕ) (f : Followed) : Type 0 where
+pub record HasCome (T : Tables) (old new : List Row) (lists later : List PathKept) (place : ℕ) (p : Prefix) (source : FibSource)
+    (after : List Path) (rank : ℕ) (f : Followed) : Type 0 where
   pub placed : IsPlaced old new lists later place p after (plain_own T source after rank)
   pub touched : f.touched ≡ p ∷ []
   pub moved : f.moved ≡ moved_at p 0 rank

@@ -24,7 +24,8 @@ abbrev pub but_turned : Option Late → Option Last → List Prefix → List Pre
 but_turned late gone seen = filter (λ e. not (is_member same_prefix (turned_hosts late gone) e)) seen
 
 -- all to which the prefix leads, with one list or the other, but for the hosts that come or go; and of the edges there those on cycles
-pub record AreWays (rows : List Row) (p : Prefix) (old new : List Path) (late : Option Late) (gone : Option Last) (few : List Prefix) (edges : List (Prefix × Prefix)) : Type 0 where
+pub record AreWays (rows : List Row) (p : Prefix) (old new : List Path) (late : Option Late) (gone : Option Last) (few : List Prefix)
+    (edges : List (Prefix × Prefix)) : Type 0 where
   pub coming : Option (Prefix × Prefix)
   pub comes : IsComingAs rows late coming
   pub seen : List Prefix
@@ -34,7 +35,8 @@ pub record AreWays (rows : List Row) (p : Prefix) (old new : List Path) (late : 
   pub few_are : few ≡ but_turned late gone seen
 
 -- what the rows get
-pub record IsCourse (rows : List Row) (T : Tables) (p : Prefix) (source : FibSource) (old new : List Path) (rank : ℕ) (late : Option Late) (gone : Option Last) (c : Course) : Type 0 where
+pub record IsCourse (rows : List Row) (T : Tables) (p : Prefix) (source : FibSource) (old new : List Path) (rank : ℕ) (late : Option Late)
+    (gone : Option Last) (c : Course) : Type 0 where
   pub few : List Prefix
   pub edges : List (Prefix × Prefix)
   pub ways : AreWays rows p old new late gone few edges
@@ -44,7 +46,8 @@ pub record IsCourse (rows : List Row) (T : Tables) (p : Prefix) (source : FibSou
   pub gone_still : IsGoneStill gone c.raised
   pub risen : IsRisenKept rows p new edges late c.raised
   pub relooped : AreRelooped rows few p edges c.reloopings.items
-  pub grown : (r : Row) → Contains rows r → is_member same_prefix few r.prefix ≡ true → same_prefix p r.prefix ≡ false → grows r.looped (loops_of edges r.prefix r.marked) ≡ true
+  pub grown : (r : Row) → Contains rows r → is_member same_prefix few r.prefix ≡ true → same_prefix p r.prefix ≡ false
+      → grows r.looped (loops_of edges r.prefix r.marked) ≡ true
   pub again : c.again ≡ filter (is_relooped_at rows p edges) few
 
 -- how many objects the host that comes makes

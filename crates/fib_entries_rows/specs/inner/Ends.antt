@@ -1,5 +1,6 @@
 -- The change of an interface's flag or of a neighbor's MAC, followed in the marks of the rows. No contract of a public call rests on this.
-use Rattle.std.specs.Prelude.{◌≡◌, ◌↔◌, ℕ, zero, suc, Bool, true, false, not, Option, Some, None, IsSome, ◌&&◌, ◌==◌, List, [], ◌∷◌, map, filter, Contains, if◌then◌else◌}
+use Rattle.std.specs.Prelude.{◌≡◌, ◌↔◌, ℕ, zero, suc, Bool, true, false, not, Option, Some, None}
+use Rattle.std.specs.Prelude.{IsSome, ◌&&◌, ◌==◌, List, [], ◌∷◌, map, filter, Contains, if◌then◌else◌}
 use Rattle.std.specs.List.{list_any}
 use Rattle.fib_addr.specs.Prefixes.{Prefix, IsPrefix, host}
 use Rattle.fib_cover.specs.Covers.{IsAscending}

@@ -51,7 +51,8 @@ pub record IsGateway (rows : List Row) (lists : List PathKept) (order : List Pre
   pub room : users_of lists g.list + 1 < 2 ^ 32 - 1
 
 -- the prefix comes with its route, one of whose next hops is a gateway, and to whose other next hops others lead
-pub record IsGaining (rows : List Row) (lists : List PathKept) (order : List Prefix) (T : Tables) (p : Prefix) (source : FibSource) (place : ℕ) (g : Gateway) : Type 0 where
+pub record IsGaining (rows : List Row) (lists : List PathKept) (order : List Prefix) (T : Tables) (p : Prefix) (source : FibSource)
+    (place : ℕ) (g : Gateway) : Type 0 where
   pub belongs : IsBelonging rows T p source place
   pub gateway : IsGateway rows lists order p g
   pub plain : list_all is_plain (paths_at p source T.routes) ≡ true
@@ -70,7 +71,8 @@ pub record IsJoined (old new : List Row) (lists later : List PathKept) (g : Gate
   pub apart : AreInterned later
 
 -- the prefix came, and the host's row got its pair; what is told are both, and that the prefix had no rank
-pub record HasGained (T : Tables) (old new : List Row) (lists later : List PathKept) (place : ℕ) (g : Gateway) (derived : List Path) (p : Prefix) (source : FibSource) (after : List Path) (rank : ℕ) (f : Followed) : Type 0 where
+pub record HasGained (T : Tables) (old new : List Row) (lists later : List PathKept) (place : ℕ) (g : Gateway) (derived : List Path)
+    (p : Prefix) (source : FibSource) (after : List Path) (rank : ℕ) (f : Followed) : Type 0 where
   pub low : List Row
   pub between : List PathKept
   pub placed : IsPlaced old low lists between place p after (plain_own T source after rank)

@@ -1,5 +1,6 @@
 -- A leaf that comes with its one route, and with it the host of a next hop that no other route has. No contract of a public call rests on this.
-use Rattle.std.specs.Prelude.{◌≡◌, ◌+◌, ◌-◌, ◌<◌, ◌^◌, ◌||◌, ◌==◌, ℕ, Bool, true, false, List, [], ◌∷◌, map, filter_map, Contains, None, Some, slice_get, slice_set}
+use Rattle.std.specs.Prelude.{◌≡◌, ◌+◌, ◌-◌, ◌<◌, ◌^◌, ◌||◌, ◌==◌, ℕ, Bool, true, false}
+use Rattle.std.specs.Prelude.{List, [], ◌∷◌, map, filter_map, Contains, None, Some, slice_get, slice_set}
 use Rattle.std.specs.List.{list_all, insert}
 use Rattle.std.specs.Set.{is_member}
 use Rattle.std.specs.declared.cmp.Ordering.{Ordering}
@@ -69,7 +70,8 @@ pub record IsComing (rows : List Row) (lists : List PathKept) (g : Late) : Type 
   pub room : users_of lists g.list + 1 < 2 ^ 32 - 1
 
 -- the prefix comes with its route, and with it the host of one of the route's next hops, to whose other next hops others lead
-pub record IsHosting (rows : List Row) (lists : List PathKept) (order : List Prefix) (T : Tables) (p : Prefix) (source : FibSource) (place : ℕ) (g : Late) : Type 0 where
+pub record IsHosting (rows : List Row) (lists : List PathKept) (order : List Prefix) (T : Tables) (p : Prefix) (source : FibSource)
+    (place : ℕ) (g : Late) : Type 0 where
   pub belongs : IsBelonging rows T p source place
   pub short : p.len < 32
   pub late : IsLate rows lists order p g
@@ -110,7 +112,8 @@ pub record IsListed (old new : List Row) (lists later : List PathKept) (g : Late
   pub apart : AreInterned later
 
 -- the host came, and then the prefix; what is told are both, which had no rank
-pub record HasHosted (T : Tables) (old new : List Row) (lists later : List PathKept) (g : Late) (p : Prefix) (source : FibSource) (after : List Path) (rank made : ℕ) (f : Followed) : Type 0 where
+pub record HasHosted (T : Tables) (old new : List Row) (lists later : List PathKept) (g : Late) (p : Prefix) (source : FibSource)
+    (after : List Path) (rank made : ℕ) (f : Followed) : Type 0 where
   pub mid : List Row
   pub hosted : IsHosted old mid g
   pub place : ℕ

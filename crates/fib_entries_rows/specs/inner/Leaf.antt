@@ -1,5 +1,5 @@
 -- The change of one route of a prefix that nothing leads to and that covers no host. No contract of a public call rests on this.
-use Rattle.std.specs.Prelude.{◌≡◌, ◌≢◌, ◌↔◌, ◌⊎◌, ◌≤◌, if◌then◌else◌, map, ◌<◌, ◌^◌, ℕ, true, false, List, [], ◌∷◌, Contains}
+use Rattle.std.specs.Prelude.{◌≡◌, ◌≢◌, ◌↔◌, ◌⊎◌, if◌then◌else◌, map, ◌<◌, ◌^◌, ℕ, true, false, List, [], ◌∷◌, Contains}
 use Rattle.fib_resolve.specs.Keys.{source_rank}
 use Rattle.fib_resolve.specs.Pairs.{pairs, attached_by}
 use Rattle.fib_resolve.specs.declared.pairs.Pair.{Pair}
@@ -28,7 +28,7 @@ use Rattle.fib_resolve.specs.declared.types.PathKind.TheVariants as kinds
 use Rattle.fib_reach.specs.Walks.{AllDiffer}
 use Rattle.fib_cover.specs.Covers.{IsAscending}
 use Rattle.fib_resolve_changes.specs.Differ.{Differ}
-use Rattle.fib_entries_rows.specs.Known.{Known, StandsFor, PathKept, prefix_of, row_of, content_of}
+use Rattle.fib_entries_rows.specs.Known.{Known, PathKept, prefix_of, row_of, content_of}
 use Rattle.fib_base_interned.specs.Interned.{AreInterned, Takes, Gives}
 use Rattle.fib_resolve.specs.Edits.{paths_at}
 use Rattle.fib_entries_rows.specs.inner.Clear.{IsApart}
@@ -38,8 +38,6 @@ use Rattle.fib_entries_rows.specs.Rows.{Row}
 use Rattle.fib_entries_rows.specs.declared.replace.Own.{Own}
 use Rattle.fib_entries_rows.specs.declared.changes.Moved.{Moved}
 use Rattle.fib_entries_rows.specs.declared.changes.Followed.{Followed}
-use Rattle.fib_entries_rows.specs.Changes.{AreTouched, AreMoved}
-use Rattle.fib_resolve.specs.Sizes.{size}
 use Rattle.fib_resolve_changes.specs.declared.change.Change.TheVariants as changes
 
 -- the routes of one prefix and source alone can differ, and the prefix has pairs of that source alone; no entry has an edge to it, it is a host
@@ -144,7 +142,8 @@ AreAttached p goals old new = AllZip (λ r s. IsButFor p r s × (Contains s.depe
 
 -- row by row, it went from the dependants of these, but for those
 abbrev pub AreDetached : Prefix → List Prefix → List Prefix → List Row → List Row → Type 0
-AreDetached p goals kept old new = AllZip (λ r s. IsButFor p r s × (Contains s.dependants p ↔ Contains r.dependants p × (Contains goals r.prefix → Contains kept r.prefix))) old new
+AreDetached p goals kept old new =
+    AllZip (λ r s. IsButFor p r s × (Contains s.dependants p ↔ Contains r.dependants p × (Contains goals r.prefix → Contains kept r.prefix))) old new
 
 -- the prefix was pushed at that place
 abbrev pub IsLinked : ℕ → Prefix → List Row → List Row → Type 0
@@ -229,7 +228,8 @@ pub record IsReady (rows : List Row) (lists : List PathKept) (T : Tables) (p : P
   pub some : paths_at p source T.routes ≢ []
 
 abbrev pub own_row : Prefix → List (FibSource × ℕ) → Own → List Prefix → Row
-own_row p held own dependants = record { prefix = p; pairs = held; looped = own.looped; met = own.met; marked = own.marked; dependants = dependants; rank = own.rank }
+own_row p held own dependants =
+    record { prefix = p; pairs = held; looped = own.looped; met = own.met; marked = own.marked; dependants = dependants; rank = own.rank }
 
 -- the new list was taken, the row got it, the row's prefix came to the dependants of its next hops and left those of the old one's, and
 -- the old list was given
@@ -252,7 +252,8 @@ settled id own r =
     record { prefix = r.prefix; pairs = slice_set r.pairs 0 (own.source, id); looped = own.looped; met = own.met; marked = own.marked; dependants = r.dependants; rank = own.rank }
 
 -- the rows and the lists, after one row's list was replaced
-pub record AreReplaced (old new : List Row) (lists later : List PathKept) (place : ℕ) (p : Prefix) (id : ℕ) (before after : List Path) (own : Own) : Type 0 where
+pub record AreReplaced (old new : List Row) (lists later : List PathKept) (place : ℕ) (p : Prefix) (id : ℕ) (before after : List Path)
+    (own : Own) : Type 0 where
   pub new_id : ℕ
   pub mid : List Row
   pub low : List Row
@@ -266,23 +267,18 @@ pub record AreReplaced (old new : List Row) (lists later : List PathKept) (place
   pub apart_after : AreInterned later
 
 abbrev pub plain_own : Tables → FibSource → List Path → ℕ → Own
-plain_own T source paths rank = record { source = source; looped = map (λ _. false) paths; met = map (λ _. true) paths; marked = map (plain_mark T) paths; rank = rank }
+plain_own T source paths rank =
+    record { source = source; looped = map (λ _. false) paths; met = map (λ _. true) paths; marked = map (plain_mark T) paths; rank = rank }
 
 -- the prefix with the rank that it had, where it gets another
 abbrev pub moved_at : Prefix → ℕ → ℕ → List Moved
 moved_at p rank new = if rank == new then [] else record { prefix = p; rank = rank } ∷ []
 
 -- the list was replaced, and what is told is the prefix, and its rank where that is another
-pub record IsChanged (T : Tables) (old new : List Row) (lists later : List PathKept) (place : ℕ) (p : Prefix) (id : ℕ) (source : FibSource) (paths : List Path) (rank : ℕ) (f : Followed) : Type 0 where
+pub record IsChanged (T : Tables) (old new : List Row) (lists later : List PathKept) (place : ℕ) (p : Prefix) (id : ℕ)
+    (source : FibSource) (paths : List Path) (rank : ℕ) (f : Followed) : Type 0 where
   pub before : List Path
   pub content : content_of lists id ≡ Some before
   pub replaced : AreReplaced old new lists later place p id before paths (plain_own T source paths rank)
   pub touched : f.touched ≡ p ∷ []
   pub moved : (r : Row) → slice_get old place ≡ Some r → f.moved ≡ moved_at p r.rank rank
-
--- what is known stands for the tables afterwards, and what is told is right
-pub record IsFollowed (v w : Known) (S T : Tables) (most : ℕ) (f : Followed) : Type 0 where
-  pub stands : StandsFor w T
-  pub touched : AreTouched S T f.touched
-  pub moved : AreMoved v.rows w.rows f.moved
-  pub fits : size T ≤ most

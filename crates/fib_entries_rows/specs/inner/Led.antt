@@ -1,5 +1,6 @@
 -- The change of the best route's list of a prefix that others may lead to. No contract of a public call rests on this.
-use Rattle.std.specs.Prelude.{◌≡◌, ◌≢◌, ◌⊎◌, ◌≤◌, ◌<◌, ◌^◌, not, ℕ, Bool, true, false, filter, filter_map, nat_lt, List, [], ◌∷◌, Contains, Option, Some, None, slice_get}
+use Rattle.std.specs.Prelude.{◌≡◌, ◌≢◌, ◌⊎◌, ◌≤◌, ◌<◌, ◌^◌, not, ℕ, Bool, true, false, filter, filter_map, nat_lt, List, [], ◌∷◌, Contains, Option}
+use Rattle.std.specs.Prelude.{Some, None, slice_get}
 use Rattle.std.specs.List.{list_any, list_all}
 use Rattle.fib_addr.specs.Prefixes.{Prefix, IsPrefix, contains, host}
 use Rattle.fib_resolve.specs.Edits.{paths_at}
@@ -72,12 +73,14 @@ pub record IsTurn (S T : Tables) (come go : List ℕ) : Type 0 where
 -- that is so of each
 abbrev pub shared_late : List Row → List PathKept → List Prefix → Prefix → Option Late → List Path → Type 0
 shared_late rows lists order p None paths = list_all (shared_path rows p) paths ≡ true
-shared_late rows lists order p (Some g) paths = (list_all (shared_path_but rows p g.addr) paths ≡ true) × IsLate rows lists order p g × Contains (filter_map recursive_of paths) g.addr
+shared_late rows lists order p (Some g) paths =
+    (list_all (shared_path_but rows p g.addr) paths ≡ true) × IsLate rows lists order p g × Contains (filter_map recursive_of paths) g.addr
 
 -- that of one goes, and the entry of each other next hop is another entry's too
 abbrev pub shared_gone : List Row → List PathKept → List Prefix → Prefix → Option Last → List Path → Type 0
 shared_gone rows lists order p None paths = list_all (shared_path rows p) paths ≡ true
-shared_gone rows lists order p (Some g) paths = (list_all (shared_path_but rows p g.addr) paths ≡ true) × IsLast rows lists order p g × Contains (filter_map recursive_of paths) g.addr
+shared_gone rows lists order p (Some g) paths =
+    (list_all (shared_path_but rows p g.addr) paths ≡ true) × IsLast rows lists order p g × Contains (filter_map recursive_of paths) g.addr
 
 -- whether the path's next hop is one of that list's
 abbrev pub has_hop : List Path → PathKind → Bool
@@ -94,7 +97,8 @@ but_hops others paths = filter (λ q. not (has_hop others q.kind)) paths
 
 -- the row at that place is the prefix's, has that source's list as its best, and the change of the list to the tables' makes another entry of
 -- the prefix alone, of the host of a late next hop, which comes, and of that of a last one, which goes; the next hops of both lists stay
-pub record IsReaching (rows : List Row) (lists : List PathKept) (order : List Prefix) (T : Tables) (p : Prefix) (source : FibSource) (place id : ℕ) (old : List Path) (late : Option Late) (gone : Option Last) : Type 0 where
+pub record IsReaching (rows : List Row) (lists : List PathKept) (order : List Prefix) (T : Tables) (p : Prefix) (source : FibSource)
+    (place id : ℕ) (old : List Path) (late : Option Late) (gone : Option Last) : Type 0 where
   pub row : Row
   pub at : slice_get rows place ≡ Some row
   pub own : row.prefix ≡ p
@@ -111,7 +115,8 @@ pub record IsReaching (rows : List Row) (lists : List PathKept) (order : List Pr
   pub plain_before : list_all is_plain old ≡ true
   pub beside_before : list_all (path_beside p) old ≡ true
   pub hops_before : shared_gone rows lists order p gone (but_hops (paths_at p source T.routes) old)
-  pub unhidden : (g : Last) (q : FibSource × ℕ) (paths : List Path) → gone ≡ Some g → Contains rest q → content_of lists q.1 ≡ Some paths → list_any (path_at g.addr) paths ≡ false
+  pub unhidden : (g : Last) (q : FibSource × ℕ) (paths : List Path) → gone ≡ Some g → Contains rest q → content_of lists q.1 ≡ Some paths
+      → list_any (path_at g.addr) paths ≡ false
   pub plain : list_all is_plain (paths_at p source T.routes) ≡ true
   pub beside : list_all (path_beside p) (paths_at p source T.routes) ≡ true
   pub hops : shared_late rows lists order p late (but_hops old (paths_at p source T.routes))

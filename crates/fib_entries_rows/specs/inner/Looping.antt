@@ -1,5 +1,6 @@
 -- Which edges close a cycle among what a prefix leads to, before or after its list is another. No contract of a public call rests on this.
-use Rattle.std.specs.Prelude.{◌≡◌, ◌↔◌, ◌⊎◌, ◌<◌, ◌&&◌, ◌||◌, ◌==◌, ℕ, not, Bool, true, false, List, [], ◌∷◌, map, flat_map, slice_get, slice_index_or, Contains, Option, Some, None, if◌then◌else◌}
+use Rattle.std.specs.Prelude.{◌≡◌, ◌↔◌, ◌⊎◌, ◌<◌, ◌&&◌, ◌||◌, ◌==◌, ℕ, not, Bool, true, false, List, [], ◌∷◌, map, flat_map, slice_get}
+use Rattle.std.specs.Prelude.{slice_index_or, Contains, Option, Some, None, if◌then◌else◌}
 use Rattle.std.specs.Set.{is_member}
 use Rattle.fib_addr.specs.Prefixes.{Prefix, same_prefix}
 use Rattle.fib_reach.specs.Walks.{AllDiffer, Leads, Next}
@@ -113,7 +114,8 @@ abbrev pub AddsEdge : List Prefix → ℕ → Prefix → List (ℕ × ℕ) → L
 AddsEdge order from t old new = (d : ℕ × ℕ) → Contains new d ↔ Contains old d ⊎ ((d.0 ≡ from) × (slice_get order d.1 ≡ Some t))
 
 abbrev pub AddsEdges : List Prefix → ℕ → List Prefix → List (ℕ × ℕ) → List (ℕ × ℕ) → Type 0
-AddsEdges order from targets old new = (d : ℕ × ℕ) → Contains new d ↔ Contains old d ⊎ ((d.0 ≡ from) × (t : Prefix) × Contains targets t × (slice_get order d.1 ≡ Some t))
+AddsEdges order from targets old new =
+    (d : ℕ × ℕ) → Contains new d ↔ Contains old d ⊎ ((d.0 ≡ from) × (t : Prefix) × Contains targets t × (slice_get order d.1 ≡ Some t))
 
 -- the edge between the places of a prefix and one to which it leads
 abbrev pub IsEdgeAmong : (Prefix → List Prefix) → List Prefix → ℕ × ℕ → Type 0

@@ -46,7 +46,8 @@ pub record IsSpare (rows : List Row) (lists : List PathKept) (p : Prefix) (g : G
   pub unhidden : (r : Row) → Contains rows r → has_several r ≡ true → p ≢ r.prefix → IsNotIn rows lists r.prefix g.addr
 
 -- the row at that place is a leaf's, with the one list of that source, the route is gone, and one of its next hops is such a gateway
-pub record IsLosing (rows : List Row) (lists : List PathKept) (T : Tables) (p : Prefix) (source : FibSource) (place id : ℕ) (old : List Path) (g : Gateway) : Type 0 where
+pub record IsLosing (rows : List Row) (lists : List PathKept) (T : Tables) (p : Prefix) (source : FibSource) (place id : ℕ)
+    (old : List Path) (g : Gateway) : Type 0 where
   pub row : Row
   pub at : slice_get rows place ≡ Some row
   pub own : row.prefix ≡ p
@@ -78,7 +79,8 @@ pub record IsUnjoined (old new : List Row) (lists later : List PathKept) (g : Ga
   pub apart : AreInterned later
 
 -- the prefix went, and the host's row lost its pair; what is told are both, and the rank that the prefix had
-pub record HasLost (old new : List Row) (lists later : List PathKept) (place : ℕ) (p : Prefix) (id : ℕ) (before : List Path) (g : Gateway) (f : Followed) : Type 0 where
+pub record HasLost (old new : List Row) (lists later : List PathKept) (place : ℕ) (p : Prefix) (id : ℕ) (before : List Path) (g : Gateway)
+    (f : Followed) : Type 0 where
   pub low : List Row
   pub between : List PathKept
   pub withdrawn : IsWithdrawn old low lists between place p id (goals_of before) []

@@ -36,7 +36,9 @@ path_at a q = hop_at a q.kind
 
 -- no list of the prefix's row has it
 abbrev pub IsNotIn : List Row → List PathKept → Prefix → ℕ → Type 0
-IsNotIn rows lists e a = (r : Row) (q : FibSource × ℕ) (paths : List Path) → Contains rows r → r.prefix ≡ e → Contains r.pairs q → content_of lists q.1 ≡ Some paths → list_any (path_at a) paths ≡ false
+IsNotIn rows lists e a =
+    (r : Row) (q : FibSource × ℕ) (paths : List Path) → Contains rows r → r.prefix ≡ e → Contains r.pairs q → content_of lists q.1 ≡ Some paths
+    → list_any (path_at a) paths ≡ false
 
 -- the host's row has the one pair of a next hop that its cover doesn't attach, p alone leads to it, and no other row with several lists has it
 -- in one of them, as that of a route that isn't chosen would
@@ -53,7 +55,8 @@ pub record IsLast (rows : List Row) (lists : List PathKept) (order : List Prefix
   pub unhidden : (r : Row) → Contains rows r → has_several r ≡ true → p ≢ r.prefix → IsNotIn rows lists r.prefix g.addr
 
 -- the row at that place is a leaf's, with the one list of that source, the route is gone, and with it goes the host of one of its next hops
-pub record IsParting (rows : List Row) (lists : List PathKept) (order : List Prefix) (T : Tables) (p : Prefix) (source : FibSource) (place id : ℕ) (old : List Path) (g : Last) : Type 0 where
+pub record IsParting (rows : List Row) (lists : List PathKept) (order : List Prefix) (T : Tables) (p : Prefix) (source : FibSource)
+    (place id : ℕ) (old : List Path) (g : Last) : Type 0 where
   pub row : Row
   pub at : slice_get rows place ≡ Some row
   pub own : row.prefix ≡ p
@@ -80,7 +83,8 @@ pub record IsParted (old new : List Row) (lists later : List PathKept) (g : Last
   pub size : made ≡ own_size (host g.addr) (entry_before old place) (entry_at old (place + 1))
 
 -- the prefix went, and then the host; what is told are both, with the ranks that they had
-pub record HasParted (old new : List Row) (lists later : List PathKept) (place : ℕ) (p : Prefix) (id : ℕ) (before : List Path) (g : Last) (made : ℕ) (f : Followed) : Type 0 where
+pub record HasParted (old new : List Row) (lists later : List PathKept) (place : ℕ) (p : Prefix) (id : ℕ) (before : List Path) (g : Last)
+    (made : ℕ) (f : Followed) : Type 0 where
   pub low : List Row
   pub between : List PathKept
   pub withdrawn : IsWithdrawn old low lists between place p id (goals_of before) []

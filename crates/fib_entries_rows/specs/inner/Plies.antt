@@ -1,5 +1,6 @@
 -- The plies that an entry alone makes, told by the entries before and after it in order. No contract of a public call rests on this.
-use Rattle.std.specs.Prelude.{◌≡◌, ℕ, ◌+◌, ◌-◌, ◌*◌, ◌/◌, ◌==◌, ◌<◌, ◌≤◌, Bool, ◌&&◌, ◌||◌, not, cond, zero, suc, false, List, Option, Some, None, slice_get, nat_lt, length, option_map, if◌then◌else◌}
+use Rattle.std.specs.Prelude.{◌≡◌, ℕ, ◌+◌, ◌-◌, ◌*◌, ◌/◌, ◌==◌, ◌<◌, ◌≤◌, Bool, ◌&&◌, ◌||◌, not, cond, zero, suc, false, List, Option, Some, None}
+use Rattle.std.specs.Prelude.{slice_get, nat_lt, length, option_map, if◌then◌else◌}
 use Rattle.std.specs.declared.cmp.Ordering.TheVariants.{Less}
 use Rattle.fib_addr.specs.Prefixes.{Prefix, masked, same_prefix}
 use Rattle.fib_cover.specs.Covers.{prefix_cmp}

@@ -32,7 +32,9 @@ FallBut p rows rank = (r : Row) (t : Prefix) → Contains rows r → r.prefix �
 
 -- whoever has such a path is a dependant of the row at which it is aimed
 abbrev pub AreBack : List Row → Type 0
-AreBack rows = (r : Row) (t : Prefix) → Contains rows r → aims_at t r.marked r.looped ≡ true → (s : Row) × Contains rows s × (s.prefix ≡ t) × Contains s.dependants r.prefix
+AreBack rows =
+    (r : Row) (t : Prefix) → Contains rows r → aims_at t r.marked r.looped ≡ true
+    → (s : Row) × Contains rows s × (s.prefix ≡ t) × Contains s.dependants r.prefix
 
 -- that prefix gets that rank, and whoever must get a greater one too
 pub record AreRaised (rows : List Row) (p : Prefix) (rank : ℕ) (raised : List Raised) : Type 0 where

@@ -1,6 +1,7 @@
 -- The change of the best route's list of a prefix that others may lead to, on cycles or not, with which the host of a next hop may come and
 -- that of another go. No contract of a public call rests on this.
-use Rattle.std.specs.Prelude.{◌≡◌, ◌≢◌, length, ◌↔◌, ◌⊎◌, ◌<◌, ◌≤◌, ◌++◌, ◌&&◌, ℕ, Bool, true, false, List, [], ◌∷◌, map, Contains, IsSome, Option, Some, None, slice_get, not}
+use Rattle.std.specs.Prelude.{◌≡◌, ◌≢◌, length, ◌↔◌, ◌⊎◌, ◌<◌, ◌≤◌, ◌++◌, ◌&&◌, ℕ, Bool, true, false, List, [], ◌∷◌, map, Contains, IsSome, Option}
+use Rattle.std.specs.Prelude.{Some, None, slice_get, not}
 use Rattle.std.specs.List.{insert, list_any}
 use Rattle.std.specs.Set.{is_member}
 use Rattle.fib_reach.specs.Walks.{AllDiffer}
@@ -96,7 +97,8 @@ looped_counts T l (kinds.Hop a i) = plain_counts T (kinds.Hop a i)
 looped_counts T l kinds.Cover = plain_counts T kinds.Cover
 
 abbrev pub looped_mark : Tables → List (Prefix × Prefix) → Prefix → Path → Marked
-looped_mark T edges p q = record { aim = plain_aim T q.kind; counts = looped_counts T (kind_loops edges p q.kind) q.kind; weight = q.weight; preference = q.preference }
+looped_mark T edges p q =
+    record { aim = plain_aim T q.kind; counts = looped_counts T (kind_loops edges p q.kind) q.kind; weight = q.weight; preference = q.preference }
 
 -- what the prefix's row gets
 abbrev pub looped_own : Tables → FibSource → List (Prefix × Prefix) → Prefix → List Path → ℕ → Own
@@ -119,7 +121,8 @@ IsEnded None low mid between later = (mid ≡ low) × (later ≡ between)
 IsEnded (Some g) low mid between later = IsListed low mid between later g
 
 -- the host came, then the list was replaced, and the host got its list
-pub record IsRelisted (old mid : List Row) (lists later : List PathKept) (p : Prefix) (id : ℕ) (before paths : List Path) (own : Own) (late : Option Late) : Type 0 where
+pub record IsRelisted (old mid : List Row) (lists later : List PathKept) (p : Prefix) (id : ℕ) (before paths : List Path) (own : Own)
+    (late : Option Late) : Type 0 where
   pub start : List Row
   pub started : IsStarted late old start
   pub place : ℕ
@@ -138,7 +141,9 @@ IsOut (Some g) mid out between later made = IsParted mid out between later g mad
 
 -- all that, then the rows of these prefixes got the marks of the loops, and ranks rose; what is told are the prefix, the hosts that came and
 -- went and those of which a path is looped that wasn't, and the ranks that are others
-pub record HasReached (old new : List Row) (lists later : List PathKept) (p : Prefix) (id : ℕ) (paths : List Path) (own : Own) (late : Option Late) (gone : Option Last) (seen : List Prefix) (edges : List (Prefix × Prefix)) (again : List Prefix) (raised : List Raised) (made : ℕ) (f : Followed) : Type 0 where
+pub record HasReached (old new : List Row) (lists later : List PathKept) (p : Prefix) (id : ℕ) (paths : List Path) (own : Own)
+    (late : Option Late) (gone : Option Last) (seen : List Prefix) (edges : List (Prefix × Prefix)) (again : List Prefix)
+    (raised : List Raised) (made : ℕ) (f : Followed) : Type 0 where
   pub before : List Path
   pub content : content_of lists id ≡ Some before
   pub mid : List Row
@@ -152,11 +157,14 @@ pub record HasReached (old new : List Row) (lists later : List PathKept) (p : Pr
 
 -- what the rows and lists are after the list was replaced, the host came and the other went: as the tables have it, but for loops and ranks,
 -- and with so many users of lists
-pub record IsSettled (v : Known) (S T : Tables) (users : List Path → ℕ) (p : Prefix) (held : List (FibSource × ℕ)) (new_id : ℕ) (paths : List Path) (own : Own) (late : Option Late) (gone : Option Last) (mid : List Row) (later : List PathKept) : Type 0 where
+pub record IsSettled (v : Known) (S T : Tables) (users : List Path → ℕ) (p : Prefix) (held : List (FibSource × ℕ)) (new_id : ℕ)
+    (paths : List Path) (own : Own) (late : Option Late) (gone : Option Last) (mid : List Row) (later : List PathKept) : Type 0 where
   pub ordered : IsAscending (map prefix_of mid)
-  pub names : (e : Prefix) → Contains (map prefix_of mid) e ↔ (Contains (map prefix_of v.rows) e × (Contains (gone_hosts gone) e → ⊥)) ⊎ Contains (late_hosts late) e
+  pub names : (e : Prefix)
+      → Contains (map prefix_of mid) e ↔ (Contains (map prefix_of v.rows) e × (Contains (gone_hosts gone) e → ⊥)) ⊎ Contains (late_hosts late) e
   pub others : (s : Row) → Contains mid s → in_part p (turned_addrs late gone) s.prefix ≡ false
-      → (r : Row) × Contains v.rows r × IsButForPart (in_part p (turned_addrs late gone)) r s × ((d : Prefix) → in_part p (turned_addrs late gone) d ≡ true → Contains s.dependants d ↔ Contains (targets T d) s.prefix)
+      → (r : Row) × Contains v.rows r × IsButForPart (in_part p (turned_addrs late gone)) r s
+      × ((d : Prefix) → in_part p (turned_addrs late gone) d ≡ true → Contains s.dependants d ↔ Contains (targets T d) s.prefix)
   pub pairs : (s : Row) → Contains mid s → p ≡ s.prefix → s.pairs ≡ held
   pub looped : (s : Row) → Contains mid s → p ≡ s.prefix → s.looped ≡ own.looped
   pub met : (s : Row) → Contains mid s → p ≡ s.prefix → s.met ≡ own.met
@@ -166,7 +174,8 @@ pub record IsSettled (v : Known) (S T : Tables) (users : List Path → ℕ) (p :
   pub led_once : (s : Row) → Contains mid s → p ≡ s.prefix → AllDiffer s.dependants
   pub hosted : (g : Late) (s : Row) → late ≡ Some g → Contains mid s → host g.addr ≡ s.prefix → (c : Prefix)
       × ((s.pairs ≡ (sources.RecursiveResolution, g.list) ∷ []) × (s.looped ≡ (host_own c g.rank).looped) × (s.met ≡ (host_own c g.rank).met) × (s.marked ≡ (host_own c g.rank).marked) × (s.rank ≡ g.rank) × (targets T (host g.addr) ≡ c ∷ []))
-  pub host_led : (g : Late) (s : Row) → late ≡ Some g → Contains mid s → host g.addr ≡ s.prefix → ((d : Prefix) → Contains s.dependants d ↔ Contains (targets T d) (host g.addr)) × AllDiffer s.dependants
+  pub host_led : (g : Late) (s : Row) → late ≡ Some g → Contains mid s → host g.addr ≡ s.prefix
+      → ((d : Prefix) → Contains s.dependants d ↔ Contains (targets T d) (host g.addr)) × AllDiffer s.dependants
   pub counted : AreCounted later users
   pub stays : (id : ℕ) (list : List Path) → 0 < holders T list → content_of v.lists id ≡ Some list → content_of later id ≡ Some list
   pub content : content_of later new_id ≡ Some paths
@@ -185,7 +194,8 @@ pub record IsBestAt (rows : List Row) (p : Prefix) (source : FibSource) (place i
 
 -- no entry of a next hop of a path that isn't looped has a greater rank
 abbrev pub AreBelow : List Row → List (Prefix × Prefix) → Prefix → List Path → ℕ → Type 0
-AreBelow rows edges p paths top = (q : Path) (t : Prefix) → Contains paths q → kind_loops edges p q.kind ≡ false → Contains (goal_of q.kind) t → rank_of rows t ≤ top
+AreBelow rows edges p paths top =
+    (q : Path) (t : Prefix) → Contains paths q → kind_loops edges p q.kind ≡ false → Contains (goal_of q.kind) t → rank_of rows t ≤ top
 
 -- nor has the host that comes, where its path isn't looped
 abbrev pub IsLateBelow : List (Prefix × Prefix) → Prefix → Option Late → ℕ → Type 0
@@ -204,11 +214,13 @@ abbrev pub IsCoverStill : List Row → Option Late → List Raised → Type 0
 IsCoverStill rows late raised = (g : Late) (r : Row) → late ≡ Some g → slice_get rows g.cover ≡ Some r → raised_of raised r.prefix ≡ None
 
 -- these rise, none of which a path leads to that isn't looped, so that the prefix's rank is above those of the entries of these paths' next hops
-pub record IsRisenKept (rows : List Row) (p : Prefix) (paths : List Path) (edges : List (Prefix × Prefix)) (late : Option Late) (raised : List Raised) : Type 0 where
+pub record IsRisenKept (rows : List Row) (p : Prefix) (paths : List Path) (edges : List (Prefix × Prefix)) (late : Option Late)
+    (raised : List Raised) : Type 0 where
   pub once : AllDiffer (map raised_prefix raised)
   pub each : (x : Raised) → Contains raised x → Contains (map prefix_of rows) x.prefix × (rank_of rows x.prefix < x.rank)
   pub falls : AreBack rows → FallBut p rows (rank_of rows) → FallBut p rows (rank_with raised rows)
-  pub above : (q : Path) (t : Prefix) → Contains paths q → kind_loops edges p q.kind ≡ false → Contains (goal_of q.kind) t → (Contains (late_hosts late) t → ⊥) → rank_with raised rows t < rank_with raised rows p
+  pub above : (q : Path) (t : Prefix) → Contains paths q → kind_loops edges p q.kind ≡ false → Contains (goal_of q.kind) t
+      → (Contains (late_hosts late) t → ⊥) → rank_with raised rows t < rank_with raised rows p
   pub above_late : (g : Late) → late ≡ Some g → kind_loops edges p (kinds.Recursive g.addr) ≡ false → g.rank < rank_with raised rows p
   pub cover_still : IsCoverStill rows late raised
 

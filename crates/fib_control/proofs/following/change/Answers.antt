@@ -15,7 +15,7 @@ pub queue_all-requires : goal.queue_all-requires
 queue_all-requires c =
     let S = c.args.config.now.tables in
     let T = c.change_tables.new.config.tables in
-    let e = c.in-Ok-change_tables.ensures in
+    let e = c.in-Ok-change_tables.ensures.followed in
     let least = c.least_of.ensures in
     let small = e.fits in
     let fits : size T ≤ c.args.limits.room = omega (arith, least, small) in
@@ -34,11 +34,11 @@ returns-in-Ok-change_tables-clause-queued c = λ d.
     c.queue_all.ensures.queued d
     ∙ ap (λ b. b || is_among c.in-Ok-change_tables.followed.touched d) (ap (λ (q : List Queued). is_some (rank_in q d)) c.reserve.ensures.members)
     ∙ ap (λ b. is_some (rank_in c.args.queue.now.members d) || b)
-    (among_touched c.args.config.now.tables c.change_tables.new.config.tables c.in-Ok-change_tables.followed.touched d c.in-Ok-change_tables.ensures.touched)
+    (among_touched c.args.config.now.tables c.change_tables.new.config.tables c.in-Ok-change_tables.followed.touched d c.in-Ok-change_tables.ensures.followed.touched)
 
 pub returns-in-Ok-change_tables-clause-ranks : goal.returns-in-Ok-change_tables-clause-ranks
 returns-in-Ok-change_tables-clause-ranks c = λ ranked.
-    c.queue_all.ensures.ranks c.args.entries.now.rows c.in-Ok-change_tables.ensures.moved
+    c.queue_all.ensures.ranks c.args.entries.now.rows c.in-Ok-change_tables.ensures.followed.moved
     (λ d r at. ranked d r (ap (λ (q : List Queued). rank_in q d) (sym c.reserve.ensures.members) ∙ at))
 
 pub returns-in-Err-clause-why : goal.returns-in-Err-clause-why

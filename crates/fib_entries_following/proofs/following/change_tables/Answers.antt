@@ -14,35 +14,15 @@ returns-in-Ok-follow_changes-clause-accepted c =
     let S = c.args.config.now.tables in
     let e = c.in-Ok.ensures in
     let d = differs S c.change.new.self.tables c.args.edit.now c.in-Ok.edited.change c.requires.stands.sound e.place e.edited in
-    made_fits S c.change.new.self.tables c.args.most c.args.edit.now e.edited (c.in-Ok-follow_changes.ensures.fits S c.requires.stands d) e.accepted
+    let followed = c.in-Ok-follow_changes.ensures.followed S c.requires.stands d in
+    made_fits S c.change.new.self.tables c.args.most c.args.edit.now e.edited followed.fits e.accepted
 
-pub returns-in-Ok-follow_changes-clause-stands : goal.returns-in-Ok-follow_changes-clause-stands
-returns-in-Ok-follow_changes-clause-stands c =
+pub returns-in-Ok-follow_changes-clause-followed : goal.returns-in-Ok-follow_changes-clause-followed
+returns-in-Ok-follow_changes-clause-followed c =
     let S = c.args.config.now.tables in
     let e = c.in-Ok.ensures in
     let d = differs S c.change.new.self.tables c.args.edit.now c.in-Ok.edited.change c.requires.stands.sound e.place e.edited in
-    c.in-Ok-follow_changes.ensures.stands S c.requires.stands d
-
-pub returns-in-Ok-follow_changes-clause-fits : goal.returns-in-Ok-follow_changes-clause-fits
-returns-in-Ok-follow_changes-clause-fits c =
-    let S = c.args.config.now.tables in
-    let e = c.in-Ok.ensures in
-    let d = differs S c.change.new.self.tables c.args.edit.now c.in-Ok.edited.change c.requires.stands.sound e.place e.edited in
-    c.in-Ok-follow_changes.ensures.fits S c.requires.stands d
-
-pub returns-in-Ok-follow_changes-clause-touched : goal.returns-in-Ok-follow_changes-clause-touched
-returns-in-Ok-follow_changes-clause-touched c =
-    let S = c.args.config.now.tables in
-    let e = c.in-Ok.ensures in
-    let d = differs S c.change.new.self.tables c.args.edit.now c.in-Ok.edited.change c.requires.stands.sound e.place e.edited in
-    c.in-Ok-follow_changes.ensures.touched S c.requires.stands d
-
-pub returns-in-Ok-follow_changes-clause-moved : goal.returns-in-Ok-follow_changes-clause-moved
-returns-in-Ok-follow_changes-clause-moved c =
-    let S = c.args.config.now.tables in
-    let e = c.in-Ok.ensures in
-    let d = differs S c.change.new.self.tables c.args.edit.now c.in-Ok.edited.change c.requires.stands.sound e.place e.edited in
-    c.in-Ok-follow_changes.ensures.moved S c.requires.stands d
+    c.in-Ok-follow_changes.ensures.followed S c.requires.stands d
 
 pub returns-in-Err-follow_changes-clause-why : goal.returns-in-Err-follow_changes-clause-why
 returns-in-Err-follow_changes-clause-why c =

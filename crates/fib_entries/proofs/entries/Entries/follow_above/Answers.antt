@@ -6,7 +6,7 @@ use Rattle.fib_resolve_changes.specs.Differ.{Differ}
 use Rattle.fib_resolve_changes.specs.declared.change.Change.TheVariants as changes
 use Rattle.fib_entries_rows.specs.Known.{Known, StandsFor, prefix_of}
 use Rattle.fib_entries.specs.inner.Above.{IsAbove, IsOver}
-use Rattle.fib_entries_rows.specs.inner.Leaf.{IsFollowed}
+use Rattle.fib_entries_rows.specs.Changes.{IsFollowed}
 use Rattle.fib_entries_rows.specs.Rows.{Row}
 use Rattle.fib_entries.specs.declared.above.Above.{Above}
 use Rattle.fib_entries_rows.proofs.Exits.{fields_with}

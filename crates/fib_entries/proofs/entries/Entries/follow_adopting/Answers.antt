@@ -7,7 +7,7 @@ use Rattle.fib_resolve_changes.specs.declared.change.Change.TheVariants as chang
 use Rattle.fib_entries_rows.specs.Known.{Known, StandsFor, prefix_of}
 use Rattle.fib_entries_rows.specs.Rows.{Row}
 use Rattle.fib_entries.specs.inner.Adopting.{IsAdopted, IsBetween, IsKin, opened}
-use Rattle.fib_entries_rows.specs.inner.Leaf.{IsFollowed}
+use Rattle.fib_entries_rows.specs.Changes.{IsFollowed}
 use Rattle.fib_entries.specs.declared.adopting.Kin.{Kin}
 use Rattle.fib_entries_rows.specs.declared.changes.Followed.{Followed}
 use Rattle.fib_entries.proofs.Adopted.{followed_adopted}

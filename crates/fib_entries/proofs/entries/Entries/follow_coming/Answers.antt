@@ -6,7 +6,8 @@ use Rattle.fib_resolve_changes.specs.Differ.{Differ}
 use Rattle.fib_resolve_changes.specs.declared.change.Change.TheVariants as changes
 use Rattle.fib_entries_rows.specs.Known.{Known, StandsFor}
 use Rattle.fib_entries_rows.specs.inner.Coming.{HasCome}
-use Rattle.fib_entries_rows.specs.inner.Leaf.{IsFollowed, goals_of}
+use Rattle.fib_entries_rows.specs.Changes.{IsFollowed}
+use Rattle.fib_entries_rows.specs.inner.Leaf.{goals_of}
 use Rattle.fib_entries_rows.specs.inner.Plies.{own_size, entry_at, entry_before}
 use Rattle.fib_entries_rows.proofs.Exits.{fields_noted}
 use Rattle.fib_entries_rows.proofs.Following.{known}

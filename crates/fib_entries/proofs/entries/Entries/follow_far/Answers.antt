@@ -12,7 +12,8 @@ use Rattle.fib_entries_rows.specs.declared.ends.News.{News}
 use Rattle.fib_entries_rows.specs.declared.ends.News.TheVariants as news
 use Rattle.fib_entries_rows.specs.inner.Ends.{renewed_row}
 use Rattle.fib_entries_rows.specs.inner.Fields.{IsForgotten}
-use Rattle.fib_entries_rows.specs.inner.Leaf.{IsFollowed, moved_at}
+use Rattle.fib_entries_rows.specs.Changes.{IsFollowed}
+use Rattle.fib_entries_rows.specs.inner.Leaf.{moved_at}
 use Rattle.fib_entries.specs.inner.Near.{are_more, near_list}
 use Rattle.fib_entries_rows.specs.inner.Plies.{own_size, entry_at, entry_before}
 use Rattle.fib_entries_rows.proofs.Following.{known}

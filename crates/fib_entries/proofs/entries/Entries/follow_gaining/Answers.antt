@@ -9,7 +9,8 @@ use Rattle.fib_resolve_changes.proofs.SamePairs.{map_in}
 use Rattle.fib_entries_rows.specs.Known.{Known, StandsFor, prefix_of}
 use Rattle.fib_entries_rows.specs.inner.Fields.{AreFields, Index, IsSeveral}
 use Rattle.fib_entries_rows.specs.inner.Gateway.{HasGained, IsGaining}
-use Rattle.fib_entries_rows.specs.inner.Leaf.{IsFollowed, goals_of}
+use Rattle.fib_entries_rows.specs.Changes.{IsFollowed}
+use Rattle.fib_entries_rows.specs.inner.Leaf.{goals_of}
 use Rattle.fib_entries_rows.specs.inner.Plies.{own_size, entry_at, entry_before}
 use Rattle.fib_entries_rows.proofs.Exits.{fields_noted}
 use Rattle.fib_entries_rows.proofs.Following.{known}

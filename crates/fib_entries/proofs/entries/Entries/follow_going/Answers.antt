@@ -5,7 +5,7 @@ use Rattle.fib_resolve_changes.specs.Differ.{Differ}
 use Rattle.fib_resolve_changes.specs.declared.change.Change.TheVariants as changes
 use Rattle.fib_entries_rows.specs.Known.{Known, StandsFor}
 use Rattle.fib_entries_rows.specs.inner.Going.{HasLeft}
-use Rattle.fib_entries_rows.specs.inner.Leaf.{IsFollowed}
+use Rattle.fib_entries_rows.specs.Changes.{IsFollowed}
 use Rattle.fib_entries_rows.specs.inner.Plies.{own_size, entry_at, entry_before}
 use Rattle.fib_entries_rows.proofs.Following.{known}
 use Rattle.fib_entries.proofs.Leaving.{followed_gone, left_fields, leaving_kept}

@@ -13,7 +13,7 @@ use Rattle.fib_entries_rows.specs.declared.ends.News.TheVariants as news
 use Rattle.fib_entries_rows.specs.inner.Ends.{has_exit, renewed_row}
 use Rattle.fib_entries_rows.specs.inner.Fields.{AreAmong, AreFields, Index, IsSeveral}
 use Rattle.fib_entries.specs.inner.Hop.{hop_pairs}
-use Rattle.fib_entries_rows.specs.inner.Leaf.{IsFollowed}
+use Rattle.fib_entries_rows.specs.Changes.{IsFollowed}
 use Rattle.fib_entries.specs.inner.Near.{near_list}
 use Rattle.fib_entries_rows.proofs.Following.{known}
 use Rattle.fib_entries.proofs.HopFields.{fields_hop_more, fields_hop_noted, held_by, set_by}

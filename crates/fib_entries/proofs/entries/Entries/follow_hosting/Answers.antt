@@ -8,7 +8,8 @@ use Rattle.fib_resolve_changes.specs.declared.change.Change.TheVariants as chang
 use Rattle.fib_entries_rows.specs.Known.{Known, StandsFor, prefix_of}
 use Rattle.fib_entries_rows.specs.inner.Fields.{IsForgotten, IsNoted}
 use Rattle.fib_entries_rows.specs.inner.Hosting.{HasHosted, IsHosting}
-use Rattle.fib_entries_rows.specs.inner.Leaf.{IsFollowed, goals_of}
+use Rattle.fib_entries_rows.specs.Changes.{IsFollowed}
+use Rattle.fib_entries_rows.specs.inner.Leaf.{goals_of}
 use Rattle.fib_entries_rows.proofs.Exits.{fields_noted}
 use Rattle.fib_entries_rows.proofs.Following.{known}
 use Rattle.fib_entries.proofs.HostFields.{fields_back, fields_both, fields_unhosted, not_member}

@@ -5,7 +5,8 @@ use Rattle.fib_resolve.specs.declared.types.Tables.{Tables}
 use Rattle.fib_resolve_changes.specs.Differ.{Differ}
 use Rattle.fib_resolve_changes.specs.declared.change.Change.TheVariants as changes
 use Rattle.fib_entries_rows.specs.Known.{Known, StandsFor}
-use Rattle.fib_entries_rows.specs.inner.Leaf.{IsChanged, IsFollowed, goals_of}
+use Rattle.fib_entries_rows.specs.Changes.{IsFollowed}
+use Rattle.fib_entries_rows.specs.inner.Leaf.{IsChanged, goals_of}
 use Rattle.fib_entries_rows.proofs.Exits.{fields_noted}
 use Rattle.fib_entries_rows.proofs.Following.{fields_after, followed_leaf, known}
 use Rattle.fib_entries.proofs.entries.Entries.follow_leaf.Goals as goal

@@ -12,7 +12,7 @@ use Rattle.fib_entries_rows.specs.declared.ends.News.{News}
 use Rattle.fib_entries_rows.specs.declared.ends.News.TheVariants as news
 use Rattle.fib_entries_rows.specs.inner.Ends.{has_exit, renewed_row}
 use Rattle.fib_entries_rows.specs.inner.Fields.{AreAmong, AreFields, IsForgotten, IsNoted}
-use Rattle.fib_entries_rows.specs.inner.Leaf.{IsFollowed}
+use Rattle.fib_entries_rows.specs.Changes.{IsFollowed}
 use Rattle.fib_entries.specs.inner.Near.{IsNearComing, are_some}
 use Rattle.fib_entries_rows.specs.inner.Plies.{own_size, entry_at, entry_before}
 use Rattle.fib_entries_rows.proofs.EndRows.{old_found}

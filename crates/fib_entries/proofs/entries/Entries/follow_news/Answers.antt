@@ -6,7 +6,7 @@ use Rattle.fib_entries_rows.specs.Rows.{Row}
 use Rattle.fib_entries_rows.specs.Known.{Known, StandsFor}
 use Rattle.fib_entries_rows.specs.inner.Ends.{IsNews, has_exit}
 use Rattle.fib_entries_rows.specs.inner.Fields.{AreAmong, AreFields}
-use Rattle.fib_entries_rows.specs.inner.Leaf.{IsFollowed}
+use Rattle.fib_entries_rows.specs.Changes.{IsFollowed}
 use Rattle.fib_entries.proofs.EndNews.{followed_news}
 use Rattle.fib_entries_rows.proofs.Renewing.{fields_renewed}
 use Rattle.fib_entries_rows.proofs.Following.{known}

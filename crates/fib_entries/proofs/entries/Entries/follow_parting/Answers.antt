@@ -7,7 +7,7 @@ use Rattle.fib_resolve_changes.specs.Differ.{Differ}
 use Rattle.fib_resolve_changes.specs.declared.change.Change.TheVariants as changes
 use Rattle.fib_entries_rows.specs.Known.{Known, StandsFor, prefix_of}
 use Rattle.fib_entries_rows.specs.inner.Fields.{IsForgotten}
-use Rattle.fib_entries_rows.specs.inner.Leaf.{IsFollowed}
+use Rattle.fib_entries_rows.specs.Changes.{IsFollowed}
 use Rattle.fib_entries_rows.specs.inner.Parting.{IsParting}
 use Rattle.fib_entries_rows.proofs.Following.{known}
 use Rattle.fib_entries.proofs.PartedFields.{fields_parted, host_there}
