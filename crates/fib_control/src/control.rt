@@ -1,5 +1,6 @@
 // The control plane as one value.
-ghost use Rattle.std.specs.Prelude.{◌≡◌, ◌+◌, ◌-◌, ◌/◌, ◌^◌, ◌<◌, ◌≤◌, [], ℕ, IfErr, IfOk, IsErrOf, IsTrue, None, Ok, OnErr, OnOk, Some, length, false, true, vec_capacity, ◌↔◌};
+ghost use Rattle.std.specs.Prelude.{◌≡◌, ◌+◌, ◌-◌, ◌/◌, ◌^◌, ◌<◌, ◌≤◌, [], ℕ, IfErr, IfOk, IsErrOf, IsTrue, None, Ok, OnErr, OnOk, Some, length};
+ghost use Rattle.std.specs.Prelude.{false, true, vec_capacity, ◌↔◌};
 ghost use Rattle.std.specs.List.{AllByRecursion};
 ghost use Rattle.fib_addr.specs.Prefixes.{Prefix as PrefixValue};
 ghost use Rattle.fib_reach.specs.Walks.{AllDiffer};

@@ -1,5 +1,6 @@
 -- The frames in which a capture's packets leave, and the lines on those whose time to live is used up.
-use Rattle.std.specs.Prelude.{ℕ, ◌≡◌, ◌<◌, ◌^◌, Ok, slice_index, ◌++◌, ◌∷◌, [], List, Bool, false, Option, Some, None, slice_get, take, drop, length, map, flat_map, codes, decimal, if◌then◌else◌}
+use Rattle.std.specs.Prelude.{ℕ, ◌≡◌, ◌<◌, ◌^◌, Ok, slice_index, ◌++◌, ◌∷◌, [], List, Bool, false, Option, Some, None, slice_get, take, drop, length}
+use Rattle.std.specs.Prelude.{map, flat_map, codes, decimal, if◌then◌else◌}
 use Rattle.std.specs.List.{AllByRecursion}
 use Rattle.fib_resolve.specs.declared.types.End.{End}
 use Rattle.fib_resolve.specs.declared.types.End.TheVariants as ends
@@ -78,7 +79,8 @@ AreBytes bytes = (k : ℕ) → slice_index bytes k < 256
 -- the packets that leave, as their frames show them to whoever reads the file
 unfoldable pub flows_in : List ℕ → List Span → Pairs → List Packet
 flows_in bytes spans [] = []
-flows_in bytes spans (p ∷ pairs) = map (λ f. ipv4_packet_of (packet_in bytes spans p.0)) (sent_by (packet_in bytes spans p.0) p.1.end) ++ flows_in bytes spans pairs
+flows_in bytes spans (p ∷ pairs) =
+    map (λ f. ipv4_packet_of (packet_in bytes spans p.0)) (sent_by (packet_in bytes spans p.0) p.1.end) ++ flows_in bytes spans pairs
 
 -- A frame file is a capture that isn't cut. Its packets are those that left, in their order, and each is the flow that it was.
 abbrev pub FrameFilesAreReadBack : Type 0

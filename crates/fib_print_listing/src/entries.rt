@@ -3,7 +3,8 @@ ghost use Rattle.std.specs.Prelude.{◌≡◌, ◌++◌, OnOk, OnErr, IfOk, map,
 ghost use Rattle.fib_entries_rows.specs.Known.{StandsFor};
 ghost use Rattle.fib_print_listing.specs.Order.{row_from, gap};
 ghost use Rattle.fib_print_listing.specs.inner.Views.{source_in};
-ghost use Rattle.fib_print_listing.specs.Entries.{source_text, is_drop, cover_at, mark_text, marked_text, marked_from, sources_text, paths_text, entry_text, fib_text};
+ghost use Rattle.fib_print_listing.specs.Entries.{source_text, is_drop, cover_at, mark_text, marked_text, marked_from};
+ghost use Rattle.fib_print_listing.specs.Entries.{sources_text, paths_text, entry_text, fib_text};
 
 use crate::rows::put_gap;
 use crate::view::View;

@@ -1,5 +1,6 @@
 // What a turn of an entry makes ready: all that may fail comes before its first put.
-ghost use Rattle.std.specs.Prelude.{◌≡◌, ◌⊎◌, ◌+◌, ◌-◌, ◌*◌, ◌^◌, ◌<◌, ◌≤◌, ℕ, Bool, true, ◌&&◌, [], IfOk, IfSome, IfNone, OnErr, OnOk, Option, None, Some, length, vec_capacity};
+ghost use Rattle.std.specs.Prelude.{◌≡◌, ◌⊎◌, ◌+◌, ◌-◌, ◌*◌, ◌^◌, ◌<◌, ◌≤◌, ℕ, Bool, true, ◌&&◌, [], IfOk, IfSome, IfNone, OnErr, OnOk, Option, None};
+ghost use Rattle.std.specs.Prelude.{Some, length, vec_capacity};
 ghost use Rattle.fib_addr.specs.Prefixes.{Prefix as PrefixValue};
 ghost use Rattle.fib_resolve.specs.Aims.{marked_list};
 ghost use Rattle.fib_resolve.specs.Touched.{differ};

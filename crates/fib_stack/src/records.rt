@@ -11,7 +11,8 @@ ghost use Rattle.fib_plane_view.specs.Promise.{MayClear, Serves};
 ghost use Rattle.fib_plane_view.specs.Stores.{IsFreed, StoresEach};
 ghost use Rattle.fib_plane_view.specs.View.{IsLive};
 ghost use Rattle.fib_stack.specs.Calls.{GivesOnly, TakesOnly};
-ghost use Rattle.fib_stack.specs.Records.{AreObjects, Freed, GaveAll, IsAlone, IsObjectOf, LacksFor, SamePlane, TookAll, TookFor, TookNew, record_for, records_for};
+ghost use Rattle.fib_stack.specs.Records.{AreObjects, Freed, GaveAll, IsAlone, IsObjectOf, LacksFor, SamePlane};
+ghost use Rattle.fib_stack.specs.Records.{TookAll, TookFor, TookNew, record_for, records_for};
 
 use fib_addr::{Addr, Mac};
 use fib_plane_view::Objects;

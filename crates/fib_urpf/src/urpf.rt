@@ -1,5 +1,6 @@
 // What is kept of all prefixes, and the turns that keep it.
-ghost use Rattle.std.specs.Prelude.{◌≡◌, ◌↔◌, ◌≤◌, ◌<◌, ◌^◌, ◌-◌, ℕ, ◌++◌, ◌∷◌, [], Contains, None, Some, IfOk, IfSome, OnErr, OnOk, is_some, length, min, vec_capacity};
+ghost use Rattle.std.specs.Prelude.{◌≡◌, ◌↔◌, ◌≤◌, ◌<◌, ◌^◌, ◌-◌, ℕ, ◌++◌, ◌∷◌, [], Contains};
+ghost use Rattle.std.specs.Prelude.{None, Some, IfOk, IfSome, OnErr, OnOk, is_some, length, min, vec_capacity};
 ghost use Rattle.std.specs.Set.{is_member};
 ghost use Rattle.fib_addr.specs.Prefixes.{Prefix as PrefixValue, same_prefix};
 ghost use Rattle.fib_resolve.specs.Pairs.{best, entries};
