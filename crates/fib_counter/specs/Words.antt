@@ -11,7 +11,8 @@ use Rattle.fib_counter.specs.declared.words.Asked.{Asked}
 -- two options and two names
 unfoldable pub count_command : App
 count_command =
-    let sized = with_rule (with_rule (bare_command (codes "fib_counter")) (option_rule (codes "workers"))) (option_rule (codes "objects")) in
+    let sized = with_rule (with_rule (bare_command (codes "fib_counter")) (option_rule (codes "workers")))
+    (option_rule (codes "objects")) in
     with_rule (with_rule sized (name_rule (codes "commands"))) (name_rule (codes "capture"))
 
 -- the sizes of the run; of the walk no text depends

@@ -59,7 +59,8 @@ frame_file bytes spans pairs = file_header ++ records_in bytes spans pairs
 -- the numbers of the packets that would have left, but had no hop left
 unfoldable pub expired_in : List ℕ → List Span → Pairs → List ℕ
 expired_in bytes spans [] = []
-expired_in bytes spans (p ∷ pairs) = (if expires_by (packet_in bytes spans p.0) p.1.end then p.0 ∷ [] else []) ++ expired_in bytes spans pairs
+expired_in bytes spans (p ∷ pairs) =
+    (if expires_by (packet_in bytes spans p.0) p.1.end then p.0 ∷ [] else []) ++ expired_in bytes spans pairs
 
 -- the line on such a packet
 unfoldable pub expired_line : ℕ → List ℕ
@@ -84,5 +85,6 @@ flows_in bytes spans (p ∷ pairs) =
 
 -- A frame file is a capture that isn't cut. Its packets are those that left, in their order, and each is the flow that it was.
 abbrev pub FrameFilesAreReadBack : Type 0
-FrameFilesAreReadBack = (bytes : List ℕ) (spans : List Span) (pairs : Pairs) → AreBytes bytes → length bytes < 2 ^ 31 → AreInside bytes spans
+FrameFilesAreReadBack =
+    (bytes : List ℕ) (spans : List Span) (pairs : Pairs) → AreBytes bytes → length bytes < 2 ^ 31 → AreInside bytes spans
     → capture_of (frame_file bytes spans pairs) ≡ Ok (record { packets = flows_in bytes spans pairs; cut = None })

@@ -96,7 +96,8 @@ pub record AreCounts (rounds : List Closed) (s : Summary) : Type 0 where
   pub all : all_ends s ≡ length (quiet_ends rounds)
 
 abbrev pub CountsAreOfQuietFlows : Type 0
-CountsAreOfQuietFlows = (room : ℕ) (script : List (List ℕ)) (packets : Capture) → AreCounts (rounds_of room script packets) (summary_of room script packets)
+CountsAreOfQuietFlows =
+    (room : ℕ) (script : List (List ℕ)) (packets : Capture) → AreCounts (rounds_of room script packets) (summary_of room script packets)
 
 abbrev pub IsFlow : Packet → Type 0
 IsFlow NotIpv4 = ⊥

@@ -40,7 +40,8 @@ pub record GoesOn (script : List (List ℕ)) (from : ℕ) (before : Stage) (old 
   pub said : List ℕ
   pub text : new ≡ old ++ said
   pub prints : (packets : Capture) (o : Round) (results : List Record) (rest : List ℕ)
-      → Prints packets (to + 1) o after (drop to script) results rest → Prints packets (from + 1) o before (drop from script) results (said ++ rest)
+      → Prints packets (to + 1) o after (drop to script) results rest
+      → Prints packets (from + 1) o before (drop from script) results (said ++ rest)
   pub rounds : (packets : Capture) (o : Round)
       → rounds_from packets (to + 1) o after (drop to script) ≡ rounds_from packets (from + 1) o before (drop from script)
   pub last : stage_after (to + 1) after (drop to script) ≡ stage_after (from + 1) before (drop from script)
@@ -61,7 +62,8 @@ PrintsFrom packets script at (Some o) results out =
 
 abbrev pub rounds_at : Capture → List (List ℕ) → Stage → Option Opening → List Round
 rounds_at packets script at None = []
-rounds_at packets script at (Some o) = rounds_from packets (o.place + 1) (round_at packets.packets at.router.changes o) at (drop o.place script)
+rounds_at packets script at (Some o) =
+    rounds_from packets (o.place + 1) (round_at packets.packets at.router.changes o) at (drop o.place script)
 
 -- the history at the run's end
 abbrev pub history_at : List (List ℕ) → Stage → Option Opening → List Tables

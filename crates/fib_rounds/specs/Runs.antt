@@ -44,7 +44,8 @@ Brought workers base (o ∷ rounds) results claims trails =
 
 -- The run printed an output with these results. They are those of the trails that its rounds brought home, by frames and in the order of the claims; the
 -- history is that of the accepted changes, and its last version is settled.
-pub record HasRunOn (workers room : ℕ) (script : List (List ℕ)) (packets : Capture) (c : Control) (results : List Record) (out : List ℕ) : Type 0 where
+pub record HasRunOn (workers room : ℕ) (script : List (List ℕ)) (packets : Capture) (c : Control) (results : List Record)
+    (out : List ℕ) : Type 0 where
   pub output : OutputWith room script packets results out
   pub brought : Brought workers 0 (rounds_of room script packets) results c.plane.board.gathered c.plane.board.trails
   pub history : history_in c ≡ (stage_after 1 (start room) script).history

@@ -31,4 +31,5 @@ pub record IsLaid (packets : List Packet) (at next : ℕ) (kept : Kept) : Type 0
 abbrev pub AreLaid : List Packet → ℕ → ℕ → List (Option Kept) → Type 0
 AreLaid packets at to [] = at ≡ to
 AreLaid packets at to (None ∷ places) = ⊥
-AreLaid packets at to (Some kept ∷ places) = IsLaid packets at (at + min (to - at) 256) kept × AreLaid packets (at + min (to - at) 256) to places
+AreLaid packets at to (Some kept ∷ places) =
+    IsLaid packets at (at + min (to - at) 256) kept × AreLaid packets (at + min (to - at) 256) to places

@@ -36,7 +36,8 @@ claims_of workers (p ∷ packets) = frames (p ∷ packets) + workers
 -- What a round of so many workers brought home, its claims counted from the base: the results of its flows, cut into frames as its packets
 -- are; a claim for each frame, and one more a worker, which names none; and, in the order of the claims, one trail for each flow of the frame
 -- that is named, in packet order, which follows it and whose result is the flow's.
-pub record HasGathered (workers base : ℕ) (taken : List Packet) (results : List Record) (claims : List ℕ) (trails : List Trail) : Type 0 where
+pub record HasGathered (workers base : ℕ) (taken : List Packet) (results : List Record) (claims : List ℕ)
+    (trails : List Trail) : Type 0 where
   pub parts : List (List Record)
   pub whole : results ≡ joined parts
   pub each : (f : ℕ) → Matched IsOf (frame taken f) (slice_index_or parts f [])

@@ -32,4 +32,5 @@ HasApplied c d edit (Ok (Some why)) = (refused (tables_in c) c.setup.room edit �
 abbrev pub HasAppliedAll : Control → Control → List Edit → Result (Option Unmade) AllocError → Type 0
 HasAppliedAll c d edits (Err e) = Stays c d
 HasAppliedAll c d edits (Ok None) = (edited_in_turn (tables_in c) c.setup.room edits ≡ Ok (tables_in d)) × Changes c (tables_in d) d
-HasAppliedAll c d edits (Ok (Some u)) = (edited_in_turn (tables_in c) c.setup.room edits ≡ Err (record { place = u.place; refusal = u.refusal })) × Stays c d
+HasAppliedAll c d edits (Ok (Some u)) =
+    (edited_in_turn (tables_in c) c.setup.room edits ≡ Err (record { place = u.place; refusal = u.refusal })) × Stays c d

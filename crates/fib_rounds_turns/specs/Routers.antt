@@ -43,7 +43,8 @@ new_progress = record { lines = 0; refused = 0; batch = None }
 
 -- the router after an accepted change, which ends a batch
 abbrev pub changed : Router → Tables → Router
-changed r tables = record { config = record { tables = tables; room = r.config.room }; changes = r.changes + 1; refused = r.refused; batch = None }
+changed r tables =
+    record { config = record { tables = tables; room = r.config.room }; changes = r.changes + 1; refused = r.refused; batch = None }
 
 -- the router after a line that is refused
 abbrev pub refusing : Router → Router

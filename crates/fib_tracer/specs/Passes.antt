@@ -31,7 +31,8 @@ passes_text S n [] passes = []
 passes_text S n (NotIpv4 ∷ packets) passes = not_ipv4_text n ++ passes_text S (n + 1) packets passes
 passes_text S n (BadHeader ∷ packets) passes = bad_header_text n ++ passes_text S (n + 1) packets passes
 passes_text S n (Flow a h ∷ packets) [] = []
-passes_text S n (Flow a h ∷ packets) (p ∷ passes) = (packet_text S n p.result ++ loads_text S 0 p.loads) ++ passes_text S (n + 1) packets passes
+passes_text S n (Flow a h ∷ packets) (p ∷ passes) =
+    (packet_text S n p.result ++ loads_text S 0 p.loads) ++ passes_text S (n + 1) packets passes
 
 -- The flows of these packets have one pass each, in order, and these are their trails.
 pub record AreTraced (k : ℕ) (H : List Tables) (packets : List Packet) (home : List Trail) (told : List Traced) : Type 0 where

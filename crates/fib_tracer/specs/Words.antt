@@ -10,7 +10,8 @@ use Rattle.fib_tracer.specs.declared.words.Wanted.{Wanted}
 -- the command: an option and two names
 unfoldable pub trace_command : App
 trace_command =
-    with_rule (with_rule (with_rule (bare_command (codes "fib_tracer")) (option_rule (codes "objects"))) (name_rule (codes "commands"))) (name_rule (codes "capture"))
+    with_rule (with_rule (with_rule (bare_command (codes "fib_tracer")) (option_rule (codes "objects"))) (name_rule (codes "commands")))
+    (name_rule (codes "capture"))
 
 -- one worker, and at most 64 turns after a change
 abbrev pub sized : ℕ → Settings

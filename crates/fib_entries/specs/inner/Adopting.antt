@@ -54,7 +54,8 @@ drop_list = plain kinds.Drop ∷ []
 
 -- with a route of the prefix that drops
 abbrev pub dropping : Tables → Prefix → FibSource → Tables
-dropping U p source = record { interfaces = U.interfaces; addresses = U.addresses; neighbors = U.neighbors; routes = record { prefix = p; source = source; paths = plain kinds.Drop ∷ [] } ∷ U.routes }
+dropping U p source =
+    record { interfaces = U.interfaces; addresses = U.addresses; neighbors = U.neighbors; routes = record { prefix = p; source = source; paths = plain kinds.Drop ∷ [] } ∷ U.routes }
 
 -- the entry lies in the prefix and leads to the cover, so it leads to the prefix where that is an entry
 pub record ComesOver (U : Tables) (p c e : Prefix) : Type 0 where
@@ -74,14 +75,16 @@ open_row p source id over =
     record { prefix = p; pairs = (source, id) ∷ []; looped = false ∷ []; met = true ∷ []; marked = drop_mark ∷ []; dependants = over; rank = 0 }
 
 abbrev pub with_dependants : List Prefix → Row → Row
-with_dependants list r = record { prefix = r.prefix; pairs = r.pairs; looped = r.looped; met = r.met; marked = r.marked; dependants = list; rank = r.rank }
+with_dependants list r =
+    record { prefix = r.prefix; pairs = r.pairs; looped = r.looped; met = r.met; marked = r.marked; dependants = list; rank = r.rank }
 
 abbrev pub aimed_mark : Prefix → Marked → Marked
 aimed_mark t m = record { aim = aims.On t; counts = m.counts; weight = m.weight; preference = m.preference }
 
 -- the same row, whose paths lead to that entry
 abbrev pub aimed : Prefix → Row → Row
-aimed t r = record { prefix = r.prefix; pairs = r.pairs; looped = r.looped; met = r.met; marked = map (aimed_mark t) r.marked; dependants = r.dependants; rank = r.rank }
+aimed t r =
+    record { prefix = r.prefix; pairs = r.pairs; looped = r.looped; met = r.met; marked = map (aimed_mark t) r.marked; dependants = r.dependants; rank = r.rank }
 
 -- the row, whose paths lead to that entry where its prefix is one of these
 abbrev pub aimed_in : List Prefix → Prefix → Row → Row
@@ -89,7 +92,8 @@ aimed_in over t r = if is_member same_prefix over r.prefix then aimed t r else r
 
 -- the prefix has no row and belongs at that place; its cover's row is there, attaches no host and has no looped path; and paths that drop are kept
 -- as a list, for others too
-pub record IsBetween (rows : List Row) (lists : List PathKept) (order : List Prefix) (p : Prefix) (source : FibSource) (g : Gap) : Type 0 where
+pub record IsBetween (rows : List Row) (lists : List PathKept) (order : List Prefix) (p : Prefix) (source : FibSource)
+    (g : Gap) : Type 0 where
   pub gap : IsGap (map prefix_of rows) g.place p
   pub prefix : IsPrefix p
   pub short : p.len < 32
@@ -134,7 +138,8 @@ pub record IsKin (rows : List Row) (p : Prefix) (r : Row) (k : Kin) : Type 0 whe
 
 -- the prefix's row came, and those that lie in it lead to it and not to that row any more
 abbrev pub opened : List Row → Gap → Prefix → FibSource → Kin → Row → List Row
-opened rows g p source k r = map (aimed_in k.led p) (slice_set (insert rows g.place (open_row p source g.list k.led)) g.cover (with_dependants k.kept r))
+opened rows g p source k r =
+    map (aimed_in k.led p) (slice_set (insert rows g.place (open_row p source g.list k.led)) g.cover (with_dependants k.kept r))
 
 -- the list of the prefix's row was replaced, and then that which it had got its user back; those that came over are told too
 pub record IsTurnedOver (old new : List Row) (lists later : List PathKept) (order : List Prefix) (T : Tables) (p : Prefix)

@@ -25,7 +25,8 @@ is_ending (aims.Ends end) = true
 
 -- the prefix's row is at that place and has one list, of that source; the longest shorter entry in which the prefix lies is its cover, which
 -- attaches no host and leads nowhere; the rank of each entry that leads to the prefix is above the cover's
-pub record IsBetween (rows : List Row) (lists : List PathKept) (order : List Prefix) (p : Prefix) (source : FibSource) (b : Between) : Type 0 where
+pub record IsBetween (rows : List Row) (lists : List PathKept) (order : List Prefix) (p : Prefix) (source : FibSource)
+    (b : Between) : Type 0 where
   pub row : Row
   pub at : slice_get rows b.place ≡ Some row
   pub own : row.prefix ≡ p
@@ -48,7 +49,8 @@ but_for again over = filter (λ d. not (is_member same_prefix again d)) over
 -- the prefixes of both, each once
 pub record AreJoined (first second list : List Prefix) : Type 0 where
   pub once : AllDiffer list
-  pub members : (d : Prefix) → (Contains list d → Contains first d ⊎ Contains second d) × (Contains first d ⊎ Contains second d → Contains list d)
+  pub members : (d : Prefix) → (Contains list d → Contains first d ⊎ Contains second d)
+      × (Contains first d ⊎ Contains second d → Contains list d)
 
 -- the number of the list, where there is one alone
 abbrev pub only_in : List (FibSource × ℕ) → Option ℕ

@@ -64,7 +64,8 @@ has_edge S d e = list_any (λ p. is_member same_prefix (kind_targets S d p.kind)
 pub record ArePicked (e : Prefix) (xs : List Pair) (ids : List ℕ) (done : ℕ) (held : List (FibSource × ℕ)) : Type 0 where
   pub best_first : AreBestFirst held
   pub below : (p : FibSource × ℕ) → Contains held p → source_rank p.0 < done
-  pub found : (x : Pair) → Contains xs x → e ≡ x.prefix → source_rank x.source < done → (p : FibSource × ℕ) × Contains held p × (p.0 ≡ x.source)
+  pub found : (x : Pair) → Contains xs x → e ≡ x.prefix → source_rank x.source < done → (p : FibSource × ℕ) × Contains held p
+      × (p.0 ≡ x.source)
   pub real : (p : FibSource × ℕ) → Contains held p → (k : ℕ) × (x : Pair) × (slice_get xs k ≡ Some x) × (slice_get ids k ≡ Some p.1)
       × (e ≡ x.prefix) × (p.0 ≡ x.source)
 

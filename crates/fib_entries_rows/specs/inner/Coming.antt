@@ -36,13 +36,16 @@ pub record IsArriving (rows : List Row) (T : Tables) (p : Prefix) (source : FibS
 
 -- the row that comes, without its list
 abbrev pub blank_row : Prefix → Own → Row
-blank_row p own = record { prefix = p; pairs = []; looped = own.looped; met = own.met; marked = own.marked; dependants = []; rank = own.rank }
+blank_row p own =
+    record { prefix = p; pairs = []; looped = own.looped; met = own.met; marked = own.marked; dependants = []; rank = own.rank }
 
 abbrev pub with_pairs : List (FibSource × ℕ) → Row → Row
-with_pairs list r = record { prefix = r.prefix; pairs = list; looped = r.looped; met = r.met; marked = r.marked; dependants = r.dependants; rank = r.rank }
+with_pairs list r =
+    record { prefix = r.prefix; pairs = list; looped = r.looped; met = r.met; marked = r.marked; dependants = r.dependants; rank = r.rank }
 
 -- the row came, its prefix came to the dependants of its next hops, and its list was taken
-pub record IsPlaced (old new : List Row) (lists later : List PathKept) (place : ℕ) (p : Prefix) (after : List Path) (own : Own) : Type 0 where
+pub record IsPlaced (old new : List Row) (lists later : List PathKept) (place : ℕ) (p : Prefix) (after : List Path)
+    (own : Own) : Type 0 where
   pub new_id : ℕ
   pub mid : List Row
   pub attached : AreAttached p (goals_of after) (insert old place (blank_row p own)) mid

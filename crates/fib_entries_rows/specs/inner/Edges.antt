@@ -24,7 +24,8 @@ abbrev pub AddsPath : Tables → List Prefix → ℕ → Prefix → PathKind →
 AddsPath S order from e kind old new = (d : ℕ × ℕ) → Contains new d ↔ Contains old d ⊎ IsPathEdge S order from e kind d
 
 abbrev pub AddsPaths : Tables → List Prefix → ℕ → Prefix → List Path → List (ℕ × ℕ) → List (ℕ × ℕ) → Type 0
-AddsPaths S order from e paths old new = (d : ℕ × ℕ) → Contains new d ↔ Contains old d ⊎ ((p : Path) × Contains paths p × IsPathEdge S order from e p.kind d)
+AddsPaths S order from e paths old new =
+    (d : ℕ × ℕ) → Contains new d ↔ Contains old d ⊎ ((p : Path) × Contains paths p × IsPathEdge S order from e p.kind d)
 
 -- both ends of each edge are places in the order
 abbrev pub ArePlaces : List Prefix → List (ℕ × ℕ) → Type 0
@@ -33,7 +34,8 @@ ArePlaces order edges = (d : ℕ × ℕ) → Contains edges d → (d.0 < length 
 -- the sources of the edges to that prefix, each once
 pub record AreSources (order : List Prefix) (edges : List (ℕ × ℕ)) (e : Prefix) (list : List Prefix) : Type 0 where
   pub once : AllDiffer list
-  pub real : (p : Prefix) → Contains list p → (d : ℕ × ℕ) × Contains edges d × (slice_get order d.0 ≡ Some p) × (slice_get order d.1 ≡ Some e)
+  pub real : (p : Prefix) → Contains list p → (d : ℕ × ℕ) × Contains edges d × (slice_get order d.0 ≡ Some p)
+      × (slice_get order d.1 ≡ Some e)
   pub found : (d : ℕ × ℕ) (p : Prefix) → Contains edges d → slice_get order d.0 ≡ Some p → slice_get order d.1 ≡ Some e → Contains list p
 
 -- the first nodes of the edges to that node, in order

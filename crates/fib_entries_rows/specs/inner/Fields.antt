@@ -30,7 +30,8 @@ count_in xs paths = count_by (λ x. pointwise same_path x.paths paths) xs
 pub record AreNamed (rows : List Row) (lists : List PathKept) : Type 0 where
   pub pairs : List Pair
   pub counted : AreCounted lists (count_in pairs)
-  pub each : (r : Row) (q : FibSource × ℕ) → Contains rows r → Contains r.pairs q → (x : Pair) × Contains pairs x × (r.prefix ≡ x.prefix) × IsHeld lists q x
+  pub each : (r : Row) (q : FibSource × ℕ) → Contains rows r → Contains r.pairs q → (x : Pair) × Contains pairs x × (r.prefix ≡ x.prefix)
+      × IsHeld lists q x
 
 -- prefixes of rows of three kinds
 pub record Index : Type 0 where

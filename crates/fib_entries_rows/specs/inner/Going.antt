@@ -14,7 +14,8 @@ use Rattle.fib_entries_rows.specs.Rows.{Row}
 use Rattle.fib_entries_rows.specs.declared.changes.Followed.{Followed}
 
 -- the row at that place is a leaf's, with the one list of that source, and the route is gone
-pub record IsLeaving (rows : List Row) (lists : List PathKept) (T : Tables) (p : Prefix) (source : FibSource) (place id : ℕ) (old : List Path) : Type 0 where
+pub record IsLeaving (rows : List Row) (lists : List PathKept) (T : Tables) (p : Prefix) (source : FibSource) (place id : ℕ)
+    (old : List Path) : Type 0 where
   pub row : Row
   pub at : slice_get rows place ≡ Some row
   pub own : row.prefix ≡ p
@@ -30,7 +31,8 @@ pub record IsLeaving (rows : List Row) (lists : List PathKept) (T : Tables) (p :
   pub gone : paths_at p source T.routes ≡ []
 
 -- the prefix left the dependants of these, but for those, its row went, and its list was given
-pub record IsWithdrawn (old new : List Row) (lists later : List PathKept) (place : ℕ) (p : Prefix) (id : ℕ) (goals kept : List Prefix) : Type 0 where
+pub record IsWithdrawn (old new : List Row) (lists later : List PathKept) (place : ℕ) (p : Prefix) (id : ℕ)
+    (goals kept : List Prefix) : Type 0 where
   pub low : List Row
   pub detached : AreDetached p goals kept old low
   pub set : new ≡ remove low place
@@ -38,7 +40,8 @@ pub record IsWithdrawn (old new : List Row) (lists later : List PathKept) (place
   pub apart : AreInterned later
 
 -- that, and what is told is the prefix, and the rank that it had
-pub record HasLeft (old new : List Row) (lists later : List PathKept) (place : ℕ) (p : Prefix) (id : ℕ) (after : List Path) (f : Followed) : Type 0 where
+pub record HasLeft (old new : List Row) (lists later : List PathKept) (place : ℕ) (p : Prefix) (id : ℕ) (after : List Path)
+    (f : Followed) : Type 0 where
   pub before : List Path
   pub content : content_of lists id ≡ Some before
   pub withdrawn : IsWithdrawn old new lists later place p id (goals_of before) (goals_of after)

@@ -99,7 +99,8 @@ host_own cover rank = record {
 pub record IsHosted (old new : List Row) (g : Late) : Type 0 where
   pub cover : Row
   pub at : slice_get old g.cover ≡ Some cover
-  pub came : new ≡ insert (slice_set old g.cover (pushed (host g.addr) cover)) g.place (blank_row (host g.addr) (host_own cover.prefix g.rank))
+  pub came : new ≡ insert (slice_set old g.cover (pushed (host g.addr) cover)) g.place (blank_row (host g.addr)
+      (host_own cover.prefix g.rank))
 
 -- the host's row got its list, which has one user more
 pub record IsListed (old new : List Row) (lists later : List PathKept) (g : Late) : Type 0 where
@@ -122,6 +123,7 @@ pub record HasHosted (T : Tables) (old new : List Row) (lists later : List PathK
   pub between : List PathKept
   pub placed : IsPlaced mid low lists between place p after (plain_own T source after rank)
   pub listed : IsListed low new between later g
-  pub size : made ≡ own_size (host g.addr) (entry_before old g.place) (entry_at old g.place) + own_size p (entry_before mid place) (entry_at mid place)
+  pub size : made ≡ own_size (host g.addr) (entry_before old g.place) (entry_at old g.place) + own_size p (entry_before mid place)
+      (entry_at mid place)
   pub touched : f.touched ≡ p ∷ host g.addr ∷ []
   pub moved : f.moved ≡ record { prefix = p; rank = 0 } ∷ record { prefix = host g.addr; rank = 0 } ∷ []

@@ -57,7 +57,8 @@ pub record IsLeafEdit (S T : Tables) (p : Prefix) (source : FibSource) (late : L
   pub hops : (r : Route) (a : ℕ) → is_route p source r ≡ true → Contains S.routes r ⊎ Contains T.routes r → Contains (recursive_hops r) a
       → Contains late a ⊎ ((d : Prefix) × (d ≢ p) × Contains (targets S d) (host a))
   pub late_out : (a : ℕ) → Contains late a → (a < 2 ^ 32) × IsApart (entries S) p a
-  pub late_alone : (a : ℕ) → Contains late a → (r : Route) → is_route p source r ≡ false → Contains S.routes r → Contains (recursive_hops r) a → ⊥
+  pub late_alone : (a : ℕ) → Contains late a → (r : Route) → is_route p source r ≡ false → Contains S.routes r
+      → Contains (recursive_hops r) a → ⊥
   pub late_other : (a : ℕ) → Contains late a → p ≢ host a
 
 -- no other pair is at the host of a late next hop, and its cover doesn't attach it
@@ -80,7 +81,8 @@ pub record IsButFor (p : Prefix) (r s : Row) : Type 0 where
 pub record AreRelinked (p : Prefix) (goals : List Prefix) (old new : List Row) : Type 0 where
   pub ordered : IsAscending (map prefix_of new)
   pub same : (e : Prefix) → p ≢ e → Contains (map prefix_of old) e ↔ Contains (map prefix_of new) e
-  pub rows : (s : Row) → Contains new s → p ≢ s.prefix → (r : Row) × Contains old r × IsButFor p r s × (Contains s.dependants p ↔ Contains goals s.prefix)
+  pub rows : (s : Row) → Contains new s → p ≢ s.prefix → (r : Row) × Contains old r × IsButFor p r s
+      × (Contains s.dependants p ↔ Contains goals s.prefix)
 
 -- a path that needs nothing and doesn't lead to its cover
 abbrev pub plain_kind : PathKind → Bool
@@ -128,7 +130,8 @@ plain_mark T q = record { aim = plain_aim T q.kind; counts = plain_counts T q.ki
 
 -- the row with other dependants
 abbrev pub with_dependants : Row → List Prefix → Row
-with_dependants r list = record { prefix = r.prefix; pairs = r.pairs; looped = r.looped; met = r.met; marked = r.marked; dependants = list; rank = r.rank }
+with_dependants r list =
+    record { prefix = r.prefix; pairs = r.pairs; looped = r.looped; met = r.met; marked = r.marked; dependants = list; rank = r.rank }
 
 abbrev pub pushed : Prefix → Row → Row
 pushed p r = with_dependants r (r.dependants ++ p ∷ [])
@@ -138,12 +141,14 @@ popped r = with_dependants r (take (length r.dependants - 1) r.dependants)
 
 -- row by row, the prefix came to the dependants of these
 abbrev pub AreAttached : Prefix → List Prefix → List Row → List Row → Type 0
-AreAttached p goals old new = AllZip (λ r s. IsButFor p r s × (Contains s.dependants p ↔ Contains r.dependants p ⊎ Contains goals r.prefix)) old new
+AreAttached p goals old new =
+    AllZip (λ r s. IsButFor p r s × (Contains s.dependants p ↔ Contains r.dependants p ⊎ Contains goals r.prefix)) old new
 
 -- row by row, it went from the dependants of these, but for those
 abbrev pub AreDetached : Prefix → List Prefix → List Prefix → List Row → List Row → Type 0
 AreDetached p goals kept old new =
-    AllZip (λ r s. IsButFor p r s × (Contains s.dependants p ↔ Contains r.dependants p × (Contains goals r.prefix → Contains kept r.prefix))) old new
+    AllZip (λ r s. IsButFor p r s
+    × (Contains s.dependants p ↔ Contains r.dependants p × (Contains goals r.prefix → Contains kept r.prefix))) old new
 
 -- the prefix was pushed at that place
 abbrev pub IsLinked : ℕ → Prefix → List Row → List Row → Type 0
@@ -155,11 +160,13 @@ IsUnlinked place p r old new = (list : List Prefix) × IsWithout p r.dependants 
 
 -- the row at that place is that of the path's next hop, and lacks the prefix
 abbrev pub IsToLink : ℕ → Prefix → PathKind → List Row → Type 0
-IsToLink place p kind rows = (r : Row) × (slice_get rows place ≡ Some r) × (goal_of kind ≡ r.prefix ∷ []) × (is_member same_prefix r.dependants p ≡ false)
+IsToLink place p kind rows =
+    (r : Row) × (slice_get rows place ≡ Some r) × (goal_of kind ≡ r.prefix ∷ []) × (is_member same_prefix r.dependants p ≡ false)
 
 -- or is none of the kept ones
 abbrev pub IsToUnlink : ℕ → List Prefix → PathKind → List Row → Type 0
-IsToUnlink place kept kind rows = (r : Row) × (slice_get rows place ≡ Some r) × (goal_of kind ≡ r.prefix ∷ []) × (Contains kept r.prefix → ⊥)
+IsToUnlink place kept kind rows =
+    (r : Row) × (slice_get rows place ≡ Some r) × (goal_of kind ≡ r.prefix ∷ []) × (Contains kept r.prefix → ⊥)
 
 -- another entry has an edge to the row's
 abbrev pub has_other : Prefix → Option Row → Bool
@@ -210,7 +217,8 @@ pub record IsLeafAt (rows : List Row) (place : ℕ) (p : Prefix) (source : FibSo
   pub written : (source_rank source ≡ 2) ⊎ (source_rank source ≡ 3)
 
 -- the row and the lists are such that the change of the route's list touches that row alone
-pub record IsReady (rows : List Row) (lists : List PathKept) (T : Tables) (p : Prefix) (source : FibSource) (place id : ℕ) (old : List Path) : Type 0 where
+pub record IsReady (rows : List Row) (lists : List PathKept) (T : Tables) (p : Prefix) (source : FibSource) (place id : ℕ)
+    (old : List Path) : Type 0 where
   pub row : Row
   pub at : slice_get rows place ≡ Some row
   pub own : row.prefix ≡ p
@@ -233,7 +241,8 @@ own_row p held own dependants =
 
 -- the new list was taken, the row got it, the row's prefix came to the dependants of its next hops and left those of the old one's, and
 -- the old list was given
-pub record IsReplaced (v w : Known) (p : Prefix) (held : List (FibSource × ℕ)) (place id new_id : ℕ) (old new : List Path) (own : Own) : Type 0 where
+pub record IsReplaced (v w : Known) (p : Prefix) (held : List (FibSource × ℕ)) (place id new_id : ℕ) (old new : List Path)
+    (own : Own) : Type 0 where
   pub mid : List Row
   pub low : List Row
   pub lists : List PathKept

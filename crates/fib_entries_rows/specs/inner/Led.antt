@@ -48,8 +48,10 @@ pub record IsLedEdit (S T : Tables) (p : Prefix) (source : FibSource) (late : Li
   pub hops : (r : Route) (a : ℕ) → is_route p source r ≡ true → Contains S.routes r ⊎ Contains T.routes r → Contains (recursive_hops r) a
       → Contains late a ⊎ (((d : Prefix) × (d ≢ p) × Contains (targets S d) (host a)) ⊎ (Contains (all_hops S) a × Contains (all_hops T) a))
   pub late_out : (a : ℕ) → Contains late a → (a < 2 ^ 32) × (contains p a ≡ false)
-  pub late_alone : (a : ℕ) → Contains late a → (r : Route) → is_route p source r ≡ false → Contains S.routes r → Contains (recursive_hops r) a → ⊥
-  pub late_derived : (a : ℕ) → Contains late a → (x : Pair) → Contains (pairs S) x → x.prefix ≡ host a → x.source ≡ sources.RecursiveResolution
+  pub late_alone : (a : ℕ) → Contains late a → (r : Route) → is_route p source r ≡ false → Contains S.routes r
+      → Contains (recursive_hops r) a → ⊥
+  pub late_derived : (a : ℕ) → Contains late a → (x : Pair) → Contains (pairs S) x → x.prefix ≡ host a
+      → x.source ≡ sources.RecursiveResolution
   pub late_loose : (a : ℕ) → Contains late a → attached_by S a ≡ None
 
 -- the list of the prefix's best source alone is another

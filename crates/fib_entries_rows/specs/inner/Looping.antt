@@ -41,7 +41,8 @@ abbrev pub next_with : List Row → Prefix → List Path → Option (Prefix × P
 next_with rows p paths late e = if same_prefix p e then goals_of paths else late_next late rows e
 
 -- all to which the prefix leads, before and after
-pub record AreReached (rows : List Row) (p : Prefix) (old new : List Path) (late : Option (Prefix × Prefix)) (seen : List Prefix) : Type 0 where
+pub record AreReached (rows : List Row) (p : Prefix) (old new : List Path) (late : Option (Prefix × Prefix))
+    (seen : List Prefix) : Type 0 where
   pub own : Contains seen p
   pub before : (t : Prefix) → Contains (goals_of old) t → Contains seen t
   pub after : (t : Prefix) → Contains (goals_of new) t → Contains seen t
@@ -73,7 +74,8 @@ aim_recursive (aims.Ends end) = false
 
 -- the mark of a path of which that says whether it is looped and whether its need is met
 abbrev pub mark_with : Bool → Bool → Marked → Marked
-mark_with looped met m = if aim_recursive m.aim then record { aim = m.aim; counts = not looped && met; weight = m.weight; preference = m.preference } else m
+mark_with looped met m =
+    if aim_recursive m.aim then record { aim = m.aim; counts = not looped && met; weight = m.weight; preference = m.preference } else m
 
 abbrev pub marks_with : List Bool → List Bool → List Marked → List Marked
 marks_with [] mets ms = []
@@ -119,7 +121,8 @@ AddsEdges order from targets old new =
 
 -- the edge between the places of a prefix and one to which it leads
 abbrev pub IsEdgeAmong : (Prefix → List Prefix) → List Prefix → ℕ × ℕ → Type 0
-IsEdgeAmong next order d = (e : Prefix) × (t : Prefix) × (slice_get order d.0 ≡ Some e) × (slice_get order d.1 ≡ Some t) × Contains (next e) t
+IsEdgeAmong next order d =
+    (e : Prefix) × (t : Prefix) × (slice_get order d.0 ≡ Some e) × (slice_get order d.1 ≡ Some t) × Contains (next e) t
 
 -- those that begin at the first places
 abbrev pub AreEdgesAmong : (Prefix → List Prefix) → List Prefix → ℕ → List (ℕ × ℕ) → Type 0
@@ -132,11 +135,14 @@ AreEnds order d e t = (slice_get order d.0 ≡ Some e) × (slice_get order d.1 �
 -- the ends of those of the first edges that are marked
 abbrev pub AreMarkedEnds : List Prefix → List (ℕ × ℕ) → List Bool → ℕ → List (Prefix × Prefix) → Type 0
 AreMarkedEnds order edges marks count found =
-    (e t : Prefix) → (has_ends found e t ≡ true) ↔ ((k : ℕ) × (d : ℕ × ℕ) × (k < count) × (slice_get edges k ≡ Some d) × (slice_index_or marks k false ≡ true) × AreEnds order d e t)
+    (e t : Prefix)
+    → (has_ends found e t ≡ true) ↔ ((k : ℕ) × (d : ℕ × ℕ) × (k < count) × (slice_get edges k ≡ Some d)
+    × (slice_index_or marks k false ≡ true) × AreEnds order d e t)
 
 -- the ends of those that lie on cycles
 abbrev pub AreLoopedEnds : List Prefix → List (ℕ × ℕ) → List (Prefix × Prefix) → Type 0
-AreLoopedEnds order edges found = (e t : Prefix) → (has_ends found e t ≡ true) ↔ ((d : ℕ × ℕ) × Contains edges d × IsLooped edges d × AreEnds order d e t)
+AreLoopedEnds order edges found =
+    (e t : Prefix) → (has_ends found e t ≡ true) ↔ ((d : ℕ × ℕ) × Contains edges d × IsLooped edges d × AreEnds order d e t)
 
 -- each of the first that is true is true in the second
 abbrev pub grows : List Bool → List Bool → Bool
@@ -178,7 +184,8 @@ abbrev pub grows_at : List Row → Prefix → List (Prefix × Prefix) → Prefix
 grows_at rows p edges e = same_prefix p e || found_grows edges (row_of rows e)
 
 -- what becomes of the marks of the rows of these prefixes, but for that prefix's own
-pub record AreRelooped (rows : List Row) (seen : List Prefix) (p : Prefix) (edges : List (Prefix × Prefix)) (items : List Relooped) : Type 0 where
+pub record AreRelooped (rows : List Row) (seen : List Prefix) (p : Prefix) (edges : List (Prefix × Prefix))
+    (items : List Relooped) : Type 0 where
   pub ordered : IsAscending (map prefix_of rows)
   pub each : items ≡ flat_map (relooped_at rows p edges) seen
 

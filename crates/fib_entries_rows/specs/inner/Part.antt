@@ -48,7 +48,8 @@ pub record IsPartKept (v w : Known) (T : Tables) (part : Prefix → Bool) : Type
   pub ordered : IsAscending (map prefix_of w.rows)
   pub same : (e : Prefix) → part e ≡ false → Contains (map prefix_of v.rows) e ↔ Contains (map prefix_of w.rows) e
   pub rows : (s : Row) → Contains w.rows s → part s.prefix ≡ false
-      → (r : Row) × Contains v.rows r × IsButForPart part r s × ((d : Prefix) → part d ≡ true → Contains s.dependants d ↔ Contains (targets T d) s.prefix)
+      → (r : Row) × Contains v.rows r × IsButForPart part r s
+      × ((d : Prefix) → part d ≡ true → Contains s.dependants d ↔ Contains (targets T d) s.prefix)
   pub there : (e : Prefix) → part e ≡ true → Contains (map prefix_of w.rows) e ↔ Contains (entries T) e
   pub own : (s : Row) → Contains w.rows s → part s.prefix ≡ true → IsRow w.lists T s
   pub counted : AreCounted w.lists (holders T)

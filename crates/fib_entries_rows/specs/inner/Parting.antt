@@ -37,7 +37,8 @@ path_at a q = hop_at a q.kind
 -- no list of the prefix's row has it
 abbrev pub IsNotIn : List Row → List PathKept → Prefix → ℕ → Type 0
 IsNotIn rows lists e a =
-    (r : Row) (q : FibSource × ℕ) (paths : List Path) → Contains rows r → r.prefix ≡ e → Contains r.pairs q → content_of lists q.1 ≡ Some paths
+    (r : Row) (q : FibSource × ℕ) (paths : List Path) → Contains rows r → r.prefix ≡ e → Contains r.pairs q
+    → content_of lists q.1 ≡ Some paths
     → list_any (path_at a) paths ≡ false
 
 -- the host's row has the one pair of a next hop that its cover doesn't attach, p alone leads to it, and no other row with several lists has it

@@ -84,7 +84,8 @@ pub record IsClimb (rows : List Row) (p : Prefix) (rank : ℕ) (ranks : Prefix �
 
 -- the row with another rank
 abbrev pub with_rank : ℕ → Row → Row
-with_rank rank r = record { prefix = r.prefix; pairs = r.pairs; looped = r.looped; met = r.met; marked = r.marked; dependants = r.dependants; rank = rank }
+with_rank rank r =
+    record { prefix = r.prefix; pairs = r.pairs; looped = r.looped; met = r.met; marked = r.marked; dependants = r.dependants; rank = rank }
 
 -- how many dependants there are
 abbrev pub width_in : Option Row → ℕ

@@ -161,7 +161,8 @@ pub record IsSettled (v : Known) (S T : Tables) (users : List Path → ℕ) (p :
     (paths : List Path) (own : Own) (late : Option Late) (gone : Option Last) (mid : List Row) (later : List PathKept) : Type 0 where
   pub ordered : IsAscending (map prefix_of mid)
   pub names : (e : Prefix)
-      → Contains (map prefix_of mid) e ↔ (Contains (map prefix_of v.rows) e × (Contains (gone_hosts gone) e → ⊥)) ⊎ Contains (late_hosts late) e
+      → Contains (map prefix_of mid) e ↔ (Contains (map prefix_of v.rows) e × (Contains (gone_hosts gone) e → ⊥))
+      ⊎ Contains (late_hosts late) e
   pub others : (s : Row) → Contains mid s → in_part p (turned_addrs late gone) s.prefix ≡ false
       → (r : Row) × Contains v.rows r × IsButForPart (in_part p (turned_addrs late gone)) r s
       × ((d : Prefix) → in_part p (turned_addrs late gone) d ≡ true → Contains s.dependants d ↔ Contains (targets T d) s.prefix)
@@ -173,7 +174,9 @@ pub record IsSettled (v : Known) (S T : Tables) (users : List Path → ℕ) (p :
   pub led : (s : Row) → Contains mid s → p ≡ s.prefix → (d : Prefix) → Contains s.dependants d ↔ Contains (targets T d) p
   pub led_once : (s : Row) → Contains mid s → p ≡ s.prefix → AllDiffer s.dependants
   pub hosted : (g : Late) (s : Row) → late ≡ Some g → Contains mid s → host g.addr ≡ s.prefix → (c : Prefix)
-      × ((s.pairs ≡ (sources.RecursiveResolution, g.list) ∷ []) × (s.looped ≡ (host_own c g.rank).looped) × (s.met ≡ (host_own c g.rank).met) × (s.marked ≡ (host_own c g.rank).marked) × (s.rank ≡ g.rank) × (targets T (host g.addr) ≡ c ∷ []))
+      × ((s.pairs ≡ (sources.RecursiveResolution, g.list) ∷ []) × (s.looped ≡ (host_own c g.rank).looped)
+      × (s.met ≡ (host_own c g.rank).met) × (s.marked ≡ (host_own c g.rank).marked) × (s.rank ≡ g.rank)
+      × (targets T (host g.addr) ≡ c ∷ []))
   pub host_led : (g : Late) (s : Row) → late ≡ Some g → Contains mid s → host g.addr ≡ s.prefix
       → ((d : Prefix) → Contains s.dependants d ↔ Contains (targets T d) (host g.addr)) × AllDiffer s.dependants
   pub counted : AreCounted later users
@@ -233,7 +236,8 @@ abbrev pub IsFitLate : List Row → List PathKept → Prefix → ℕ → Option 
 IsFitLate rows lists p id late = (g : Late) → late ≡ Some g → IsComing rows lists g × (id ≢ g.list) × (host g.addr ≢ p)
 
 -- the list of the prefix's row was replaced, wherever that stands
-pub record IsExchanged (old new : List Row) (lists later : List PathKept) (p : Prefix) (id : ℕ) (before paths : List Path) (own : Own) : Type 0 where
+pub record IsExchanged (old new : List Row) (lists later : List PathKept) (p : Prefix) (id : ℕ) (before paths : List Path)
+    (own : Own) : Type 0 where
   pub place : ℕ
   pub row : Row
   pub at : slice_get old place ≡ Some row
@@ -246,7 +250,8 @@ IsGoneStill gone raised = (g : Last) → gone ≡ Some g → raised_of raised (h
 
 -- the host that goes is there, and its list is kept and isn't the one that is given
 abbrev pub IsFitGone : List Row → List PathKept → ℕ → Option Last → Type 0
-IsFitGone rows lists id gone = (g : Last) → gone ≡ Some g → Contains (map prefix_of rows) (host g.addr) × IsSome (kept_of lists g.list) × (id ≢ g.list)
+IsFitGone rows lists id gone =
+    (g : Last) → gone ≡ Some g → Contains (map prefix_of rows) (host g.addr) × IsSome (kept_of lists g.list) × (id ≢ g.list)
 
 -- the host that comes isn't among these
 abbrev pub IsUnseen : Option Late → List Prefix → Type 0

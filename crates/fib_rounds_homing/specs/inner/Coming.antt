@@ -34,7 +34,8 @@ pub record IsBrought (k first base n : ℕ) (taken : List Packet) (before after 
   pub places : new ≡ placed old (frames_in steps)
 
 -- of n stations the first came home, and the rest are to come
-pub record IsComing (k first base n : ℕ) (taken : List Packet) (a b : Board) (old new : List (Option Kept)) (done : Bool) (rest : List Station) : Type 0 where
+pub record IsComing (k first base n : ℕ) (taken : List Packet) (a b : Board) (old new : List (Option Kept)) (done : Bool)
+    (rest : List Station) : Type 0 where
   pub at : ℕ
   pub all : at + length rest ≡ n
   pub keeps : but_crew b ≡ but_crew a

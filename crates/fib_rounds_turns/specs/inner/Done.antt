@@ -6,7 +6,8 @@ use Rattle.fib_rounds_turns.specs.Routers.{HasGrown, KeepsCrew, Progress, Router
 use Rattle.fib_rounds_turns.specs.Turns.{Turn}
 
 -- from the router r, whose turn is t
-pub record HasTurned {X : Type 0} (r : Router) (t : Turn) (c d : Control) (q : Progress) (old new : List ℕ) (result : Result X AllocError) : Type 0 where
+pub record HasTurned {X : Type 0} (r : Router) (t : Turn) (c d : Control) (q : Progress) (old new : List ℕ)
+    (result : Result X AllocError) : Type 0 where
   pub stands : Stands d r t.0
   pub grown : HasGrown c d
   pub few : applied_in d ≤ applied_in c + 1
