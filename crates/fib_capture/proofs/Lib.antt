@@ -4,3 +4,4 @@ pub mod Spanning
 pub mod WrittenFiles
 pub mod Pointing
 pub mod Inside
+pub mod Alike

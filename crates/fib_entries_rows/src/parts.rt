@@ -70,6 +70,7 @@ pub fn places_of(alloc: Global, meaning: &Meaning<'_>) -> Result<Vec<Option<usiz
     ensures { IfOk result (λ v. ArePlaced meaning.now (pairs meaning.now) v.items) }
 {
     let pairs = meaning.pairs();
+    // More places than a number counts are more than a vector holds: want of memory.
     let Some(slots) = meaning.entries().len().checked_mul(7) else {
         return Err(AllocError);
     };

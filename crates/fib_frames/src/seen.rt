@@ -22,8 +22,10 @@ pub struct Seen {
 }
 
 // Finds the packets of a capture among the bytes that they were read from. Spans are refused exactly where packets are: memory is all that can be wanted.
+#[tactic(auto, using(fib_capture::proofs::Alike::spans_beside))]
 fn find_packets(alloc: Global, bytes: Vec<u8>, packets: Capture) -> Result<Seen, AllocError>
-    requires { length bytes.items ≤ 268435456 }
+    requires short { length bytes.items ≤ 268435456 }
+    requires read { capture_of bytes.items ≡ Ok packets }
     ensures bytes { IfOk result (λ seen. seen.bytes.items ≡ bytes.items) }
     ensures packets { IfOk result (λ seen. seen.packets ≡ packets) }
     ensures spans { IfOk result (λ seen. spans_of bytes.items ≡ Ok seen.spans) }
@@ -34,7 +36,10 @@ fn find_packets(alloc: Global, bytes: Vec<u8>, packets: Capture) -> Result<Seen,
             packets,
             spans,
         }),
-        Err(_) => Err(AllocError),
+        Err(CaptureError::Memory) => Err(AllocError),
+        Err(CaptureError::Short | CaptureError::Magic | CaptureError::LinkType(_)) => {
+            unreachable!()
+        }
     }
 }
 
