@@ -16,12 +16,17 @@ IsRooted cells = (k c : ℕ) → decoded (slice_index cells k) ≡ words.ToPly c
 abbrev pub IsLeaf : List ℕ → ℕ → Type 0
 IsLeaf cells x = (j c : ℕ) → owner j ≡ x → decoded (slice_index cells j) ≡ words.ToPly c → ⊥
 
--- what a store of w into the cell k asks: a ply is linked below the root or a linked ply, and is unlinked once it is a leaf, or while another
--- cell leads to it
-pub record IsRootedStore (cells : List ℕ) (k w : ℕ) : Type 0 where
-  pub links : (c : ℕ) → decoded w ≡ words.ToPly c → owner k ≢ 0 → LeadsNow cells (owner k)
-  pub unlinks : (c : ℕ) → decoded (slice_index cells k) ≡ words.ToPly c
-      → IsLeaf cells c ⊎ ((j : ℕ) × (j ≢ k) × (decoded (slice_index cells j) ≡ words.ToPly c))
+-- what a store into a cell of x asks, over a word's way and where cells lead: a ply is linked below the root or a linked ply, and that to which
+-- the cell led may go
+pub record KeepsLinked (x : ℕ) (To From Linked MayGo : ℕ → Type 0) : Type 0 where
+  pub links : (c : ℕ) → To c → x ≢ 0 → Linked x
+  pub unlinks : (c : ℕ) → From c → MayGo c
+
+-- a store of w into the cell k: a ply goes once it is a leaf, or while another cell leads to it
+abbrev pub IsRootedStore : List ℕ → ℕ → ℕ → Type 0
+IsRootedStore cells k w =
+    KeepsLinked (owner k) (λ c. decoded w ≡ words.ToPly c) (λ c. decoded (slice_index cells k) ≡ words.ToPly c) (LeadsNow cells)
+    (λ c. IsLeaf cells c ⊎ ((j : ℕ) × (j ≢ k) × (decoded (slice_index cells j) ≡ words.ToPly c)))
 
 -- so a retired edge of a ply leaves before the ply does: its own ply has an edge into it that is current or was retired later, each retirement has
 -- a mark a worker, an older one's marks are ahead of a newer one's, and every retired word is an edge

@@ -11,6 +11,7 @@ use Rattle.fib_core_steady.specs.Aims.{IsLasting}
 use Rattle.fib_core_steady.specs.Names.{Names}
 use Rattle.fib_core_steady.specs.Promise as steady
 use Rattle.fib_core_steady.specs.Promise.{SendsRight}
+use Rattle.fib_core_steady.specs.Rooted.{KeepsLinked}
 use Rattle.fib_core_board.specs.Boards.{Board}
 use Rattle.fib_plane_view.specs.declared.put.Put.{Put}
 use Rattle.fib_plane_view.specs.View.{View, Goes, IsBalance, IsPut, adjacency_end}
@@ -77,9 +78,10 @@ EndsIn p u (words.ToBalance o) = Unit {0}
 EndsIn p u (words.Plain n) = Unit {0}
 
 -- a ply is linked below the root or a linked ply, and unlinked as a leaf
-pub record KeepsRooted (u : View) (x s : ℕ) (w : Word) : Type 0 where
-  pub links : (c : ℕ) → w ≡ words.ToPly c → x ≢ 0 → (y : ℕ) × (t : ℕ) × (u.cell y t ≡ words.ToPly x)
-  pub unlinks : (c t d : ℕ) → u.cell x s ≡ words.ToPly c → u.cell c t ≡ words.ToPly d → ⊥
+abbrev pub KeepsRooted : View → ℕ → ℕ → Word → Type 0
+KeepsRooted u x s w =
+    KeepsLinked x (λ c. w ≡ words.ToPly c) (λ c. u.cell x s ≡ words.ToPly c) (λ c. (y : ℕ) × (t : ℕ) × (u.cell y t ≡ words.ToPly c))
+    (λ c. (t d : ℕ) → u.cell c t ≡ words.ToPly d → ⊥)
 
 -- what a put of w into the cell s of x asks: the promise holds before it and after it, for the same names
 pub record MayPut (p : Promise) (u : View) (x s : ℕ) (w : Word) : Type 0 where

@@ -58,7 +58,7 @@ blank_may p u o i blank less kinds = record {
   names = record { depth = λ x. 0; value = λ x. 0; balance = λ e. None };
   before = blank_serves p u o i blank;
   after = λ v a put. blank_serves p v o (i + 1) (blank_on p u o i blank v less (sent u v 0 i (ToBalance o) a (blank_calm p u o i blank) put) (beside_put u v 0 i (ToBalance o) a kinds blank.root put));
-  rooted = record { links = λ c e. absurd (no_edge c e); unlinks = λ c t d e f. blank.empty i (omega arith) less c (subst (λ (w : Word). leads w c) (sym e) refl) };
+  rooted = record { links = λ c e. absurd (no_edge c e); unlinks = λ c e t d f. blank.empty i (omega arith) less c (subst (λ (w : Word). leads w c) (sym e) refl) };
   ends = tt;
 }
   where

@@ -169,7 +169,7 @@ module _ (wants : Watch) (look : Look) (a : ℕ) (there : ℕ → ℕ → Bool) 
 
   pub prune_may : MayPut wants.promise u x (a / 2 ^ (28 - 4 * d) % 16) (ToBalance o)
   prune_may = may_put wants u pruned.at.kept n x (a / 2 ^ (28 - 4 * d) % 16) (ToBalance o) pruned.at.served pruned.at.kinds (pruned.at.fits.held x last.above.0).0 prune_calm prune_new (λ v put. prune_served v put)
-      (record { links = λ z e ne. absurd (cc); unlinks = λ z t b e f. leaf_only z t b (let k : ToPly z ≡ ToPly c = sym e ∙ last.edge in let m : z ≡ c = cc in m) f }) tt
+      (record { links = λ z e ne. absurd (cc); unlinks = λ z e t b f. leaf_only z t b (let k : ToPly z ≡ ToPly c = sym e ∙ last.edge in let m : z ≡ c = cc in m) f }) tt
     where
       leaf_only : (z t b : ℕ) → z ≡ c → u.cell z t ≡ ToPly b → ⊥
       leaf_only z t b e f =

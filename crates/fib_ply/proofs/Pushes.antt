@@ -193,7 +193,7 @@ module _ (wants : Watch) (there : ℕ → ℕ → Bool) (old new : Look) (pos : 
 
   pub push_may : MayPut wants.promise u x s (ToBalance o)
   push_may = may_put wants u at.kept n x s (ToBalance o) at.served at.kinds (at.fits.held x cell.path.0).0 calm_is is_new (λ v put. served_on v put)
-      (record { links = λ c e ne. absurd (cc); unlinks = λ c t b e f. let g : ToBalance cell.leaf.0 ≡ ToPly c = sym cell.leaf.1 ∙ e in absurd (cc) }) tt
+      (record { links = λ c e ne. absurd (cc); unlinks = λ c e t b f. let g : ToBalance cell.leaf.0 ≡ ToPly c = sym cell.leaf.1 ∙ e in absurd (cc) }) tt
 
   pub push_spare : ahead n u pos ≤ u.spare → 0 < u.spare
   push_spare enough = let k = ahead_some in omega (arith, enough, k)

@@ -163,7 +163,7 @@ module _ (wants : Watch) (there : ℕ → ℕ → Bool) (old new : Look) (pos : 
 
   pub aside_may : MayPut wants.promise u c s (ToBalance o)
   aside_may = may_put wants u at.kept n c s (ToBalance o) at.served at.kinds fresh.kind.0 aside_calm aside_new (λ v put. aside_served v put)
-      (record { links = λ z e ne. absurd (cc); unlinks = λ z t b e f. fresh.below s z (inl e) }) tt
+      (record { links = λ z e ne. absurd (cc); unlinks = λ z e t b f. fresh.below s z (inl e) }) tt
 
 -- one ply more
 pub plus_more : (there : ℕ → ℕ → Bool) (d w e v : ℕ) → there e v ≡ true → plus there d w e v ≡ true
@@ -247,7 +247,7 @@ module _ (wants : Watch) (there : ℕ → ℕ → Bool) (old new : Look) (pos : 
 
   pub link_may : MayPut wants.promise u x s (ToPly c)
   link_may = may_put wants u at.kept n x s (ToPly c) at.served at.kinds (at.fits.held x cell.path.0).0 link_calm link_new (λ v put. link_served v put)
-      (record { links = λ z e ne. ⊎_elim (λ (r : x ≡ 0). absurd (ne r)) (λ (h : (y : ℕ) × (t : ℕ) × (n.is_in y ≡ true) × (u.cell y t ≡ ToPly x)). (h.0, h.1, h.3)) cell.led; unlinks = λ z t b e f. let g : ToBalance o ≡ ToPly z = sym was ∙ e in absurd (cc) }) tt
+      (record { links = λ z e ne. ⊎_elim (λ (r : x ≡ 0). absurd (ne r)) (λ (h : (y : ℕ) × (t : ℕ) × (n.is_in y ≡ true) × (u.cell y t ≡ ToPly x)). (h.0, h.1, h.3)) cell.led; unlinks = λ z e t b f. let g : ToBalance o ≡ ToPly z = sym was ∙ e in absurd (cc) }) tt
 
   -- the address's cell of the new ply
   pub next_cell : (v : View) → IsSent u v x s (ToPly c) → (t : ℕ) → t ≡ a / 2 ^ (28 - 4 * (d + 1)) % 16 → IsBelow a (d + 2) (16 * n.value c + t) → IsCellOf (listed n c true) v a c (d + 1) t

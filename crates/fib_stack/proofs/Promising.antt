@@ -140,7 +140,7 @@ may_put p n u o k w allowed begun serves plane mine lt kind ends loose = record 
   after = λ v a put. put_serves p n u v o k w a begun serves plane mine lt kind loose put;
   rooted = record {
     links = λ c e _. absurd (let h : HasKind u o (words.ToPly c) = subst (HasKind u o) e kind in true≢false (sym h.0 ∙ mine.1));
-    unlinks = λ c t d e _. subst IsBucketWord e (plane.buckets o k mine lt);
+    unlinks = λ c e t d _. subst IsBucketWord e (plane.buckets o k mine lt);
   };
   ends = ends;
 }

@@ -327,7 +327,7 @@ module _ (p : Plane) (told : sound.IsPlane p) (was : IsPlane (view_of p)) (x s :
         let l = h.links d (sym (decoded_encoded z roomy) ∙ is) (λ e. ne (owner_of x s lt ∙ e)) in
         let at = cell_down b l.0 l.1 (words.ToPly x) x refl l.2 in
         (16 * l.0 + l.1, at.1 ∙ ap (λ (i : ℕ). words.ToPly i) (sym (owner_of x s lt))));
-    unlinks = λ d is. inl (λ j e from to. h.unlinks d (j % 16) e (cell_is b x s lt ∙ is) (ap (λ (i : ℕ). (view_of p).cell i (j % 16)) (sym from) ∙ (cell_is b (owner j) (j % 16) (omega arith) ∙ (ap (λ (i : ℕ). word_in b i) (let e : 16 * owner j + j % 16 ≡ j = omega arith in e) ∙ to))));
+    unlinks = λ d is. inl (λ j e from to. h.unlinks d (cell_is b x s lt ∙ is) (j % 16) e (ap (λ (i : ℕ). (view_of p).cell i (j % 16)) (sym from) ∙ (cell_is b (owner j) (j % 16) (omega arith) ∙ (ap (λ (i : ℕ). word_in b i) (let e : 16 * owner j + j % 16 ≡ j = omega arith in e) ∙ to))));
   }
 
   pub may_change : IsStanding (view_of p) x → HasKind (view_of p) x z → ((d : ℕ) → z ≡ words.ToPly d → IsChild n x s d) → KeepsRooted (view_of p) x s z → EndsIn (promise_of b) (view_of p) z → MayChange b (16 * x + s) z

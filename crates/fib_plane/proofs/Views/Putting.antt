@@ -124,7 +124,7 @@ module _ (p : Plane) (told : sound.IsPlane p) (was : IsPlane (view_of p)) (x s :
     rooted_drop : Closes u x w → KeepsRooted u x s words.Drop
     rooted_drop closes = record {
       links = λ c e ne. absurd (no_link c e);
-      unlinks = λ c t d e f. true≢false (sym (was.kinds.ply x s c (inl e)).0 ∙ flat closes);
+      unlinks = λ c e t d f. true≢false (sym (was.kinds.ply x s c (inl e)).0 ∙ flat closes);
     }
 
     abbrev k : ℕ
