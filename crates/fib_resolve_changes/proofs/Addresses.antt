@@ -36,7 +36,7 @@ is_it b a h =
     ap (λ z. address_with z b.addr b.len) ((Decides-eqb b.interface a.interface).0 x.0)
     ∙ (ap (λ z. address_with a.interface z b.len) ((Decides-eqb b.addr a.addr).0 y.0) ∙ ap (λ z. address_with a.interface a.addr z) ((Decides-eqb b.len a.len).0 y.1))
 
-its_own : (a : Address) (q : Prefix) (x : Prefix) → Contains (own_prefixes a) q → q ≡ x → is_own a x ≡ true
+pub its_own : (a : Address) (q : Prefix) (x : Prefix) → Contains (own_prefixes a) q → q ≡ x → is_own a x ≡ true
 its_own a q x c e = any_in (same_prefix x) (own_prefixes a) q c ((same_prefix-Decides x q).1 (sym e))
 
 pub single : (y x : Pair) → Contains (y ∷ []) x → y ≡ x
@@ -46,7 +46,7 @@ pub when : (b : Bool) (y x : Pair) → Contains (cond b (y ∷ []) []) x → y �
 when true y x c = single y x c
 when false y x c = absurd (Contains-nil x c)
 
-connected_own : (a : Address) (x : Pair) → Contains (connected_pairs a) x → is_own a x.prefix ≡ true
+pub connected_own : (a : Address) (x : Pair) → Contains (connected_pairs a) x → is_own a x.prefix ≡ true
 connected_own a x c =
     elim (Contains-append_cases (cond (nat_lt a.len 32) (one (masked a.addr a.len) sources.Interface (kinds.Attached a.interface) ∷ []) []) (one (host a.addr) sources.Interface kinds.Local ∷ []) x c) [
       | inl near ↦ its_own a (masked a.addr a.len) x.prefix (0, omega arith, refl) (ap (λ z. z.prefix) (when (nat_lt a.len 32) _ x near))
@@ -60,10 +60,10 @@ edge_of all y x c = by (is_address all y) refl c
     by true e h = absurd (Contains-nil x h)
     by false e h = (e, single _ x h)
 
-edge_in : (all : List Address) (y : ℕ) (x : Pair) → is_address all y ≡ false → one (host y) sources.Interface kinds.Drop ≡ x → Contains (edge_pair all y) x
+pub edge_in : (all : List Address) (y : ℕ) (x : Pair) → is_address all y ≡ false → one (host y) sources.Interface kinds.Drop ≡ x → Contains (edge_pair all y) x
 edge_in all y x quiet is = rw quiet (0, omega arith, is)
 
-edges_own : (a : Address) (y : ℕ) → Contains (edge_addresses a) y → is_own a (host y) ≡ true
+pub edges_own : (a : Address) (y : ℕ) → Contains (edge_addresses a) y → is_own a (host y) ≡ true
 edges_own a y c = by (nat_le a.len 30) c
   where
     by : (b : Bool) → Contains (cond b ((masked a.addr a.len).bits ∷ ((masked a.addr a.len).bits + size_of a.len - 1) ∷ []) []) y → is_own a (host y) ≡ true

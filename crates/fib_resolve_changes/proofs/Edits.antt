@@ -93,7 +93,7 @@ module _ (S : Tables) (routes : List Route) (prefix : Prefix) (source : FibSourc
       let q = neither (has_hop prefix source S.routes a) (has_hop prefix source routes a) quiet in
       (hop_moved S.routes routes agree a q.0, hop_moved routes S.routes (λ r off. ((agree r off).1, (agree r off).0)) a q.1)
 
-is_itself : (new : Route) → is_route new.prefix new.source new ≡ true
+pub is_itself : (new : Route) → is_route new.prefix new.source new ≡ true
 is_itself new = rw ((same_prefix-Decides new.prefix new.prefix).1 refl) ((Decides-eqb (source_rank new.source) (source_rank new.source)).1 refl)
 
 pub set_agrees : (new : Route) (rs : List Route) → RoutesAgree new.prefix new.source rs (set_route new rs)

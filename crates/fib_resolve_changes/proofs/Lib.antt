@@ -12,3 +12,9 @@ pub mod EditLaws
 pub mod Prefixed
 pub mod MarkLaws
 pub mod Differing
+pub mod Reached
+pub mod Moved
+pub mod Unlooked
+pub mod Named
+pub mod Caught
+pub mod Moves

@@ -91,6 +91,10 @@ pub near_host : (a i : ℕ) → (near_pair a i).prefix ≡ host a
 unfolding near_pair
 near_host a i = refl
 
+pub near_is : (a i : ℕ) → near_pair a i ≡ one (host a) sources.Adjacency (kinds.Hop a i)
+unfolding near_pair
+near_is a i = refl
+
 pub derived_host : (S : Tables) (a : ℕ) → (derived_pair S a).prefix ≡ host a
 unfolding derived_pair
 derived_host S a = refl

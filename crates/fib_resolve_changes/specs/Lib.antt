@@ -4,3 +4,7 @@ pub mod Affected
 pub mod Ranks
 pub mod Differ
 pub mod Wanted
+pub mod Reached
+pub mod Looked
+pub mod Named
+pub mod Moves

@@ -1,22 +1,31 @@
 //! Laws on what changes touch, each the contract of a function that does nothing.
 
-ghost use Rattle.std.specs.Prelude.{◌≡◌, ◌⊎◌, ◌↔◌, ℕ, List, [], ◌∷◌, Bool, true, false, Contains};
+ghost use Rattle.std.specs.Prelude.{◌≡◌, ◌⊎◌, ◌↔◌, ◌≤◌, ◌<◌, ◌+◌, ◌^◌, ℕ, List, [], ◌∷◌, Bool, true, false, Contains, length, filter};
+ghost use Rattle.std.specs.List.{IsDistinct};
+ghost use Rattle.std.specs.Set.{is_member};
 ghost use Rattle.fib_reach.specs.Walks.{Reaches, Leads, Next};
-ghost use Rattle.fib_addr.specs.Prefixes.{Prefix, IsPrefix};
+ghost use Rattle.fib_addr.specs.Prefixes.{Prefix, IsPrefix, host, same_prefix};
 ghost use Rattle.fib_resolve.specs.declared.types.Tables.{Tables};
 ghost use Rattle.fib_resolve.specs.declared.types.Edit.{Edit};
 ghost use Rattle.fib_resolve.specs.declared.types.Edit.TheVariants as edits;
-ghost use Rattle.fib_resolve.specs.Loops.{looped, targets};
-ghost use Rattle.fib_resolve.specs.Pairs.{entries};
+ghost use Rattle.fib_resolve.specs.Loops.{looped, targets, Kept};
+ghost use Rattle.fib_resolve.specs.Pairs.{entries, cover};
+ghost use Rattle.fib_resolve.specs.Sizes.{size};
+ghost use Rattle.fib_resolve.specs.declared.pairs.Adjacency.{Adjacency};
 ghost use Rattle.fib_resolve.specs.Tables.{IsSound};
 ghost use Rattle.fib_resolve.specs.Edits.{edited};
 ghost use Rattle.fib_resolve.specs.Touched.{is_touched, differ};
-ghost use Rattle.fib_resolve_changes.specs.Sources.{ArePrefixes, HoldsPrefixes, SameSources, SamePairs};
+ghost use Rattle.fib_resolve_changes.specs.Sources.{ArePrefixes, HoldsPrefixes, SameSources, SamePairs, SameEntry, BaseCaught, HopsCaught, NeighborsCaught};
 ghost use Rattle.fib_resolve_changes.specs.Causes.{IsCaught, IsThrough, Cause, Within};
 ghost use Rattle.fib_resolve_changes.specs.Affected.{affected_by};
 ghost use Rattle.fib_resolve_changes.specs.Differ.{Differ, change_of};
 ghost use Rattle.fib_resolve_changes.specs.Ranks.{Falls, has_entry, IsRanked};
 ghost use Rattle.fib_resolve_changes.specs.Wanted.{aim_by};
+ghost use Rattle.fib_resolve_changes.specs.declared.change.Change.{Change};
+ghost use Rattle.fib_resolve_changes.specs.Named.{own_in, hop_in, near_in};
+ghost use Rattle.fib_resolve_changes.specs.Looked.{IsHosted, IsPassed, AreLooked, AreAddresses};
+ghost use Rattle.fib_resolve_changes.specs.Reached.{IsReached, HoldsTouched};
+ghost use Rattle.fib_resolve_changes.specs.Moves.{AreMoves, there_of};
 ghost use Rattle.fib_resolve.specs.Aims.{aim, marked_list};
 ghost use Rattle.fib_resolve.specs.Forwarding.{forwards};
 
@@ -103,4 +112,50 @@ pub fn untouched_keeps_marks()
 pub fn untouched_stays()
     ensures there { (S T : Tables) (e : Prefix) → is_touched S T e ≡ false → has_entry S e ≡ true → has_entry T e ≡ true }
     ensures back { (S T : Tables) (e : Prefix) → is_touched S T e ≡ false → has_entry T e ≡ true → has_entry S e ≡ true }
+{}
+
+/// Ranks that are lowered in the part to which changed entries lead, and fall there, fall along all edges that are left without looped
+/// paths; outside that part none moves, and no entry of before is raised.
+pub fn lowered_ranks_fall()
+    ensures { (S T : Tables) (changed part : Prefix → Bool) (old new : Prefix → ℕ) → IsSound S → IsSound T →
+        IsReached S T changed part → Falls S old → ((e : Prefix) → part e ≡ false → new e ≡ old e) →
+        ((e : Prefix) → Contains (entries S) e → new e ≤ old e) →
+        ((e t : Prefix) → part e ≡ true → Kept T e t → new t < new e) → Falls T new }
+{}
+
+/// Of two lists of prefixes without repeats that differ inside a third alone, that third tells how much longer one is.
+pub fn lengths_move_inside()
+    ensures { (us vs xs : List Prefix) → IsDistinct same_prefix us → IsDistinct same_prefix vs → IsDistinct same_prefix xs →
+        ((q : Prefix) → is_member same_prefix xs q ≡ false → is_member same_prefix us q ≡ is_member same_prefix vs q) →
+        length vs + length (filter (is_member same_prefix us) xs) ≡ length us + length (filter (is_member same_prefix vs) xs) }
+{}
+
+/// An address that a change passes by (`IsPassed`) keeps its pairs, and its cover where a pair of it depends on that.
+pub fn unlooked_keeps_pairs()
+    ensures { (S T : Tables) (a : ℕ) → a < 2 ^ 32 → ArePrefixes S → ArePrefixes T → IsPassed S T a →
+        SamePairs S T (host a) × (IsHosted S a → cover S a ≡ cover T a) }
+{}
+
+/// Beside what a change can touch nothing is touched, and each entry is the same.
+pub fn nothing_is_touched_beside()
+    ensures { (S T : Tables) (changed part written : Prefix → Bool) → IsSound S → IsSound T → HoldsTouched S T changed part written →
+        (e : Prefix) → written e ≡ false → (is_touched S T e ≡ false) × SameEntry S T e }
+{}
+
+/// What changes name are all prefixes whose base pairs, and all addresses whose next hops or neighbors, can be others.
+pub fn changes_name_sources()
+    ensures { (list : List Change) (S T : Tables) → Differ list S T →
+        BaseCaught S T (own_in list) × HopsCaught S T (hop_in list S T) × NeighborsCaught S T (near_in list) }
+{}
+
+/// What is looked at, as the changes and the covers name it, has each entry that is another.
+pub fn looks_catch_changes()
+    ensures { (list : List Change) (S T : Tables) (looked changed : Prefix → Bool) → IsSound S → IsSound T → Differ list S T →
+        ArePrefixes S → ArePrefixes T → AreAddresses S → AreLooked list S T looked changed → IsCaught S T changed }
+{}
+
+/// How much larger tables are after a change is told by what comes, goes and changes: by how many of these are objects of each.
+pub fn sizes_move_with_entries()
+    ensures { (S T : Tables) (moved on_way changed : List Prefix) (ends : List Adjacency) → AreMoves S T moved on_way changed ends →
+        size T + there_of S moved on_way ends ≡ size S + there_of T moved on_way ends }
 {}
