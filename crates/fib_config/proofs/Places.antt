@@ -1,6 +1,6 @@
 -- A route put in its place, and taken back.
 use Rattle.std.proofs.Common.{arith, ◌≡◌, Bool, ℕ, zero, suc, ◌-◌, ◌≤◌, ◌<◌, List, [], ◌∷◌, ◌++◌, length, take, inl, inr, refl, sym, ap, ◌∙◌, true, false}
-use Rattle.std.specs.Prelude.{slice_set, slice_index_or, nat_lt}
+use Rattle.std.specs.Prelude.{Some, None, find, option_map, slice_set, slice_index_or, nat_lt}
 use Rattle.std.specs.List.{list_any, insert, remove}
 use Rattle.std.proofs.lemmas.Bool.{lt-ltb, le-ltb, le-leb}
 use Rattle.fib_addr.specs.Prefixes.{Prefix}
@@ -8,6 +8,7 @@ use Rattle.fib_resolve.specs.declared.types.FibSource.{FibSource}
 use Rattle.fib_base_list.proofs.Lists.{either}
 use Rattle.fib_resolve.specs.Tables.{is_route, same_neighbor}
 use Rattle.fib_resolve.specs.Edits.{set_route, set_neighbor, paths_at}
+use Rattle.fib_resolve.specs.Resolution.{mac_of}
 use Rattle.fib_resolve.specs.declared.types.Neighbor.{Neighbor}
 use Rattle.fib_resolve.specs.declared.types.Route.{Route}
 use Rattle.fib_resolve.specs.declared.types.Tables.{Tables}
@@ -53,6 +54,31 @@ paths_nowhere prefix source (q ∷ rs) l =
       | inl is ↦ absurd (let k = rw is at l in omega (arith, k))
       | inr isnt ↦ rw isnt (paths_nowhere prefix source rs (omega (arith, (rw isnt at l))))
     ]
+
+-- the MAC at the place is that of the neighbor
+pub mac_there : (S : Tables) (interface addr : ℕ) (n : Neighbor) → place_of (is_neighbor interface addr) S.neighbors < length S.neighbors
+    → n ≡ slice_index_or S.neighbors (place_of (is_neighbor interface addr) S.neighbors) n → Some n.mac ≡ mac_of S interface addr
+mac_there S interface addr n l e = ap (option_map (λ m. m.mac)) (by S.neighbors l e)
+  where
+    by : (ns : List Neighbor) → place_of (is_neighbor interface addr) ns < length ns → n ≡ slice_index_or ns (place_of (is_neighbor interface addr) ns) n
+        → Some n ≡ find (is_neighbor interface addr) ns
+    by [] l e = absurd (omega (arith, l))
+    by (m ∷ ms) l e =
+        elim (either (is_neighbor interface addr m)) [
+          | inl is ↦ rw is (ap Some (rw is at e))
+          | inr isnt ↦ rw isnt (by ms (omega (arith, (rw isnt at l))) (rw isnt at e))
+        ]
+
+pub mac_nowhere : (S : Tables) (interface addr : ℕ) → length S.neighbors ≤ place_of (is_neighbor interface addr) S.neighbors → None ≡ mac_of S interface addr
+mac_nowhere S interface addr l = ap (option_map (λ m. m.mac)) (by S.neighbors l)
+  where
+    by : (ns : List Neighbor) → length ns ≤ place_of (is_neighbor interface addr) ns → None ≡ find (is_neighbor interface addr) ns
+    by [] l = refl
+    by (m ∷ ms) l =
+        elim (either (is_neighbor interface addr m)) [
+          | inl is ↦ absurd (let k = rw is at l in omega (arith, k))
+          | inr isnt ↦ rw isnt (by ms (omega (arith, (rw isnt at l))))
+        ]
 
 -- there is one exactly where its place is within the list
 within : {X : Type 0} (is : X → Bool) (xs : List X) → list_any is xs ≡ true → place_of is xs < length xs

@@ -1,7 +1,11 @@
 // The configuration.
-ghost use Rattle.std.specs.Prelude.{◌≡◌, ℕ, ◌≤◌, ◌<◌, ◌^◌, ◌-◌, OnOk, OnErr, IfOk, IfErr, None, Ok, length};
+ghost use Rattle.std.specs.Prelude.{◌≡◌, ℕ, ◌≤◌, ◌<◌, ◌^◌, ◌-◌, OnOk, OnErr, IfOk, IfErr, None, Ok, filter, length};
 ghost use Rattle.std.specs.List.{AllByRecursion};
+ghost use Rattle.fib_addr.specs.Prefixes.{contains};
 ghost use Rattle.fib_resolve.specs.Tables.{fresh, IsSound};
+ghost use Rattle.fib_resolve.specs.Forwarding.{is_up};
+ghost use Rattle.fib_resolve.specs.Resolution.{mac_of};
+ghost use Rattle.fib_resolve_changes.specs.Affected.{is_own};
 ghost use Rattle.fib_resolve.specs.Edits.{edited, paths_at};
 ghost use Rattle.fib_resolve.specs.Refusals.{refused, edited_in_turn, reasons, first_reason};
 ghost use Rattle.fib_config.specs.Undone.{undone, undone_all};
@@ -12,9 +16,9 @@ ghost use Rattle.fib_config.specs.Config.{TellsRefusal, TellsFirstRefused};
 use crate::digest::Digest;
 use crate::errors::{BatchError, EditError};
 use crate::undo::{Back, Edited, EditedAll, Undo};
-use crate::{changes, edits};
-use fib_addr::Prefix;
-use fib_resolve::{Duplicate, Edit, FibSource, List, Path, Refusal, Tables};
+use crate::{changes, edits, lookups};
+use fib_addr::{Addr, Mac, Prefix};
+use fib_resolve::{Address, Duplicate, Edit, FibSource, List, Neighbor, Path, Refusal, Tables};
 use std::alloc::{AllocError, Global};
 use std::marker::Model;
 
@@ -87,6 +91,38 @@ impl Config {
         ensures { result.now ≡ paths_at prefix source self.now.tables.routes }
     {
         changes::paths_at(prefix, source, &self.held, &self.digest)
+    }
+
+    /// Whether the interface of that number is up; false where there is no such interface.
+    pub fn is_up(&self, interface: u32) -> bool
+        ensures { result ≡ is_up self.now.tables interface }
+    {
+        lookups::is_up(interface, &self.held)
+    }
+
+    /// The MAC of the neighbor of that interface and address, whether or not it has an entry; None where there is no such neighbor.
+    ///
+    /// It takes no search where the last edits left the neighbors' keys known, as an edit of a neighbor does unless memory was wanted.
+    pub fn mac_of(&self, interface: u32, addr: Addr) -> Option<Mac>
+        ensures { result ≡ mac_of self.now.tables interface addr }
+    {
+        lookups::mac_of(interface, addr, &self.held, &self.digest)
+    }
+
+    /// The addresses among whose own prefixes that one is, in the tables' order: those of which it is the prefix, the host, or the lowest
+    /// or highest address of the prefix. An error means that memory ran out.
+    #[tactic(auto, using(fib_resolve::proofs::Sound::short_addresses))]
+    pub fn addresses_at(&self, prefix: Prefix) -> Result<Vec<Address>, AllocError>
+        ensures { IfOk result (λ v. v.items ≡ filter (λ a. is_own a prefix) self.now.tables.addresses) }
+    {
+        lookups::addresses_at(self.alloc, prefix, self.held.addresses.as_slice())
+    }
+
+    /// The neighbors whose addresses the prefix contains, in the tables' order. An error means that memory ran out.
+    pub fn neighbors_inside(&self, prefix: Prefix) -> Result<Vec<Neighbor>, AllocError>
+        ensures { IfOk result (λ v. v.items ≡ filter (λ n. contains prefix n.addr) self.now.tables.neighbors) }
+    {
+        lookups::neighbors_inside(self.alloc, prefix, self.held.neighbors.as_slice())
     }
 
     /// A configuration of the same tables and room.

@@ -9,6 +9,7 @@ mod config;
 mod digest;
 mod edits;
 mod errors;
+mod lookups;
 mod reasons;
 mod sizes;
 mod undo;
