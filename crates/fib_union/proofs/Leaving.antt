@@ -73,14 +73,8 @@ module _ (gone : ℕ) (os : List RetiredEdge) where
   pub turned : (stay : ℕ) (turn cut : List RetiredEdge) → stay ≡ length os - gone → gone ≤ length os → turn ≡ drop gone os ++ take gone os → cut ≡ take stay turn → cut ≡ drop gone os
   turned stay turn cut s le e f = f ∙ (ap (λ (l : List RetiredEdge). take stay l) e ∙ take_at (drop gone os) (take gone os) stay (length-drop gone os ∙ sym s))
 
-  pub turned_starts : (n : ℕ) (cut : List RetiredEdge) → cut ≡ drop gone os → All (StartsBelow n) (map plain os) → All (StartsBelow n) (map plain cut)
-  turned_starts n cut e all = subst (λ (l : List RetiredEdge). All (StartsBelow n) (map plain l)) (sym e) (λ k d lt.
-      let there : map plain (drop gone os) ≡ drop gone (map plain os) = sym (drop-map plain gone os) in
-      let l : length (map plain (drop gone os)) ≡ length (map plain os) - gone = ap (λ (cs : List (ℕ × ℕ)). length cs) there ∙ length-drop gone (map plain os) in
-      subst (λ (c : ℕ × ℕ). StartsBelow n c) (sym (ap (λ (cs : List (ℕ × ℕ)). get_or cs k d) there ∙ get_or-drop gone (map plain os) k d)) (all (gone + k) d (omega arith)))
-
-  pub turned_plain : (cut linked end : List RetiredEdge) → cut ≡ drop gone os → map plain linked ≡ map plain cut → end ≡ linked → map plain end ≡ drop gone (map plain os)
-  turned_plain cut linked end e f g = ap (λ (l : List RetiredEdge). map plain l) g ∙ (f ∙ (ap (λ (l : List RetiredEdge). map plain l) e ∙ sym (drop-map plain gone os)))
+  pub turned_plain : (cut : List RetiredEdge) → cut ≡ drop gone os → map plain cut ≡ drop gone (map plain os)
+  turned_plain cut e = ap (λ (l : List RetiredEdge). map plain l) e ∙ sym (drop-map plain gone os)
 
 -- what a borrowed list gives back
 pub given_back : {A : Type 0} (n : ℕ) (xs ys : List A) → length xs ≡ n → take n (xs ++ ys) ≡ xs

@@ -1,4 +1,5 @@
 pub mod Backed
+pub mod Bases
 pub mod Chains
 pub mod Counts
 pub mod Cycling

@@ -19,9 +19,9 @@ get_or-map f [] k d e lt = absurd (omega arith)
 get_or-map f (x ∷ xs) zero d e lt = refl
 get_or-map f (x ∷ xs) (suc k) d e lt = get_or-map f xs k d e (omega arith)
 
-pub receded_all : (gone : ℕ) (old now : List Progress) (i : ℕ) → length now ≡ length old → length old ≤ i → ((k : ℕ) (d : Progress) → k < i → get_or now k d ≡ receded gone (get_or old k d)) → now ≡ map (receded gone) old
-receded_all gone old now i len all done =
-    same_lists now (map (receded gone) old) (len ∙ sym (length-map old (receded gone))) (λ k d lt. done k d (omega arith) ∙ sym (get_or-map (receded gone) old k d d (omega arith)))
+pub changed_all : {A : Type 0} (f : A → A) (old now : List A) (i : ℕ) → length now ≡ length old → length old ≤ i → ((k : ℕ) (d : A) → k < i → get_or now k d ≡ f (get_or old k d)) → now ≡ map f old
+changed_all f old now i len all done =
+    same_lists now (map f old) (len ∙ sym (length-map old f)) (λ k d lt. done k d (omega arith) ∙ sym (get_or-map f old k d d (omega arith)))
 
 -- one look
 

@@ -125,5 +125,8 @@ module _ (edges : List (Option ℕ)) (cs : List (ℕ × ℕ)) (from to : ℕ) (s
         | inr q ↦ (let t = b y q in (t.0, subst (λ (l : List ℕ). Contains l y) all.1 t.1))
       ]))
 
-pub older_at : (os : List RetiredEdge) (n : ℕ) (newest : List ℕ) (x i : ℕ) → IsLinked n newest os → i < length os → owner (get_or os i no_copy).cell ≡ x → IsNewest x (take i os) (get_or os i no_copy).older
-older_at os n newest x i h lt own = subst (λ (y : ℕ). IsNewest y (take i os) (get_or os i no_copy).older) own (h.older i no_copy lt)
+pub older_at : (os : List RetiredEdge) (n : ℕ) (newest : List ℕ) (x at : ℕ) → IsLinked n newest os → 0 < at → at - 1 < length os → owner (get_or os (at - 1) no_copy).cell ≡ x → IsNewest x (take (at - 1) os) (at - (get_or os (at - 1) no_copy).back)
+older_at os n newest x at h some lt own =
+    let o = get_or os (at - 1) no_copy in
+    let e : at - 1 + 1 - o.back ≡ at - o.back = omega arith in
+    subst (λ (y : ℕ). IsNewest y (take (at - 1) os) (at - o.back)) own (subst (λ (m : ℕ). IsNewest (owner o.cell) (take (at - 1) os) m) e (h.older (at - 1) no_copy lt))

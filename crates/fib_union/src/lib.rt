@@ -7,6 +7,7 @@
 
 pub mod laws;
 mod links;
+mod newest;
 mod reach;
 mod retired;
 mod steps;

@@ -6,6 +6,7 @@ ghost use Rattle.fib_reach.specs.Walks.{Reaches};
 ghost use Rattle.fib_union.specs.Unions.{owner, edge_at};
 ghost use Rattle.fib_union.specs.inner.Fields.{plain, CellRuns, CopyRuns, Runs, IsGrown, IsLinked, IsWithin};
 
+use crate::newest::Newest;
 use crate::retired::RetiredEdge;
 use fib_reach::Search;
 
@@ -49,7 +50,7 @@ fn note_cells(edges: &[Option<u32>], search: &mut Search, node: u32, to: u32) ->
 /// Notes the targets of a node's retired edges, newest first, up to the one that is looked for.
 fn note_copies(
     retired: &[RetiredEdge],
-    newest: &[u32],
+    newest: &Newest,
     search: &mut Search,
     node: u32,
     to: u32,
@@ -63,14 +64,14 @@ fn note_copies(
     ensures found { OnTrue result (CopyRuns (map plain retired.now) node to) }
     ensures missed { OnFalse result ((y : ℕ) → CopyRuns (map plain retired.now) node y → (y ≢ to) × Contains search.new.seen y) }
 {
-    let mut at = newest[node as usize];
+    let mut at = newest.of(node as usize);
     while at > 0 {
         let old = retired[at as usize - 1];
         if old.to == to {
             return true;
         }
         search.note(old.to);
-        at = old.older;
+        at = at.saturating_sub(old.back);
     }
     false
 }
@@ -79,7 +80,7 @@ fn note_copies(
 pub fn reaches(
     edges: &[Option<u32>],
     retired: &[RetiredEdge],
-    newest: &[u32],
+    newest: &Newest,
     search: &mut Search,
     from: u32,
     to: u32,

@@ -7,6 +7,7 @@ ghost use Rattle.fib_union.specs.Unions.{owner, edge_at, one, into, Edge, HasEdg
 ghost use Rattle.fib_union.specs.declared.retired.RetiredEdge.{RetiredEdge as Copies};
 ghost use Rattle.fib_union.specs.inner.Fields.{ins_of, plain, IsGrown, Runs, IsLinked, StartsBelow};
 
+use crate::newest::Newest;
 use crate::retired::{Progress, RetiredEdge};
 use crate::{links, reach, steps};
 use fib_reach::Search;
@@ -22,8 +23,7 @@ pub struct Union {
     ins: Vec<u64>,
     /// The copies, oldest first.
     retired: Vec<RetiredEdge>,
-    /// One more than the place of the newest copy from each object, or 0.
-    newest: Vec<u32>,
+    newest: Newest,
     /// For each worker, up to which of the copies its looks have come.
     progress: Vec<Progress>,
     /// Where copies led that have left, and that no call has answered yet.
@@ -62,7 +62,7 @@ impl Model for Union {
           (vec_capacity u.retired) (length u.retired.items) (vec_capacity u.left) (length u.left.items);
     } };
 
-    ghost invariant = { λ u. IsKept (length u.ins.items) u.edges.items u.ins.items u.retired.items u.newest.items u.progress.items
+    ghost invariant = { λ u. IsKept (length u.ins.items) u.edges.items u.ins.items u.retired.items u.newest u.progress.items
         u.left.items (vec_capacity u.left) × (u.search.nodes ≡ length u.ins.items) };
 }
 
@@ -138,14 +138,13 @@ fn give_up(gone: &[RetiredEdge], ins: &mut [u64], left: &mut Vec<u32>)
 /// The oldest copies leave.
 fn drop_oldest(
     retired: &mut Vec<RetiredEdge>,
-    newest: &mut [u32],
+    newest: &mut Newest,
     ins: &mut [u64],
     left: &mut Vec<u32>,
     gone: usize,
 )
     requires gone { gone ≤ length retired.old.items }
     requires linked { IsLinked (length newest.old) newest.old retired.old.items }
-    requires starts { All (StartsBelow (length newest.old)) (map plain retired.old.items) }
     requires targets { All (λ (c : ℕ × ℕ). c.1 < length ins.old) (map plain retired.old.items) }
     requires counted { (o : ℕ) → count_by (λ (c : ℕ × ℕ). eqb c.1 o) (map plain retired.old.items) ≤ slice_index ins.old o }
     requires few { length retired.old.items < 2 ^ 32 }
@@ -163,11 +162,10 @@ fn drop_oldest(
         return;
     }
     give_up(&retired[..gone], ins, left);
-    links::unlink(retired.as_slice(), newest);
+    newest.leave(gone as u32);
     retired.rotate_left(gone);
     let stay = retired.len() - gone;
     retired.truncate(stay);
-    links::link(retired, newest);
 }
 
 impl Union {
@@ -183,7 +181,7 @@ impl Union {
             edges: Vec::from_elem(alloc, None, 16 * objects as usize)?,
             ins: Vec::from_elem(alloc, 0, objects as usize)?,
             retired: Vec::new(alloc),
-            newest: Vec::from_elem(alloc, 0, objects as usize)?,
+            newest: Newest::new(alloc, objects)?,
             progress: Vec::from_elem(
                 alloc,
                 Progress {
@@ -263,7 +261,7 @@ impl Union {
         reach::reaches(
             self.edges.as_slice(),
             self.retired.as_slice(),
-            self.newest.as_slice(),
+            &self.newest,
             &mut self.search,
             to,
             from,
@@ -320,7 +318,7 @@ impl Union {
 
     /// A look at one worker's pass word: it marks the copies, and those that are then passed for all workers leave, oldest first.
     ///
-    /// Costs the number of workers, and where copies leave the number of copies.
+    /// Costs the number of workers, and where copies leave, their number; the others move up, unread.
     pub fn look(&mut self, worker: usize, word: u64)
         requires { worker < self.old.workers }
         ensures union { self.new.union ≡ scanned worker word self.old.union }

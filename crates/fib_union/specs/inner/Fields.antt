@@ -40,12 +40,12 @@ pub record IsNewest (x : ℕ) (os : List RetiredEdge) (m : ℕ) : Type 0 where
   pub after : (i : ℕ) (d : RetiredEdge) → m ≤ i → i < length os → owner (slice_index_or os i d).cell ≢ x
   pub here : (i : ℕ) (d : RetiredEdge) → m ≡ suc i → owner (slice_index_or os i d).cell ≡ x
 
--- each object has its newest copy, and each copy the next older one of its object
+-- each object has its newest copy, and each copy tells how far back the next older one of its object is
 pub record IsLinked (n : ℕ) (newest : List ℕ) (os : List RetiredEdge) : Type 0 where
   pub size : length newest ≡ n
   pub begins : (x : ℕ) → x < n → IsNewest x os (slice_index newest x)
   pub older : (i : ℕ) (d : RetiredEdge) → i < length os
-      → IsNewest (owner (slice_index_or os i d).cell) (take i os) (slice_index_or os i d).older
+      → IsNewest (owner (slice_index_or os i d).cell) (take i os) (i + 1 - (slice_index_or os i d).back)
 
 -- all that is new at the end is such
 abbrev pub IsGrown : (ℕ → Type 0) → List ℕ → List ℕ → Type 0

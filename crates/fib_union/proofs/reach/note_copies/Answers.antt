@@ -33,7 +33,7 @@ loop-at-preserved c =
           (λ q e. subst (λ (z : ℕ). CopyRuns (map plain c.args.retired.now) c.args.node z) (sym e) (runs_here c.args.retired.now c.args.node c.args.to i.below c.loop-at.at i.within i.newest c.loop-at-test.true no_copy));
       below = c.loop-at.at - 1;
       within = omega (arith, lt);
-      newest = older_at c.args.retired.now (length c.args.newest.now) c.args.newest.now c.args.node (c.loop-at.at - 1) c.requires.linked lt own;
+      newest = rw c.saturating_sub-at.ensures (older_at c.args.retired.now (length c.args.newest.now) c.args.newest.now c.args.node c.loop-at.at c.requires.linked c.loop-at-test.true lt own);
       noted = passed_more c.args.retired.now c.args.node c.args.to i.below c.loop-at.at i.within i.newest c.loop-at-test.true c.loop-at.search.seen c.note.new.self.seen y refl c.note.ensures.grown c.if-old-to.false c.note.ensures.has i.noted;
     }
 

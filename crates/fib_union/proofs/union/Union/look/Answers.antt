@@ -26,7 +26,7 @@ drop_oldest-requires-clause-gone c =
 
 pub drop_oldest-requires-clause-counted : goal.drop_oldest-requires-clause-counted
 drop_oldest-requires-clause-counted c =
-    rw c.deref_mut-2.ensures.value (all_counted c.self.invariant.0)
+    rw c.deref_mut.ensures.value (all_counted c.self.invariant.0)
 
 pub recede-requires : goal.recede-requires
 recede-requires c =
@@ -41,7 +41,7 @@ recede-requires c =
     let kept : IsProgress (length os) q = subst (λ (m : ℕ). IsProgress m q) count c.look_on.ensures.kept in
     let told : (i : ℕ) → i < length os → mark_of i q ≡ next_mark c.args.word (mark_of i p) = (λ i lt. c.look_on.ensures.marks i (omega (arith, lt, count))) in
     let gone_is : c.least-gone.result ≡ least_of (length os) (set ps c.args.worker q) = c.least-gone.ensures ∙ (ap (λ (l : List Progress). least_of c.len-count.result l) c.as_slice.ensures.value ∙ ap (λ (m : ℕ). least_of m (set ps c.args.worker q)) count) in
-    rw (c.deref_mut-3.ensures.value, gone_is) (may_recede h c.args.worker c.args.word p q here c.index-progress.ensures kept told)
+    rw (c.deref_mut-2.ensures.value, gone_is) (may_recede h c.args.worker c.args.word p q here c.index-progress.ensures kept told)
 
 pub invariant_of-self : goal.invariant_of-self
 invariant_of-self c =
@@ -57,15 +57,14 @@ invariant_of-self c =
     let told : (i : ℕ) → i < length os → mark_of i q ≡ next_mark c.args.word (mark_of i p) = (λ i lt. c.look_on.ensures.marks i (omega (arith, lt, count))) in
     let gone_is : c.least-gone.result ≡ least_of (length os) (set ps c.args.worker q) = c.least-gone.ensures ∙ (ap (λ (l : List Progress). least_of c.len-count.result l) c.as_slice.ensures.value ∙ ap (λ (m : ℕ). least_of m (set ps c.args.worker q)) count) in
     let e_os : map plain c.drop_oldest.new.retired.items ≡ drop (least_of (length os) (set ps c.args.worker q)) (map plain os) = c.drop_oldest.ensures.retired ∙ ap (λ (g : ℕ). drop g (map plain os)) gone_is in
-    let e_ps : c.recede.new.progress ≡ map (receded (least_of (length os) (set ps c.args.worker q))) (set ps c.args.worker q) = c.recede.ensures ∙ (ap (λ (l : List Progress). map (receded c.least-gone.result) l) c.deref_mut-3.ensures.value ∙ ap (λ (g : ℕ). map (receded g) (set ps c.args.worker q)) gone_is) in
+    let e_ps : c.recede.new.progress ≡ map (receded (least_of (length os) (set ps c.args.worker q))) (set ps c.args.worker q) = c.recede.ensures ∙ (ap (λ (l : List Progress). map (receded c.least-gone.result) l) c.deref_mut-2.ensures.value ∙ ap (λ (g : ℕ). map (receded g) (set ps c.args.worker q)) gone_is) in
     let e_left : c.drop_oldest.new.left.items ≡ c.self.inside.left.items ++ map (λ (d : ℕ × ℕ). d.1) (take (least_of (length os) (set ps c.args.worker q)) (map plain os)) = c.drop_oldest.ensures.left ∙ ap (λ (g : ℕ). c.self.inside.left.items ++ map (λ (d : ℕ × ℕ). d.1) (take g (map plain os))) gone_is in
-    let len : length c.drop_oldest.new.ins ≡ length c.self.inside.ins.items = c.drop_oldest.ensures.len ∙ ap (λ (l : List ℕ). length l) c.deref_mut-2.ensures.value in
-    let linked : IsLinked (length c.self.inside.newest.items) c.drop_oldest.new.newest c.drop_oldest.new.retired.items = subst (λ (l : List ℕ). IsLinked (length l) c.drop_oldest.new.newest c.drop_oldest.new.retired.items) c.deref_mut.ensures.value c.drop_oldest.ensures.linked in
-    let less : (o : ℕ) → slice_index c.drop_oldest.new.ins o + count_by (λ (d : ℕ × ℕ). eqb d.1 o) (take (least_of (length os) (set ps c.args.worker q)) (map plain os)) ≡ slice_index c.self.inside.ins.items o = (λ o. ap (λ (g : ℕ). slice_index c.drop_oldest.new.ins o + count_by (λ (d : ℕ × ℕ). eqb d.1 o) (take g (map plain os))) (sym gone_is) ∙ (c.drop_oldest.ensures.ins o ∙ ap (λ (l : List ℕ). slice_index l o) c.deref_mut-2.ensures.value)) in
+    let len : length c.drop_oldest.new.ins ≡ length c.self.inside.ins.items = c.drop_oldest.ensures.len ∙ ap (λ (l : List ℕ). length l) c.deref_mut.ensures.value in
+    let linked : IsLinked (length c.self.inside.newest) c.drop_oldest.new.newest c.drop_oldest.new.retired.items = c.drop_oldest.ensures.linked in
+    let less : (o : ℕ) → slice_index c.drop_oldest.new.ins o + count_by (λ (d : ℕ × ℕ). eqb d.1 o) (take (least_of (length os) (set ps c.args.worker q)) (map plain os)) ≡ slice_index c.self.inside.ins.items o = (λ o. ap (λ (g : ℕ). slice_index c.drop_oldest.new.ins o + count_by (λ (d : ℕ × ℕ). eqb d.1 o) (take g (map plain os))) (sym gone_is) ∙ (c.drop_oldest.ensures.ins o ∙ ap (λ (l : List ℕ). slice_index l o) c.deref_mut.ensures.value)) in
     let g_ins : take c.self.inside.ins.len (c.drop_oldest.new.ins ++ drop (length c.drop_oldest.new.ins) c.self.inside.ins.items) ≡ c.drop_oldest.new.ins = given_back c.self.inside.ins.len c.drop_oldest.new.ins _ (omega (arith, len, c.self.inside.ins.ok.0)) in
-    let g_new : take c.self.inside.newest.len (c.drop_oldest.new.newest ++ drop (length c.drop_oldest.new.newest) c.self.inside.newest.items) ≡ c.drop_oldest.new.newest = given_back c.self.inside.newest.len c.drop_oldest.new.newest _ (omega (arith, c.drop_oldest.auto.newest, c.deref_mut.ensures.len)) in
-    let g_ps : take c.self.inside.progress.len (c.recede.new.progress ++ drop (length c.recede.new.progress) (set ps c.args.worker q)) ≡ c.recede.new.progress = given_back c.self.inside.progress.len c.recede.new.progress _ (omega (arith, c.recede.auto.progress, c.deref_mut-3.ensures.len)) in
-    rw (g_ins, g_new, g_ps) (look_kept h c.args.worker c.args.word p q here c.index-progress.ensures kept told c.drop_oldest.new.ins c.drop_oldest.new.retired.items c.drop_oldest.new.newest c.recede.new.progress c.drop_oldest.new.left.items (vec_capacity c.drop_oldest.new.left) e_os e_ps len linked less e_left c.drop_oldest.ensures.room, c.self.invariant.1 ∙ sym len)
+    let g_ps : take c.self.inside.progress.len (c.recede.new.progress ++ drop (length c.recede.new.progress) (set ps c.args.worker q)) ≡ c.recede.new.progress = given_back c.self.inside.progress.len c.recede.new.progress _ (omega (arith, c.recede.auto.progress, c.deref_mut-2.ensures.len)) in
+    rw (g_ins, g_ps) (look_kept h c.args.worker c.args.word p q here c.index-progress.ensures kept told c.drop_oldest.new.ins c.drop_oldest.new.retired.items c.drop_oldest.new.newest c.recede.new.progress c.drop_oldest.new.left.items (vec_capacity c.drop_oldest.new.left) e_os e_ps len linked less e_left c.drop_oldest.ensures.room, c.self.invariant.1 ∙ sym len)
 
 pub returns-clause-union : goal.returns-clause-union
 returns-clause-union c =
@@ -81,8 +80,8 @@ returns-clause-union c =
     let told : (i : ℕ) → i < length os → mark_of i q ≡ next_mark c.args.word (mark_of i p) = (λ i lt. c.look_on.ensures.marks i (omega (arith, lt, count))) in
     let gone_is : c.least-gone.result ≡ least_of (length os) (set ps c.args.worker q) = c.least-gone.ensures ∙ (ap (λ (l : List Progress). least_of c.len-count.result l) c.as_slice.ensures.value ∙ ap (λ (m : ℕ). least_of m (set ps c.args.worker q)) count) in
     let e_os : map plain c.drop_oldest.new.retired.items ≡ drop (least_of (length os) (set ps c.args.worker q)) (map plain os) = c.drop_oldest.ensures.retired ∙ ap (λ (g : ℕ). drop g (map plain os)) gone_is in
-    let e_ps : c.recede.new.progress ≡ map (receded (least_of (length os) (set ps c.args.worker q))) (set ps c.args.worker q) = c.recede.ensures ∙ (ap (λ (l : List Progress). map (receded c.least-gone.result) l) c.deref_mut-3.ensures.value ∙ ap (λ (g : ℕ). map (receded g) (set ps c.args.worker q)) gone_is) in
-    let g_ps : take c.self.inside.progress.len (c.recede.new.progress ++ drop (length c.recede.new.progress) (set ps c.args.worker q)) ≡ c.recede.new.progress = given_back c.self.inside.progress.len c.recede.new.progress _ (omega (arith, c.recede.auto.progress, c.deref_mut-3.ensures.len)) in
+    let e_ps : c.recede.new.progress ≡ map (receded (least_of (length os) (set ps c.args.worker q))) (set ps c.args.worker q) = c.recede.ensures ∙ (ap (λ (l : List Progress). map (receded c.least-gone.result) l) c.deref_mut-2.ensures.value ∙ ap (λ (g : ℕ). map (receded g) (set ps c.args.worker q)) gone_is) in
+    let g_ps : take c.self.inside.progress.len (c.recede.new.progress ++ drop (length c.recede.new.progress) (set ps c.args.worker q)) ≡ c.recede.new.progress = given_back c.self.inside.progress.len c.recede.new.progress _ (omega (arith, c.recede.auto.progress, c.deref_mut-2.ensures.len)) in
     rw (g_ps, ← c.self.view_is) (look_union h c.args.worker c.args.word p q here c.index-progress.ensures kept told c.drop_oldest.new.retired.items c.recede.new.progress e_os e_ps)
 
 pub returns-clause-left : goal.returns-clause-left
@@ -115,11 +114,11 @@ returns-clause-spare c =
     let told : (i : ℕ) → i < length os → mark_of i q ≡ next_mark c.args.word (mark_of i p) = (λ i lt. c.look_on.ensures.marks i (omega (arith, lt, count))) in
     let gone_is : c.least-gone.result ≡ least_of (length os) (set ps c.args.worker q) = c.least-gone.ensures ∙ (ap (λ (l : List Progress). least_of c.len-count.result l) c.as_slice.ensures.value ∙ ap (λ (m : ℕ). least_of m (set ps c.args.worker q)) count) in
     let e_os : map plain c.drop_oldest.new.retired.items ≡ drop (least_of (length os) (set ps c.args.worker q)) (map plain os) = c.drop_oldest.ensures.retired ∙ ap (λ (g : ℕ). drop g (map plain os)) gone_is in
-    let e_ps : c.recede.new.progress ≡ map (receded (least_of (length os) (set ps c.args.worker q))) (set ps c.args.worker q) = c.recede.ensures ∙ (ap (λ (l : List Progress). map (receded c.least-gone.result) l) c.deref_mut-3.ensures.value ∙ ap (λ (g : ℕ). map (receded g) (set ps c.args.worker q)) gone_is) in
+    let e_ps : c.recede.new.progress ≡ map (receded (least_of (length os) (set ps c.args.worker q))) (set ps c.args.worker q) = c.recede.ensures ∙ (ap (λ (l : List Progress). map (receded c.least-gone.result) l) c.deref_mut-2.ensures.value ∙ ap (λ (g : ℕ). map (receded g) (set ps c.args.worker q)) gone_is) in
     let e_left : c.drop_oldest.new.left.items ≡ c.self.inside.left.items ++ map (λ (d : ℕ × ℕ). d.1) (take (least_of (length os) (set ps c.args.worker q)) (map plain os)) = c.drop_oldest.ensures.left ∙ ap (λ (g : ℕ). c.self.inside.left.items ++ map (λ (d : ℕ × ℕ). d.1) (take g (map plain os))) gone_is in
-    let len : length c.drop_oldest.new.ins ≡ length c.self.inside.ins.items = c.drop_oldest.ensures.len ∙ ap (λ (l : List ℕ). length l) c.deref_mut-2.ensures.value in
-    let linked : IsLinked (length c.self.inside.newest.items) c.drop_oldest.new.newest c.drop_oldest.new.retired.items = subst (λ (l : List ℕ). IsLinked (length l) c.drop_oldest.new.newest c.drop_oldest.new.retired.items) c.deref_mut.ensures.value c.drop_oldest.ensures.linked in
-    let less : (o : ℕ) → slice_index c.drop_oldest.new.ins o + count_by (λ (d : ℕ × ℕ). eqb d.1 o) (take (least_of (length os) (set ps c.args.worker q)) (map plain os)) ≡ slice_index c.self.inside.ins.items o = (λ o. ap (λ (g : ℕ). slice_index c.drop_oldest.new.ins o + count_by (λ (d : ℕ × ℕ). eqb d.1 o) (take g (map plain os))) (sym gone_is) ∙ (c.drop_oldest.ensures.ins o ∙ ap (λ (l : List ℕ). slice_index l o) c.deref_mut-2.ensures.value)) in
+    let len : length c.drop_oldest.new.ins ≡ length c.self.inside.ins.items = c.drop_oldest.ensures.len ∙ ap (λ (l : List ℕ). length l) c.deref_mut.ensures.value in
+    let linked : IsLinked (length c.self.inside.newest) c.drop_oldest.new.newest c.drop_oldest.new.retired.items = c.drop_oldest.ensures.linked in
+    let less : (o : ℕ) → slice_index c.drop_oldest.new.ins o + count_by (λ (d : ℕ × ℕ). eqb d.1 o) (take (least_of (length os) (set ps c.args.worker q)) (map plain os)) ≡ slice_index c.self.inside.ins.items o = (λ o. ap (λ (g : ℕ). slice_index c.drop_oldest.new.ins o + count_by (λ (d : ℕ × ℕ). eqb d.1 o) (take g (map plain os))) (sym gone_is) ∙ (c.drop_oldest.ensures.ins o ∙ ap (λ (l : List ℕ). slice_index l o) c.deref_mut.ensures.value)) in
     let lo = long h c.args.worker c.args.word p q here c.index-progress.ensures kept told c.drop_oldest.new.ins c.drop_oldest.new.retired.items c.drop_oldest.new.newest c.recede.new.progress c.drop_oldest.new.left.items (vec_capacity c.drop_oldest.new.left) e_os e_ps len linked less e_left c.drop_oldest.ensures.room in
     let ll = long_left h c.args.worker c.args.word p q here c.index-progress.ensures kept told c.drop_oldest.new.ins c.drop_oldest.new.retired.items c.drop_oldest.new.newest c.recede.new.progress c.drop_oldest.new.left.items (vec_capacity c.drop_oldest.new.left) e_os e_ps len linked less e_left c.drop_oldest.ensures.room in
     rw (← c.self.view_is, lo, ll) (spare_more (vec_capacity c.self.inside.retired) (length os) (vec_capacity c.self.inside.left) (length c.self.inside.left.items) (vec_capacity c.drop_oldest.new.retired) (vec_capacity c.drop_oldest.new.left) (least_of (length os) (set ps c.args.worker q)) (gone_few h c.args.worker c.args.word p q here c.index-progress.ensures kept told) c.drop_oldest.ensures.capacity c.drop_oldest.ensures.room)

@@ -70,7 +70,7 @@ invariant_of-self-then-retired c =
     let is : edge_at c.self.inside.edges.items k ≡ Some c.in-Some.target = sym c.put_edge-replaced.ensures.replaced ∙ c.in-Some.is in
     let must : must_retire (union_of c.self.inside.edges.items (map plain c.self.inside.retired.items) c.self.inside.progress.items) k ≡ true = retire_is h c.args.from c.args.slot c.requires.slot_in from_in ∙ (sym c.retires-retired.ensures ∙ c.if-retired.true) in
     let room = spare_pos (vec_capacity c.self.inside.retired) (length c.self.inside.retired.items) (vec_capacity c.self.inside.left) (length c.self.inside.left.items) (room_for _ c.args.self.now k c.in-Some.target c.self.view_is is must c.requires.room) in
-    rw c.put_edge-replaced.ensures.edges (set_retired h c.args.from c.args.slot c.requires.slot_in from_in c.args.to to_in c.put_edge-replaced.new.ins.items c.put_edge-replaced.ensures.len c.put_edge-replaced.ensures.ins c.retire.new.retired.items c.retire.new.newest.items c.in-Some.target is c.retire.ensures.retired c.retire.ensures.linked room.1 room.2, c.self.invariant.1 ∙ sym c.put_edge-replaced.ensures.len)
+    rw c.put_edge-replaced.ensures.edges (set_retired h c.args.from c.args.slot c.requires.slot_in from_in c.args.to to_in c.put_edge-replaced.new.ins.items c.put_edge-replaced.ensures.len c.put_edge-replaced.ensures.ins c.retire.new.retired.items c.retire.new.newest c.in-Some.target is c.retire.ensures.retired c.retire.ensures.linked room.1 room.2, c.self.invariant.1 ∙ sym c.put_edge-replaced.ensures.len)
 
 pub returns-then-retired-clause-union : goal.returns-then-retired-clause-union
 returns-then-retired-clause-union c =
@@ -153,7 +153,7 @@ returns-then-retired-clause-short c =
     let is : edge_at c.self.inside.edges.items k ≡ Some c.in-Some.target = sym c.put_edge-replaced.ensures.replaced ∙ c.in-Some.is in
     let must : must_retire (union_of c.self.inside.edges.items (map plain c.self.inside.retired.items) c.self.inside.progress.items) k ≡ true = retire_is h c.args.from c.args.slot c.requires.slot_in from_in ∙ (sym c.retires-retired.ensures ∙ c.if-retired.true) in
     let room = spare_pos (vec_capacity c.self.inside.retired) (length c.self.inside.retired.items) (vec_capacity c.self.inside.left) (length c.self.inside.left.items) (room_for _ c.args.self.now k c.in-Some.target c.self.view_is is must c.requires.room) in
-    kept_short (set_retired h c.args.from c.args.slot c.requires.slot_in from_in c.args.to to_in c.put_edge-replaced.new.ins.items c.put_edge-replaced.ensures.len c.put_edge-replaced.ensures.ins c.retire.new.retired.items c.retire.new.newest.items c.in-Some.target is c.retire.ensures.retired c.retire.ensures.linked room.1 room.2)
+    kept_short (set_retired h c.args.from c.args.slot c.requires.slot_in from_in c.args.to to_in c.put_edge-replaced.new.ins.items c.put_edge-replaced.ensures.len c.put_edge-replaced.ensures.ins c.retire.new.retired.items c.retire.new.newest c.in-Some.target is c.retire.ensures.retired c.retire.ensures.linked room.1 room.2)
 
 pub returns-clause-short : goal.returns-clause-short
 returns-clause-short c =
