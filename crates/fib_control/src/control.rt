@@ -325,7 +325,8 @@ impl<B: Board> Control<B> {
         ensures run { IfOk result (λ t. RunDone (tables_in self.old) t (view_in self.old) (view_in self.new) (state_now self.new)) }
         ensures dropped { IfOk result (λ t. IsCounted t self.new.late) }
         ensures stores { IfOk result (λ t. IsStored t self.old.plane.board.stored self.new.plane.board.stored) }
-        ensures exact { IfOk result (λ t. StoresDiffering (tables_in self.old) t (held self.old.rows) (view_in self.old) (view_in self.new)) }
+        ensures exact { IfOk result (λ t. StoresDiffering (tables_in self.old) t (held self.old.rows)
+            (view_in self.old) (view_in self.new)) }
         ensures done { IfOk result (λ t. IsDoneAfter t self.old.done self.new.done) }
         ensures same { IsBeneath self.old self.new }
         ensures takes { Takes self.old self.new }

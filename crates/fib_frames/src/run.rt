@@ -59,9 +59,11 @@ fn run_seen<R: Threads + Wait + Sync, K: Sink, F: Sink, G: Gate>(
     requires settings { InRange task.now.job.settings }
     requires inside { AreInside seen.now.bytes.items seen.now.spans }
     requires short { length seen.now.bytes.items ≤ 268435456 }
-    ensures ok { OnOk result (GainsBoth (Shows (task.now.job.settings.objects / 2) script.now seen.now.bytes.items seen.now.packets seen.now.spans)
+    ensures ok { OnOk result (GainsBoth
+        (Shows (task.now.job.settings.objects / 2) script.now seen.now.bytes.items seen.now.packets seen.now.spans)
         (K.written text.old) (K.written text.new) (F.written frames.old) (F.written frames.new)) }
-    ensures err { OnErr result (GainsParts (Shows (task.now.job.settings.objects / 2) script.now seen.now.bytes.items seen.now.packets seen.now.spans)
+    ensures err { OnErr result (GainsParts
+        (Shows (task.now.job.settings.objects / 2) script.now seen.now.bytes.items seen.now.packets seen.now.spans)
         (K.written text.old) (K.written text.new) (F.written frames.old) (F.written frames.new)) }
     ensures write { IsErrOf result RunFault.Write → HasRisen (K.faults text.old) (K.faults text.new)
         ⊎ HasRisen (F.faults frames.old) (F.faults frames.new) }

@@ -20,6 +20,7 @@ pub record IsReached (S T : Tables) (changed part : Prefix → Bool) : Type 0 wh
 pub record HoldsTouched (S T : Tables) (changed part written : Prefix → Bool) : Type 0 where
   pub reached : IsReached S T changed part
   pub has_part : (e : Prefix) → part e ≡ true → written e ≡ true
-  pub needing : (e : Prefix) (p : Path) (a : ℕ) → Contains (chosen S e) p → p.kind ≡ kinds.Recursive a → p.need ≢ needs.Any → changed (host a) ≡ true
+  pub needing : (e : Prefix) (p : Path) (a : ℕ) → Contains (chosen S e) p → p.kind ≡ kinds.Recursive a → p.need ≢ needs.Any
+      → changed (host a) ≡ true
       → written e ≡ true
   pub ends : (e : Prefix) (p : Path) → Contains (chosen S e) p → means_else S T e p.kind ≡ true → written e ≡ true
