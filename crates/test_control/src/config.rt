@@ -2,7 +2,7 @@
 ghost use Rattle.std.specs.Prelude.{IfOk};
 ghost use Rattle.fib_resolve.specs.Reachable.{IsWritten};
 
-use fib_addr::{Addr, Prefix};
+use fib_addr::{Addr, Mac, Prefix};
 use fib_config::{BatchError, Config, EditError, EditedAll};
 use fib_resolve::{Edit, FibSource, List, Name, Need, PathSpec, Refusal, SpecKind};
 use std::alloc::{AllocError, Global};
@@ -155,13 +155,36 @@ fn is_found(alloc: Global, config: &mut Config) -> Result<bool, Fail> {
     Ok(own == 1 && other == 0)
 }
 
+// Whether the look-ups find two links, of which the first one is up and has an address and a neighbor.
+fn are_looked_up(alloc: Global, config: &mut Config) -> Result<bool, Fail> {
+    two_links(alloc, config)?;
+    let addr = Addr(0x0a01_0002);
+    let neighbor = Edit::SetNeighbor {
+        name: name(alloc, "up0")?,
+        addr,
+        mac: Mac::of_bytes([2, 0, 0], [0, 0, 1]),
+    };
+    config.edit(&neighbor)?;
+    let near = Prefix::masked(addr, 30);
+    Ok(
+        config.is_up(0)
+            && !config.is_up(2)
+            && config.mac_of(0, addr) == Some(Mac::of_bytes([2, 0, 0], [0, 0, 1]))
+            && config.mac_of(1, addr).is_none()
+            && config.addresses_at(near)?.len() == 1
+            && config.addresses_at(Prefix::host(addr))?.is_empty()
+            && config.neighbors_inside(near)?.len() == 1,
+    )
+}
+
 fn is_right(alloc: Global, config: &mut Config, scene: u32) -> Result<bool, Fail> {
     match scene {
         0 => links_are_right(alloc, config),
         1 => is_taken_back(alloc, config),
         2 => are_taken_back(alloc, config),
         3 => is_refused_whole(alloc, config),
-        _ => is_found(alloc, config),
+        4 => is_found(alloc, config),
+        _ => are_looked_up(alloc, config),
     }
 }
 
@@ -171,10 +194,10 @@ fn plays(alloc: Global, scene: u32) -> Result<bool, Fail> {
     is_right(alloc, &mut config, scene)
 }
 
-// Two links of thirty-two objects; an edit, a batch and a refused batch that are taken back; and a route's path.
+// Two links of thirty-two objects; an edit, a batch and a refused batch that are taken back; a route's path; and what is looked up.
 #[test]
 fn what_a_configuration_does(rt: HostRuntime) -> Result<(), Fail> {
-    for scene in 0..5 {
+    for scene in 0..6 {
         if !plays(rt.alloc(), scene)? {
             return Err("a scene went otherwise".into());
         }
