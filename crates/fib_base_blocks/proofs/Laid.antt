@@ -8,7 +8,7 @@ use Rattle.std.proofs.lemmas.Grind.{flat_map-append}
 use Rattle.fib_base_ordered.specs.inner.Blocks.{row}
 use Rattle.fib_base_ordered.proofs.Cuts.{each_get}
 use Rattle.fib_base_ordered.proofs.Rows.{row_get}
-use Rattle.fib_base_blocks.specs.inner.Layout.{AreBlocks, IsFilled, IsPlace, IsRoomy, IsSplit, items_of, lowered, raised, starts_from}
+use Rattle.fib_base_blocks.specs.inner.Layout.{AreBlocks, IsFilled, IsPlace, IsSlot, IsSplit, items_of, lowered, raised, starts_from}
 use Rattle.fib_base_blocks.proofs.Starts.{starts_long, start_at, starts_same, starts_more, starts_less, starts_split, starts_gone, starts_high}
 use Rattle.fib_base_blocks.proofs.Edits.{slot_of}
 
@@ -87,9 +87,9 @@ module _ {T Z : Type 0} where
   pub filled_at : (bs : List (Vec T Z)) (ns : List ℕ) (i : ℕ) (b : Vec T Z) → AreBlocks bs ns → i < length bs → b ≡ get_or bs i b → IsFilled b
   filled_at bs ns i b laid lt is = subst IsFilled (sym is) (each_get IsFilled bs i b lt laid.filled)
 
-  row_filled : (bs : List (Vec T Z)) (i : ℕ) → i < length bs → AllByRecursion IsFilled bs → (0 < length (row items_of (slice_get bs i))) × (length (row items_of (slice_get bs i)) ≤ 256)
+  row_filled : (bs : List (Vec T Z)) (i : ℕ) → i < length bs → AllByRecursion IsFilled bs → 0 < length (row items_of (slice_get bs i))
   row_filled [] i lt h = absurd (omega arith)
-  row_filled (b ∷ bs) zero lt h = (h.0.some, h.0.few)
+  row_filled (b ∷ bs) zero lt h = h.0
   row_filled (b ∷ bs) (suc i) lt h = row_filled bs i (omega arith) h.1
 
   module _ (bs : List (Vec T Z)) (ns : List ℕ) (i : ℕ) (laid : AreBlocks bs ns) (lt : i < length bs) where
@@ -102,22 +102,22 @@ module _ {T Z : Type 0} where
     set_laid b j x e =
         let long : length b.items ≡ length (row items_of (slice_get bs i)) = ap length e ∙ length-set (row items_of (slice_get bs i)) j x in
         let was = row_filled bs i lt laid.filled in
-        record { starts = laid.starts ∙ sym (starts_same items_of 0 bs i b lt long); filled = each_set IsFilled bs i b (record { some = omega (arith, long, was.0); few = omega (arith, long, was.1) }) laid.filled }
+        record { starts = laid.starts ∙ sym (starts_same items_of 0 bs i b lt long); filled = each_set IsFilled bs i b (omega (arith, long, was)) laid.filled }
 
     -- it has an element more
-    pub more_laid : (b : Vec T Z) (j : ℕ) (x : T) → b.items ≡ insert (row items_of (slice_get bs i)) j x → j ≤ length (row items_of (slice_get bs i)) → length (row items_of (slice_get bs i)) < 256 → AreBlocks (set bs i b) (raised (i + 1) ns)
-    more_laid b j x e le few =
+    pub more_laid : (b : Vec T Z) (j : ℕ) (x : T) → b.items ≡ insert (row items_of (slice_get bs i)) j x → j ≤ length (row items_of (slice_get bs i)) → AreBlocks (set bs i b) (raised (i + 1) ns)
+    more_laid b j x e le =
         let long : length b.items ≡ length (row items_of (slice_get bs i)) + 1 = ap length e ∙ length-insert (row items_of (slice_get bs i)) j x le in
-        record { starts = starts_more items_of bs ns i b laid.starts lt long; filled = each_set IsFilled bs i b (record { some = omega arith; few = omega arith }) laid.filled }
+        record { starts = starts_more items_of bs ns i b laid.starts lt long; filled = each_set IsFilled bs i b (omega arith) laid.filled }
 
     -- or one less
     less_long : (b : Vec T Z) (j : ℕ) → b.items ≡ remove (row items_of (slice_get bs i)) j → j < length (row items_of (slice_get bs i)) → length b.items + 1 ≡ length (row items_of (slice_get bs i))
     less_long b j e less = ap (λ (l : List T). length l + 1) e ∙ length-remove (row items_of (slice_get bs i)) j less
 
-    pub less_laid : (b : Vec T Z) (j : ℕ) → b.items ≡ remove (row items_of (slice_get bs i)) j → j < length (row items_of (slice_get bs i)) → length (row items_of (slice_get bs i)) ≤ 256 → 0 < length b.items → AreBlocks (set bs i b) (lowered (i + 1) ns)
-    less_laid b j e less few some =
+    pub less_laid : (b : Vec T Z) (j : ℕ) → b.items ≡ remove (row items_of (slice_get bs i)) j → j < length (row items_of (slice_get bs i)) → 0 < length b.items → AreBlocks (set bs i b) (lowered (i + 1) ns)
+    less_laid b j e less some =
         let long = less_long b j e less in
-        record { starts = starts_less items_of bs ns i b laid.starts lt long; filled = each_set IsFilled bs i b (record { some = some; few = omega (arith, long) }) laid.filled }
+        record { starts = starts_less items_of bs ns i b laid.starts lt long; filled = each_set IsFilled bs i b some laid.filled }
 
     -- and goes where it is empty then
     pub gone_laid : (b : Vec T Z) (j : ℕ) → b.items ≡ remove (row items_of (slice_get bs i)) j → j < length (row items_of (slice_get bs i)) → row items_of (slice_get (set bs i b) i) ≡ [] → AreBlocks (remove (set bs i b) i) (remove (lowered (i + 1) ns) i)
@@ -126,7 +126,7 @@ module _ {T Z : Type 0} where
       filled = each_gone IsFilled bs i b laid.filled;
     }
 
-    module _ (new : List (Vec T Z)) (s : IsSplit bs new i) (long : 128 < length (row items_of (slice_get bs i))) (few : length (row items_of (slice_get bs i)) ≤ 256) where
+    module _ (new : List (Vec T Z)) (s : IsSplit bs new i) (long : 128 < length (row items_of (slice_get bs i))) where
       one : i + 1 ≡ suc i
       one = omega arith
 
@@ -143,19 +143,19 @@ module _ {T Z : Type 0} where
       split_laid d = record {
         starts = starts_split items_of bs ns i d 128 s.low s.high laid.starts lt low_long (omega (arith, high_long)) ∙ ap (starts_from items_of 0) (sym s.whole);
         filled = subst (AllByRecursion IsFilled) (sym is)
-            (each_two IsFilled bs i s.low s.high (record { some = omega (arith, low_long); few = omega (arith, low_long) }) (record { some = omega (arith, high_long); few = omega (arith, high_long) }) lt laid.filled);
+            (each_two IsFilled bs i s.low s.high (omega (arith, low_long)) (omega (arith, high_long)) lt laid.filled);
       }
 
       -- a place in the block is in one of the two
-      pub roomy_low : (n j : ℕ) → length (flat_map items_of (take i bs)) + j ≡ n → j ≤ 128 → IsRoomy new n i j
+      pub roomy_low : (n j : ℕ) → length (flat_map items_of (take i bs)) + j ≡ n → j ≤ 128 → IsSlot new n i j
       roomy_low n j at le =
           let e : row items_of (slice_get new i) ≡ s.low.items = ap (λ (l : List (Vec T Z)). row items_of (slice_get l i)) is ∙ ap (row items_of) (two_low bs i s.low s.high lt) in
           let l = ap length e ∙ low_long in
           let n = ap length is ∙ two_long bs i s.low s.high lt in
           let b = ap (λ (l : List (Vec T Z)). length (flat_map items_of (take i l))) is ∙ ap (λ (l : List (Vec T Z)). length (flat_map items_of l)) (before_low bs i s.low s.high lt) in
-          record { inside = omega (arith, n); place = ap (λ (k : ℕ). k + j) b ∙ at; slot = omega (arith, l); room = omega (arith, l) }
+          record { inside = omega (arith, n); place = ap (λ (k : ℕ). k + j) b ∙ at; slot = omega (arith, l) }
 
-      pub roomy_high : (n j : ℕ) → length (flat_map items_of (take i bs)) + j ≡ n → j ≤ length (row items_of (slice_get bs i)) → 128 < j → IsRoomy new n (i + 1) (j - 128)
+      pub roomy_high : (n j : ℕ) → length (flat_map items_of (take i bs)) + j ≡ n → j ≤ length (row items_of (slice_get bs i)) → 128 < j → IsSlot new n (i + 1) (j - 128)
       roomy_high n j at le more =
           let e : row items_of (slice_get new (i + 1)) ≡ s.high.items = ap (λ k. row items_of (slice_get new k)) one ∙ (ap (λ (l : List (Vec T Z)). row items_of (slice_get l (suc i))) is ∙ ap (row items_of) (two_high bs i s.low s.high lt)) in
           let l = ap length e ∙ high_long in
@@ -163,4 +163,4 @@ module _ {T Z : Type 0} where
           let a : flat_map items_of (take (i + 1) new) ≡ flat_map items_of (take i bs) ++ s.low.items = ap (λ k. flat_map items_of (take k new)) one ∙ (ap (λ (l : List (Vec T Z)). flat_map items_of (take (suc i) l)) is
           ∙ (ap (flat_map items_of) (before_high bs i s.low s.high lt) ∙ (flat_map-append items_of (take i bs) (s.low ∷ []) ∙ ap (λ l. flat_map items_of (take i bs) ++ l) (append-nil s.low.items)))) in
           let b = ap length a ∙ length-append (flat_map items_of (take i bs)) s.low.items in
-          record { inside = omega (arith, m); place = omega (arith, b, low_long, at); slot = omega (arith, l); room = omega (arith, l) }
+          record { inside = omega (arith, m); place = omega (arith, b, low_long, at); slot = omega (arith, l) }

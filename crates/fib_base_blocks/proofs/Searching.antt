@@ -74,7 +74,7 @@ module _ {T Z : Type 0} (order : T → Ordering) (bs : List (Vec T Z)) (i : ℕ)
     module _ (full : AllByRecursion IsFilled bs) (low : 0 < i → StartsWithin order bs i) (high : i + 1 < length bs → StartsPast order bs (i + 1)) (j : ℕ) (le : j ≤ length b.items)
         (here : IsNonDecreasingBy (λ y. ordering_index (order y)) b.items → IsPartitionPoint (λ y. order y ≡ Less) (λ y. order y ≡ Greater) b.items j) where
       some : 0 < length b.items
-      some = subst (λ (v : Vec T Z). 0 < length v.items) (sym is) (each_get IsFilled bs i b lt full).some
+      some = subst (λ (v : Vec T Z). 0 < length v.items) (sym is) (each_get IsFilled bs i b lt full)
 
       not_both : (o : Ordering) → is_gt o ≡ false → o ≡ Greater → ⊥
       not_both Less e f = (cc)
@@ -96,7 +96,7 @@ module _ {T Z : Type 0} (order : T → Ordering) (bs : List (Vec T Z)) (i : ℕ)
       next : i + 1 < length bs → (d : T) → order (get_or xs (s + length b.items) d) ≡ Greater
       next more d =
           let c : Vec T Z = get_or bs (i + 1) b in
-          let full_next = (each_get IsFilled bs (i + 1) b more full).some in
+          let full_next = (each_get IsFilled bs (i + 1) b more full) in
           let at : length (flat_map items_of (take (i + 1) bs)) + 0 ≡ s + length b.items = omega (arith, take_long items_of bs i lt, long) in
           let e = ap (λ n. get_or xs n d) (sym at) ∙ get_or-flat_map items_of bs (i + 1) 0 b d more full_next in
           let r = row_get items_of bs (i + 1) b more in

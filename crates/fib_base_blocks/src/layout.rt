@@ -2,11 +2,11 @@
 ghost use Rattle.std.specs.Prelude.{◌≡◌, ℕ, ◌+◌, ◌-◌, ◌<◌, ◌≤◌, ◌^◌, ◌∷◌, [], IfOk, OnErr, OnOk, flat_map, length, map, slice_get, slice_index, slice_index_or, take};
 ghost use Rattle.std.specs.List.{AllByRecursion, insert, remove};
 ghost use Rattle.fib_base_ordered.specs.inner.Blocks.{row};
-ghost use Rattle.fib_base_blocks.specs.inner.Layout.{AreBlocks, IsPlace, IsRoomy, IsSplit, items_of, lowered, raised};
+ghost use Rattle.fib_base_blocks.specs.inner.Layout.{AreBlocks, HasRoom, IsPlace, IsSlot, IsSplit, items_of, lowered, raised};
 
 use std::alloc::{AllocError, Global};
 
-/// The most elements of a block.
+/// A block of so many elements is halved before one more comes.
 const MOST: usize = 256;
 
 /// Half of them.
@@ -119,7 +119,7 @@ fn make_room<T: Drop>(
     requires few { length (flat_map items_of blocks.old.items) < 2 ^ 64 }
     ensures same { flat_map items_of blocks.new.items ≡ flat_map items_of blocks.old.items }
     ensures laid { AreBlocks blocks.new.items starts.new.items }
-    ensures place { IfOk result (λ at. IsRoomy blocks.new.items place at.block at.slot) }
+    ensures place { IfOk result (λ at. IsSlot blocks.new.items place at.block at.slot) }
 {
     let at = find(blocks.as_slice(), starts.as_slice(), place);
     if blocks[at.block].len() < MOST {
@@ -142,10 +142,10 @@ fn put<T: Drop>(
     at: Place,
     element: T,
 ) -> Result<(), AllocError>
-    requires room { (place : ℕ) × IsRoomy blocks.old.items place at.block at.slot }
+    requires room { (place : ℕ) × IsSlot blocks.old.items place at.block at.slot }
     requires laid { AreBlocks blocks.old.items starts.old.items }
     requires few { length (flat_map items_of blocks.old.items) < 2 ^ 64 - 1 }
-    ensures ok { OnOk result ((place : ℕ) → IsRoomy blocks.old.items place at.block at.slot
+    ensures ok { OnOk result ((place : ℕ) → IsSlot blocks.old.items place at.block at.slot
         → flat_map items_of blocks.new.items ≡ insert (flat_map items_of blocks.old.items) place element) }
     ensures err { OnErr result (flat_map items_of blocks.new.items ≡ flat_map items_of blocks.old.items) }
     ensures laid { AreBlocks blocks.new.items starts.new.items }
@@ -154,6 +154,28 @@ fn put<T: Drop>(
     row.insert(at.slot, element)?;
     raise(starts, at.block + 1);
     Ok(())
+}
+
+/// Puts an element in its slot of a block that has room for it. Takes no memory.
+pub fn put_reserved<T: Drop>(
+    blocks: &mut Vec<Vec<T>>,
+    starts: &mut Vec<usize>,
+    at: Place,
+    element: T,
+)
+    requires slot { (place : ℕ) × IsSlot blocks.old.items place at.block at.slot }
+    requires room { HasRoom blocks.old.items at.block }
+    requires laid { AreBlocks blocks.old.items starts.old.items }
+    requires few { length (flat_map items_of blocks.old.items) < 2 ^ 64 - 1 }
+    ensures list { (place : ℕ) → IsSlot blocks.old.items place at.block at.slot
+        → flat_map items_of blocks.new.items ≡ insert (flat_map items_of blocks.old.items) place element }
+    ensures laid { AreBlocks blocks.new.items starts.new.items }
+{
+    let row = &mut blocks[at.block];
+    let Ok(()) = row.insert(at.slot, element) else {
+        unreachable!()
+    };
+    raise(starts, at.block + 1);
 }
 
 /// The first block. After want of memory all is as before.

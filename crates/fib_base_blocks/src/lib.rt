@@ -4,9 +4,12 @@
 //! Contracts see the list itself; `specs/inner` only carries proofs.
 #![tactic(auto)]
 
+mod copies;
 mod layout;
 mod list;
 mod search;
+mod spare;
 
 pub use list::Blocks;
 pub use search::Sought;
+pub use spare::Spare;

@@ -1,5 +1,5 @@
 // A list in blocks.
-ghost use Rattle.std.specs.Prelude.{◌≡◌, ◌<◌, ◌≤◌, [], IfOk, OnErr, OnOk, length, slice_get, slice_index_or, option_copied};
+ghost use Rattle.std.specs.Prelude.{◌≡◌, ◌<◌, ◌≤◌, ◌-◌, ◌++◌, ◌∷◌, ◌↔◌, [], IfOk, IsTrue, OnErr, OnOk, length, slice_get, slice_index_or, slice_set, take, option_copied};
 ghost use Rattle.std.specs.List.{insert, remove};
 ghost use Rattle.std.specs.List.Sorted.{IsBinarySearchResult, IsSearchInRange};
 ghost use Rattle.std.specs.Borrow.{sem};
@@ -7,11 +7,13 @@ ghost use Rattle.fib_base_blocks.specs.Lends.{lends_element};
 
 use crate::layout::{find, put_in, take_out};
 use crate::search::{self, Sought};
+use crate::spare::{self, Spare};
 use std::alloc::{AllocError, Global};
 use std::marker::Model;
+use std::mem;
 use std::ops::{Index, IndexMut};
 
-/// A list that lies in blocks of at most 256 elements. An element that comes or goes moves those of its block alone, and one is found by
+/// A list that lies in blocks, which are halved where they would have more than 256 elements. An element that comes or goes moves those of its block alone, and one is found by
 /// its place with a binary search over the blocks. Contracts see the list.
 pub struct Blocks<T> {
     /// None of them is empty.
@@ -64,6 +66,13 @@ impl<T> Blocks<T> {
         ensures { result ≡ length self.now }
     {
         self.count
+    }
+
+    /// Whether it has no element.
+    pub fn is_empty(&self) -> bool
+        ensures { IsTrue result ↔ (self.now ≡ []) }
+    {
+        self.count == 0
     }
 
     /// The element at the place; None exactly where the list ends before it.
@@ -170,5 +179,52 @@ impl<T: Drop> Blocks<T> {
         let element = take_out(&mut self.blocks, &mut self.starts, at);
         self.count -= 1;
         element
+    }
+
+    /// Puts an element at the end. Errs as `insert` does; the list is as before then.
+    pub fn push(&mut self, element: T) -> Result<(), AllocError>
+        ensures ok { OnOk result (self.new ≡ self.old ++ element ∷ []) }
+        ensures err { OnErr result (self.new ≡ self.old) }
+    {
+        let end = self.len();
+        self.insert(end, element)
+    }
+
+    /// Takes the last element out, where there is one. Takes no memory.
+    pub fn pop(&mut self)
+        ensures { self.new ≡ take (length self.old - 1) self.old }
+    {
+        let end = self.len();
+        if end > 0 {
+            let _last = self.remove(end - 1);
+        }
+    }
+
+    /// Puts an element in place of the one at the place, which comes back. Takes no memory.
+    pub fn replace(&mut self, place: usize, element: T) -> T
+        requires { place < length self.old }
+        ensures value { result ≡ slice_index_or self.old place result }
+        ensures list { self.new ≡ slice_set self.old place element }
+    {
+        mem::replace(self.at_mut(place), element)
+    }
+
+    /// Memory with which an element can come to a list of fewer elements than this one has. Errs where memory is wanting.
+    pub fn spare(&self) -> Result<Spare<T>, AllocError>
+        ensures { IfOk result (λ s. s ≡ length self.now) }
+    {
+        Spare::of(self.alloc, self.count)
+    }
+
+    /// Puts an element in at the place, with memory that was reserved before. Takes no other.
+    pub fn put_back(&mut self, place: usize, element: T, spare: Spare<T>)
+        requires place { place ≤ length self.old }
+        requires room { length self.old < spare }
+        ensures { self.new ≡ insert self.old place element }
+    {
+        // Read so that the proof knows its range.
+        let _most = spare.most();
+        spare::put_spared(&mut self.blocks, &mut self.starts, place, element, spare);
+        self.count += 1;
     }
 }

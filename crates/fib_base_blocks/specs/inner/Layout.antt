@@ -1,5 +1,5 @@
 -- How the elements lie in blocks. No contract of a public call rests on this.
-use Rattle.std.specs.Prelude.{◌≡◌, ℕ, zero, suc, ◌+◌, ◌-◌, ◌<◌, ◌≤◌, List, [], ◌∷◌, Vec, flat_map, length, take, drop, slice_get, slice_index_or, slice_set, true, false}
+use Rattle.std.specs.Prelude.{◌≡◌, ℕ, zero, suc, ◌+◌, ◌-◌, ◌<◌, ◌≤◌, List, [], ◌∷◌, Vec, flat_map, length, take, drop, slice_get, slice_index_or, slice_set, true, false, vec_len, vec_capacity}
 use Rattle.std.specs.List.{AllByRecursion, insert}
 use Rattle.std.specs.Ordering.{is_gt}
 use Rattle.std.specs.declared.cmp.Ordering.{Ordering}
@@ -13,10 +13,9 @@ abbrev pub starts_from : {X T : Type 0} → (X → List T) → ℕ → List X �
 starts_from items n [] = []
 starts_from items n (x ∷ xs) = n ∷ starts_from items (n + length (items x)) xs
 
--- some elements, and no more than a block's most
-pub record IsFilled {T Z : Type 0} (b : Vec T Z) : Type 0 where
-  pub some : 0 < length b.items
-  pub few : length b.items ≤ 256
+-- some elements
+abbrev pub IsFilled : {T Z : Type 0} → Vec T Z → Type 0
+IsFilled b = 0 < length b.items
 
 -- blocks with the places at which they start
 pub record AreBlocks {T Z : Type 0} (bs : List (Vec T Z)) (ns : List ℕ) : Type 0 where
@@ -35,12 +34,23 @@ pub record IsPlace {T Z : Type 0} (bs : List (Vec T Z)) (n i j : ℕ) : Type 0 w
   pub slot : j ≤ length (row items_of (slice_get bs i))
   pub within : n < length (flat_map items_of bs) → j < length (row items_of (slice_get bs i))
 
--- the same, in a block with room for one more
-pub record IsRoomy {T Z : Type 0} (bs : List (Vec T Z)) (n i j : ℕ) : Type 0 where
+-- an element that comes to that place of the list belongs there
+pub record IsSlot {T Z : Type 0} (bs : List (Vec T Z)) (n i j : ℕ) : Type 0 where
   pub inside : i < length bs
   pub place : length (flat_map items_of (take i bs)) + j ≡ n
   pub slot : j ≤ length (row items_of (slice_get bs i))
-  pub room : length (row items_of (slice_get bs i)) < 256
+
+-- the block takes one more without memory
+abbrev pub HasRoom : {T Z : Type 0} → List (Vec T Z) → ℕ → Type 0
+HasRoom {T} {Z} bs i = (b : Vec T Z) → b ≡ slice_index_or bs i b → vec_len b < vec_capacity b
+
+-- no element yet, and room for a block with its start
+pub record IsSpare {T Z Y W : Type 0} (whole : Vec T Z) (one : Vec (Vec T Z) Y) (first : Vec ℕ W) : Type 0 where
+  pub no_item : whole.items ≡ []
+  pub no_block : one.items ≡ []
+  pub no_start : first.items ≡ []
+  pub block : 0 < vec_capacity one
+  pub start : 0 < vec_capacity first
 
 -- a block in two
 pub record IsSplit {T Z : Type 0} (old new : List (Vec T Z)) (i : ℕ) : Type 0 where

@@ -29,7 +29,7 @@ returns-in_err-insert-clause-laid g c =
     let same = row_is bs c.args.at.block c.index_mut-row.result.now inside c.index_mut-row.ensures.value in
     let was = filled_at bs c.args.starts.now.items c.args.at.block c.index_mut-row.result.now c.requires.laid inside c.index_mut-row.ensures.value in
     let kept = c.in_err-insert.ensures.items in
-    same_laid bs c.args.starts.now.items c.args.at.block c.requires.laid inside c.insert.new.self (kept ∙ sym same) (record { some = omega (arith, was.some, ap length kept); few = omega (arith, was.few, ap length kept) })
+    same_laid bs c.args.starts.now.items c.args.at.block c.requires.laid inside c.insert.new.self (kept ∙ sym same) (omega (arith, was, ap length kept))
 
 pub returns-clause-ok : goal.returns-clause-ok
 returns-clause-ok g c = λ place roomy.
@@ -43,4 +43,4 @@ returns-clause-laid g c =
     let roomy = c.requires.room.1 in
     let same = row_is bs c.args.at.block c.index_mut-row.result.now roomy.inside c.index_mut-row.ensures.value in
     subst (AreBlocks (slice_set bs c.args.at.block c.insert.new.self)) (sym c.raise.ensures)
-    (more_laid bs c.args.starts.now.items c.args.at.block c.requires.laid roomy.inside c.insert.new.self c.args.at.slot c.args.element (c.in_ok-insert.ensures.items ∙ ap (λ l. insert l c.args.at.slot c.args.element) (sym same)) roomy.slot roomy.room)
+    (more_laid bs c.args.starts.now.items c.args.at.block c.requires.laid roomy.inside c.insert.new.self c.args.at.slot c.args.element (c.in_ok-insert.ensures.items ∙ ap (λ l. insert l c.args.at.slot c.args.element) (sym same)) roomy.slot)

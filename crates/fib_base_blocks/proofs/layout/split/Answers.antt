@@ -1,9 +1,9 @@
-use Rattle.std.proofs.Common.{arith, ◌≡◌, ◌+◌, ◌<◌, Global, List, get_or, length, take, drop, sym, ◌∙◌, ap, subst}
+use Rattle.std.proofs.Common.{arith, ◌+◌, ◌<◌, Global, List, get_or, length, take, drop, sym, ◌∙◌, ap, subst}
 use Rattle.std.specs.Prelude.{slice_get, slice_set, Vec}
 use Rattle.std.specs.List.{insert}
 use Rattle.fib_base_ordered.specs.inner.Blocks.{row}
 use Rattle.fib_base_blocks.specs.inner.Layout.{AreBlocks, IsSplit, items_of}
-use Rattle.fib_base_blocks.proofs.Laid.{laid_long, laid_start, row_is, filled_at, split_laid}
+use Rattle.fib_base_blocks.proofs.Laid.{laid_long, laid_start, row_is, split_laid}
 use Rattle.fib_base_blocks.proofs.Edits.{whole_long}
 use Rattle.fib_base_blocks.proofs.layout.split.Goals as goal
 
@@ -35,8 +35,6 @@ returns-clause-laid g c =
     let bs = c.args.blocks.now.items in
     let same = row_is c.reserve.new.self.items c.args.at c.index_mut-row.result.now (subst (λ (l : List (Vec g.row.T.Denot Global)). c.args.at < length l) (sym c.in_ok-reserve.ensures.items) c.requires.inside) c.index_mut-row.ensures.value in
     let was = ap (λ (l : List (Vec g.row.T.Denot Global)). row items_of (slice_get l c.args.at)) (sym c.in_ok-reserve.ensures.items) ∙ same in
-    let read = subst (λ (l : List (Vec g.row.T.Denot Global)). c.index_mut-row.result.now ≡ get_or l c.args.at c.index_mut-row.result.now) c.in_ok-reserve.ensures.items c.index_mut-row.ensures.value in
-    let filled = filled_at bs c.args.starts.now.items c.args.at c.index_mut-row.result.now c.requires.laid c.requires.inside read in
     let split : IsSplit bs c.insert.new.self.items c.args.at = record {
       low = c.split_off.new.self;
       high = c.in_ok-upper.upper;
@@ -47,4 +45,4 @@ returns-clause-laid g c =
     let start = c.index.ensures ∙ ap (λ l. get_or l c.args.at c.index.result.now) c.in_ok-reserve-2.ensures.items in
     let starts = c.in-Ok-insert.ensures.items ∙ (ap (λ l. insert l (c.args.at + 1) (c.index.result.now + 128)) c.in_ok-reserve-2.ensures.items ∙ ap (λ k. insert c.args.starts.now.items (c.args.at + 1) (k + 128)) start) in
     subst (AreBlocks c.insert.new.self.items) (sym starts)
-    (split_laid bs c.args.starts.now.items c.args.at c.requires.laid c.requires.inside c.insert.new.self.items split c.requires.long (omega (arith, filled.few, ap length was)) c.index.result.now)
+    (split_laid bs c.args.starts.now.items c.args.at c.requires.laid c.requires.inside c.insert.new.self.items split c.requires.long c.index.result.now)

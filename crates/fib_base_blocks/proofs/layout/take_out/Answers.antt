@@ -4,7 +4,7 @@ use Rattle.std.specs.List.{remove}
 use Rattle.std.proofs.lemmas.List.{length-set}
 use Rattle.std.proofs.lemmas.Grind.{common_steps}
 use Rattle.fib_base_blocks.specs.inner.Layout.{AreBlocks, items_of}
-use Rattle.fib_base_blocks.proofs.Laid.{laid_long, laid_high, row_is, row_set, filled_at, less_laid, gone_laid}
+use Rattle.fib_base_blocks.proofs.Laid.{laid_long, laid_high, row_is, row_set, less_laid, gone_laid}
 use Rattle.fib_base_blocks.proofs.Starts.{changed_long}
 use Rattle.fib_base_blocks.proofs.Edits.{list_get, list_out, list_gone}
 use Rattle.fib_base_blocks.proofs.layout.take_out.Goals as goal
@@ -66,8 +66,7 @@ returns-else-empty-clause-laid g c =
     let b = c.remove-element.new.self in
     let at = c.requires.there.1 in
     let same = row_is bs c.args.at.block c.index_mut-row.result.now at.inside c.index_mut-row.ensures.value in
-    let was = filled_at bs c.args.starts.now.items c.args.at.block c.index_mut-row.result.now c.requires.laid at.inside c.index_mut-row.ensures.value in
     let out = c.remove-element.ensures.items ∙ ap (λ l. remove l c.args.at.slot) (sym same) in
     let some : 0 < length b.items = grind (arith, common_steps) in
     subst (AreBlocks (set bs c.args.at.block b)) (sym c.lower.ensures)
-    (less_laid bs c.args.starts.now.items c.args.at.block c.requires.laid at.inside b c.args.at.slot out (at.within c.requires.there.2) (omega (arith, ap length same, was.few)) some)
+    (less_laid bs c.args.starts.now.items c.args.at.block c.requires.laid at.inside b c.args.at.slot out (at.within c.requires.there.2) some)
