@@ -13,6 +13,7 @@ mod pairs;
 mod types;
 
 pub use aims::{Aim, Marked};
+pub use fib_base_blocks::{Blocks, Spare};
 pub use fib_base_list::{Duplicate, List};
 pub use names::{Name, starts_with_letter};
 pub use pairs::{Adjacency, Pair};

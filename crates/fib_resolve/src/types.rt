@@ -4,6 +4,7 @@ ghost use Rattle.fib_resolve.specs.Tables.{fresh, IsSound};
 
 use crate::names::Name;
 use fib_addr::{Addr, Mac, Prefix};
+use fib_base_blocks::Blocks;
 use fib_base_list::List;
 use std::alloc::Global;
 
@@ -99,12 +100,13 @@ pub struct Route {
     pub paths: List<Path>,
 }
 
-/// All that the commands have written. What it means stands in `specs/`, from `Pairs` on.
+/// All that the commands have written. What it means stands in `specs/`, from `Pairs` on. The neighbors and the routes, which may be many,
+/// lie in blocks: one that comes or goes moves few of the others.
 pub struct Tables {
     pub interfaces: List<Interface>,
     pub addresses: List<Address>,
-    pub neighbors: List<Neighbor>,
-    pub routes: List<Route>,
+    pub neighbors: Blocks<Neighbor>,
+    pub routes: Blocks<Route>,
 }
 
 // The prover follows what a drop does here, once, and not at every way out past an owner.
@@ -129,8 +131,8 @@ impl Tables {
         Tables {
             interfaces: List::new(alloc),
             addresses: List::new(alloc),
-            neighbors: List::new(alloc),
-            routes: List::new(alloc),
+            neighbors: Blocks::new(alloc),
+            routes: Blocks::new(alloc),
         }
     }
 }
