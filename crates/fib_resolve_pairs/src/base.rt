@@ -8,7 +8,7 @@ ghost use Rattle.fib_resolve_pairs.specs.inner.Places.{AreOwn};
 
 use fib_addr::{Addr, Prefix};
 use fib_base_list::{Duplicate, List};
-use fib_resolve::{Address, FibSource, Need, Pair, Path, PathKind, Route, Tables};
+use fib_resolve::{Address, Blocks, FibSource, Need, Pair, Path, PathKind, Route, Tables};
 use std::alloc::{AllocError, Global};
 use std::collections::HashSet;
 
@@ -207,11 +207,11 @@ fn route_pair(alloc: Global, r: &Route) -> Result<Pair, AllocError>
     })
 }
 
-fn add_routes(out: &mut Vec<Pair>, alloc: Global, routes: &[Route]) -> Result<(), AllocError>
+fn add_routes(out: &mut Vec<Pair>, alloc: Global, routes: &Blocks<Route>) -> Result<(), AllocError>
     ensures { OnOk result (out.new.items ≡ out.old.items ++ map route_pair routes.now) }
 {
-    for r in routes {
-        out.push(route_pair(alloc, r)?)?;
+    for place in 0..routes.len() {
+        out.push(route_pair(alloc, &routes[place])?)?;
     }
     Ok(())
 }
@@ -227,6 +227,6 @@ pub fn base_pairs(alloc: Global, tables: &Tables) -> Result<Vec<Pair>, AllocErro
     add_fixed(&mut out, alloc)?;
     add_all_connected(&mut out, alloc, addresses)?;
     add_all_edges(&mut out, alloc, addresses)?;
-    add_routes(&mut out, alloc, tables.routes.as_slice())?;
+    add_routes(&mut out, alloc, &tables.routes)?;
     Ok(out)
 }

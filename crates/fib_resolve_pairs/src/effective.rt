@@ -39,8 +39,9 @@ fn add_neighbor(
 fn add_neighbors(out: &mut Vec<Pair>, alloc: Global, covers: &Covers<'_>) -> Result<(), AllocError>
     ensures { OnOk result (out.new.items ≡ out.old.items ++ flat_map (neighbor_pairs covers.now) covers.now.neighbors) }
 {
-    for n in covers.tables().neighbors.as_slice() {
-        add_neighbor(out, alloc, covers, n)?;
+    let neighbors = &covers.tables().neighbors;
+    for place in 0..neighbors.len() {
+        add_neighbor(out, alloc, covers, &neighbors[place])?;
     }
     Ok(())
 }
@@ -83,7 +84,7 @@ fn covered_pairs(alloc: Global, covers: &Covers<'_>) -> Result<Vec<Pair>, AllocE
     ensures { IfOk result (λ v. unique_keys same_pair (base_pairs covers.now ++ v.items) ≡ pairs covers.now) }
 {
     let tables = covers.tables();
-    let hops = paths::recursive_hops(alloc, tables.routes.as_slice())?;
+    let hops = paths::recursive_hops(alloc, &tables.routes)?;
     let hops = distinct(alloc, hops.as_slice())?;
     let mut out = Vec::new(alloc);
     add_neighbors(&mut out, alloc, covers)?;

@@ -12,7 +12,7 @@ pub fn macs(alloc: Global, tables: &Tables) -> Result<HashMap<Adjacency, Mac>, A
     ensures { IfOk result (λ m. AreMacs tables.now.neighbors m) }
 {
     let mut macs = HashMap::new(alloc);
-    let neighbors = tables.neighbors.as_slice();
+    let neighbors = &tables.neighbors;
     for place in (0..neighbors.len()).rev() {
         let n = &neighbors[place];
         let link = Adjacency {

@@ -6,7 +6,7 @@ ghost use Rattle.fib_resolve.specs.Pairs.{recursive_of, recursive_hops};
 ghost use Rattle.fib_resolve.specs.Sizes.{kind_adjacency};
 
 use fib_addr::{Addr, Prefix};
-use fib_resolve::{Adjacency, Path, PathKind, Route, keys};
+use fib_resolve::{Adjacency, Blocks, Path, PathKind, Route, keys};
 use std::alloc::{AllocError, Global};
 
 /// The next hop of a recursive path.
@@ -23,11 +23,12 @@ fn hops_of(alloc: Global, paths: &[Path]) -> Result<Vec<Addr>, AllocError>
 }
 
 /// The next hops of all recursive paths of the routes, in their order and with repeats.
-pub fn recursive_hops(alloc: Global, routes: &[Route]) -> Result<Vec<Addr>, AllocError>
+pub fn recursive_hops(alloc: Global, routes: &Blocks<Route>) -> Result<Vec<Addr>, AllocError>
     ensures { IfOk result (λ v. v.items ≡ flat_map recursive_hops routes.now) }
 {
     let mut out = Vec::new(alloc);
-    for r in routes {
+    for place in 0..routes.len() {
+        let r = &routes[place];
         let hops = hops_of(alloc, r.paths.as_slice())?;
         out.extend_from_slice(hops.as_slice())?;
     }

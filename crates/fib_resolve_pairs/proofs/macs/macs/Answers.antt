@@ -7,8 +7,8 @@ use Rattle.fib_resolve_pairs.proofs.macs.macs.Goals as goal
 
 pub loop-place-preserved : goal.loop-place-preserved
 loop-place-preserved c =
-    let ns = c.as_slice-neighbors.result.now in
+    let ns = c.args.tables.now.neighbors in
     let i = c.loop-place.place in
-    let n = c.index-neighbors-place.result in
-    let at = front ns i n (omega (arith, c.loop-place-test.true)) (omega (arith, c.loop-place.auto.place)) c.index-neighbors-place.is in
+    let n = c.index-n.result.now in
+    let at = front ns i n (omega (arith, c.loop-place-test.true)) (omega (arith, c.loop-place.auto.place)) c.index-n.ensures in
     macs_more (get same_adjacency c.insert.new.self) (get same_adjacency c.loop-place.macs) n (drop i ns) (drop (i - 1) ns) at c.in_ok-insert.ensures.updates.0 c.loop-place.invariant
