@@ -3,7 +3,8 @@ use Rattle.std.proofs.Common.{◌≡◌, ◌↔◌, ℕ, zero, suc, ◌+◌, ◌
 use Rattle.std.specs.Prelude.{Contains, Option, Some, None, slice_get}
 use Rattle.std.proofs.lemmas.List.Elements.{Contains-append_left, Contains-append_right}
 use Rattle.fib_resolve.specs.Tables.{IsSound}
-use Rattle.fib_resolve.specs.Edits.{edited, with_routes}
+use Rattle.fib_resolve.specs.Edits.{edited, with_neighbors, with_routes}
+use Rattle.fib_resolve.specs.declared.types.Neighbor.{Neighbor}
 use Rattle.fib_resolve.specs.declared.types.Route.{Route}
 use Rattle.fib_resolve.specs.declared.types.Edit.{Edit}
 use Rattle.fib_resolve.specs.declared.types.Tables.{Tables}
@@ -52,6 +53,12 @@ pub undone_routes_last : (us : List Undo) (old routes : List Route) (S : Tables)
     → undone_all us (with_routes S routes) ≡ undone_all us S
 unfolding undone
 undone_routes_last us old routes S at = undone_within_last us (undos.Routes old) (undos.Routes routes) S at (λ T. refl)
+
+-- or all neighbors
+pub undone_neighbors_last : (us : List Undo) (old neighbors : List Neighbor) (S : Tables) → slice_get us (length us - 1) ≡ Some (undos.Neighbors old)
+    → undone_all us (with_neighbors S neighbors) ≡ undone_all us S
+unfolding undone
+undone_neighbors_last us old neighbors S at = undone_within_last us (undos.Neighbors old) (undos.Neighbors neighbors) S at (λ T. refl)
 
 pub undone_none : (us : List Undo) (S : Tables) → us ≡ [] → undone_all us S ≡ S
 unfolding undone_all

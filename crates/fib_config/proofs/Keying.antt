@@ -129,6 +129,13 @@ set_beyond [] k x l = refl
 set_beyond (y ∷ xs) zero x l = absurd (omega (arith, l))
 set_beyond {X} (y ∷ xs) (suc k) x l = ap (λ (ys : List X). y ∷ ys) (set_beyond xs k x (omega (arith, l)))
 
+-- and none goes from there
+pub remove_beyond : {X : Type 0} (xs : List X) (k : ℕ) → length xs ≤ k → xs ≡ remove xs k
+remove_beyond [] zero l = refl
+remove_beyond [] (suc k) l = refl
+remove_beyond (x ∷ xs) zero l = absurd (omega (arith, l))
+remove_beyond {X} (x ∷ xs) (suc k) l = ap (λ (ys : List X). x ∷ ys) (remove_beyond xs k (omega (arith, l)))
+
 last_out : {X : Type 0} (xs : List X) (k : ℕ) → length xs ≤ suc k → remove xs k ≡ take k xs
 last_out [] zero l = refl
 last_out [] (suc k) l = refl
@@ -208,6 +215,10 @@ neighbor_other i a x y is apart =
       ← nat_eq_equiv.congr x.interface i y.interface both.0,
       ← nat_eq_equiv.congr x.addr a y.addr both.1,
     ) apart
+
+-- without the neighbor at the place of that interface and address
+pub neighbor_out : (i a : ℕ) (ns : List Neighbor) → IsDistinct same_neighbor ns → remove ns (place_of (is_neighbor i a) ns) ≡ filter (λ n. not (same_neighbor n (record { interface = i; addr = a; mac = 0 }))) ns
+neighbor_out i a ns apart = one_out (is_neighbor i a) ns (only_one same_neighbor (is_neighbor i a) (neighbor_other i a) ns apart)
 
 module _ {S : Type 0} where
   pub neighbor_keys_set : (new : Neighbor) (ns : List Neighbor) (keys : Option (IndexSet (ℕ × ℕ) S)) → AreKeys neighbor_key ns keys

@@ -140,7 +140,7 @@ there_again (x ∷ xs) zero old l e = ap (λ z. z ∷ xs) e
 there_again {X} (x ∷ xs) (suc i) old l e = ap (λ (zs : List X). x ∷ zs) (there_again xs i old (omega (arith, l)) e)
 
 -- and there is room for it where there is room for all that there were
-pub gone_back : (rs : List Route) (i room : ℕ) (old : Route) → i < length rs → old ≡ slice_index_or rs i old → room ≡ length rs → put_back i old room (remove rs i) ≡ rs
+pub gone_back : {X : Type 0} (rs : List X) (i room : ℕ) (old : X) → i < length rs → old ≡ slice_index_or rs i old → room ≡ length rs → put_back i old room (remove rs i) ≡ rs
 gone_back rs i room old l e is =
     let less = length-remove rs i l in
     rw (le-leb i (length (remove rs i)) (omega (arith, l, less)), lt-ltb (length (remove rs i)) room (omega (arith, less, is))) (there_again rs i old l e)
@@ -153,6 +153,7 @@ back_undone (undos.Addresses old) S new h = absurd h
 back_undone (undos.Neighbors old) S new h = absurd h
 back_undone undos.NeighborAdded S new h = absurd h
 back_undone (undos.NeighborSet place old) S new h = absurd h
+back_undone (undos.NeighborGone place old spare) S new h = absurd h
 back_undone (undos.Routes old) S new h = ap (with_routes S) h
 back_undone undos.RouteAdded S new h = ap (with_routes S) h
 back_undone (undos.RouteSet place old) S new h = ap (with_routes S) h
@@ -166,6 +167,7 @@ neighbor_back_undone (undos.Addresses old) S new h = absurd h
 neighbor_back_undone (undos.Neighbors old) S new h = ap (with_neighbors S) h
 neighbor_back_undone undos.NeighborAdded S new h = ap (with_neighbors S) h
 neighbor_back_undone (undos.NeighborSet place old) S new h = ap (with_neighbors S) h
+neighbor_back_undone (undos.NeighborGone place old spare) S new h = ap (with_neighbors S) h
 neighbor_back_undone (undos.Routes old) S new h = absurd h
 neighbor_back_undone undos.RouteAdded S new h = absurd h
 neighbor_back_undone (undos.RouteSet place old) S new h = absurd h

@@ -12,7 +12,7 @@ ghost use Rattle.fib_resolve.specs.Tables.{IsSound};
 ghost use Rattle.fib_config.specs.inner.Bounds.{own_prefixes, prefix_of_route, host_of, candidates, depth_of, is_shared, left_behind, steps, route_ends, neighbor_end, ends, same_number, allowance, growth, IsBoundFor};
 
 use fib_addr::{Addr, Prefix};
-use fib_resolve::{Address, Adjacency, Edit, Neighbor, Route, Tables};
+use fib_resolve::{Address, Adjacency, Blocks, Edit, Neighbor, Route, Tables};
 use std::alloc::{AllocError, Global};
 
 fn add_fixed_prefixes(out: &mut Vec<Prefix>) -> Result<(), AllocError>
@@ -48,20 +48,20 @@ fn add_all_own(out: &mut Vec<Prefix>, addresses: &[Address]) -> Result<(), Alloc
     Ok(())
 }
 
-fn add_route_prefixes(out: &mut Vec<Prefix>, routes: &[Route]) -> Result<(), AllocError>
+fn add_route_prefixes(out: &mut Vec<Prefix>, routes: &Blocks<Route>) -> Result<(), AllocError>
     ensures { OnOk result (out.new.items ≡ out.old.items ++ map prefix_of_route routes.now) }
 {
-    for r in routes {
-        out.push(r.prefix)?;
+    for place in 0..routes.len() {
+        out.push(routes[place].prefix)?;
     }
     Ok(())
 }
 
-fn add_neighbor_hosts(out: &mut Vec<Prefix>, neighbors: &[Neighbor]) -> Result<(), AllocError>
+fn add_neighbor_hosts(out: &mut Vec<Prefix>, neighbors: &Blocks<Neighbor>) -> Result<(), AllocError>
     ensures { OnOk result (out.new.items ≡ out.old.items ++ map host_of neighbors.now) }
 {
-    for n in neighbors {
-        out.push(Prefix::host(n.addr))?;
+    for place in 0..neighbors.len() {
+        out.push(Prefix::host(neighbors[place].addr))?;
     }
     Ok(())
 }
@@ -84,8 +84,8 @@ fn candidates(alloc: Global, tables: &Tables, hops: &[Addr]) -> Result<Vec<Prefi
     let mut out = Vec::new(alloc);
     add_fixed_prefixes(&mut out)?;
     add_all_own(&mut out, tables.addresses.as_slice())?;
-    add_route_prefixes(&mut out, tables.routes.as_slice())?;
-    add_neighbor_hosts(&mut out, tables.neighbors.as_slice())?;
+    add_route_prefixes(&mut out, &tables.routes)?;
+    add_neighbor_hosts(&mut out, &tables.neighbors)?;
     add_hosts(&mut out, hops)?;
     Ok(out)
 }
@@ -145,19 +145,23 @@ fn add_ends_of(out: &mut Vec<Adjacency>, route: &Route) -> Result<(), AllocError
     fib_resolve_pairs::add_adjacencies(out, route.prefix, route.paths.as_slice())
 }
 
-fn add_route_ends(out: &mut Vec<Adjacency>, routes: &[Route]) -> Result<(), AllocError>
+fn add_route_ends(out: &mut Vec<Adjacency>, routes: &Blocks<Route>) -> Result<(), AllocError>
     ensures { OnOk result (out.new.items ≡ out.old.items ++ flat_map route_ends routes.now) }
 {
-    for r in routes {
-        add_ends_of(out, r)?;
+    for place in 0..routes.len() {
+        add_ends_of(out, &routes[place])?;
     }
     Ok(())
 }
 
-fn add_neighbor_ends(out: &mut Vec<Adjacency>, neighbors: &[Neighbor]) -> Result<(), AllocError>
+fn add_neighbor_ends(
+    out: &mut Vec<Adjacency>,
+    neighbors: &Blocks<Neighbor>,
+) -> Result<(), AllocError>
     ensures { OnOk result (out.new.items ≡ out.old.items ++ map neighbor_end neighbors.now) }
 {
-    for n in neighbors {
+    for place in 0..neighbors.len() {
+        let n = &neighbors[place];
         out.push(Adjacency {
             interface: n.interface,
             next_hop: n.addr,
@@ -172,8 +176,8 @@ fn ends(alloc: Global, tables: &Tables) -> Result<Vec<Adjacency>, AllocError>
     ensures { IfOk result (λ v. v.items ≡ unique_keys same_adjacency (ends tables.now)) }
 {
     let mut out = Vec::new(alloc);
-    add_route_ends(&mut out, tables.routes.as_slice())?;
-    add_neighbor_ends(&mut out, tables.neighbors.as_slice())?;
+    add_route_ends(&mut out, &tables.routes)?;
+    add_neighbor_ends(&mut out, &tables.neighbors)?;
     fib_resolve_pairs::distinct(alloc, out.as_slice())
 }
 
@@ -181,7 +185,7 @@ fn ends(alloc: Global, tables: &Tables) -> Result<Vec<Adjacency>, AllocError>
 fn next_hops(alloc: Global, tables: &Tables) -> Result<Vec<Addr>, AllocError>
     ensures { IfOk result (λ v. v.items ≡ unique_keys same_number (all_hops tables.now)) }
 {
-    let hops = fib_resolve_pairs::recursive_hops(alloc, tables.routes.as_slice())?;
+    let hops = fib_resolve_pairs::recursive_hops(alloc, &tables.routes)?;
     fib_resolve_pairs::distinct(alloc, hops.as_slice())
 }
 

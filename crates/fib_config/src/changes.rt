@@ -15,13 +15,12 @@ use crate::digest::{self, Digest};
 use crate::undo::{Back, Undo};
 use fib_addr::{Addr, Prefix};
 use fib_resolve::{
-    Address, Duplicate, FibSource, Interface, List, Name, Neighbor, Path, PathKind, PathSpec,
-    Route, SpecKind, Tables, keys,
+    Address, Blocks, Duplicate, Edit, FibSource, Interface, List, Name, Neighbor, Path, PathKind,
+    PathSpec, Route, Spare, SpecKind, Tables, keys,
 };
 use indexmap::IndexSet;
 use std::alloc::{AllocError, Global};
 use std::hash::Hash;
-use std::mem;
 
 pub fn interface_named(tables: &Tables, name: &Name) -> Option<usize>
     ensures { result ≡ interface_named tables.now name.now }
@@ -109,7 +108,7 @@ pub fn paths_at<'a>(
     requires { HasKeys tables.now digest.now }
     ensures { result.now ≡ paths_at prefix source tables.now.routes }
 {
-    let routes = tables.routes.as_slice();
+    let routes = &tables.routes;
     let place = digest::place_of_route(&digest.routes, prefix, source, routes);
     if place < routes.len() {
         return routes[place].paths.as_slice();
@@ -117,87 +116,30 @@ pub fn paths_at<'a>(
     &[]
 }
 
-// Puts the item in place of another, which comes back. Takes no memory.
-fn set_at<T: Drop>(alloc: Global, list: &mut List<T>, place: usize, item: T) -> T
-    requires { place < length list.old }
-    ensures set { list.new ≡ slice_set list.old place item }
-    ensures value { result ≡ slice_index_or list.old place result }
+/// Takes the item at that place out, where there is one. Takes no memory.
+#[tactic(auto, using(crate::proofs::Keying::remove_beyond))]
+pub fn remove_at<T: Drop>(list: &mut Blocks<T>, place: usize)
+    ensures { list.new ≡ remove list.old place }
 {
-    let mut items = mem::replace(list, List::new(alloc)).into_vec();
-    let old = mem::replace(&mut items[place], item);
-    *list = List::from_vec(items);
-    old
-}
-
-// Takes the last item out, where there is one. Takes no memory.
-fn drop_last<T: Drop>(alloc: Global, list: &mut List<T>)
-    ensures { list.new ≡ take (length list.old - 1) list.old }
-{
-    let mut items = mem::replace(list, List::new(alloc)).into_vec();
-    let left = items.len().saturating_sub(1);
-    items.truncate(left);
-    *list = List::from_vec(items);
-}
-
-/// Takes the item at that place out. Takes no memory.
-pub fn remove_at<T: Drop>(alloc: Global, list: &mut List<T>, place: usize) -> T
-    requires { place < length list.old }
-    ensures left { list.new ≡ remove list.old place }
-    ensures value { result ≡ slice_index_or list.old place result }
-{
-    let mut items = mem::replace(list, List::new(alloc)).into_vec();
-    let old = items.remove(place);
-    *list = List::from_vec(items);
-    old
-}
-
-// The items, in the spare vector where theirs has no room for one more. Takes no memory.
-fn with_room<T: Drop>(items: Vec<T>, spare: Vec<T>) -> Vec<T>
-    requires { vec_len items < vec_capacity spare }
-    ensures items { result.items ≡ items.items }
-    ensures room { vec_len result < vec_capacity result }
-{
-    if items.len() < items.capacity() {
-        return items;
+    if place < list.len() {
+        let _gone = list.remove(place);
     }
-    let mut from = items;
-    let mut roomy = spare;
-    roomy.clear();
-    if roomy.append(&mut from).is_err() {
-        unreachable!()
-    }
-    roomy
 }
 
-// Puts the item in at that place, where the spare vector has room for all. Takes no memory.
-fn insert_at<T: Drop>(alloc: Global, list: &mut List<T>, place: usize, item: T, spare: Vec<T>)
-    requires place { place ≤ length list.old }
-    requires room { length list.old < vec_capacity spare }
-    ensures { list.new ≡ insert list.old place item }
+// Puts an item that went in again, where the place and the memory allow it. Takes no other.
+fn put_back<T: Drop>(list: &mut Blocks<T>, place: usize, old: T, spare: Spare<T>)
+    ensures { list.new ≡ put_back place old spare list.old }
 {
-    let items = mem::replace(list, List::new(alloc)).into_vec();
-    let mut roomy = with_room(items, spare);
-    if roomy.insert(place, item).is_err() {
-        unreachable!()
-    }
-    *list = List::from_vec(roomy);
-}
-
-// Puts a route that went in again, where the place and the room allow it. Takes no memory.
-fn put_back(alloc: Global, routes: &mut List<Route>, place: usize, old: Route, spare: Vec<Route>)
-    ensures { routes.new ≡ put_back place old (vec_capacity spare) routes.old }
-{
-    if place <= routes.len() && routes.len() < spare.capacity() {
-        insert_at(alloc, routes, place, old, spare);
+    if place <= list.len() && list.len() < spare.most() {
+        list.put_back(place, old, spare);
     }
 }
 
 /// Puts the route in its place, and says how that is taken back. Where memory is wanted, the routes stay.
 #[tactic(auto, using(crate::proofs::Places::route_set, crate::proofs::Places::route_end, crate::proofs::Places::set_back, crate::proofs::Places::end_back, crate::proofs::Keying::route_keys_set, crate::proofs::Keying::keys_last))]
 pub fn put_route(
-    alloc: Global,
     new: Route,
-    routes: &mut List<Route>,
+    routes: &mut Blocks<Route>,
     keys: &mut Option<IndexSet<(Prefix, u8)>>,
 ) -> Result<Undo, AllocError>
     requires { AreKeys route_key routes.old keys.old }
@@ -207,9 +149,9 @@ pub fn put_route(
     ensures keys { AreKeys route_key routes.new keys.new }
 {
     let key = (new.prefix, new.source.rank());
-    let place = digest::place_of_route(keys, new.prefix, new.source, routes.as_slice());
+    let place = digest::place_of_route(keys, new.prefix, new.source, routes);
     if place < routes.len() {
-        let old = set_at(alloc, routes, place, new);
+        let old = routes.replace(place, new);
         return Ok(Undo::RouteSet { place, old });
     }
     routes.push(new)?;
@@ -220,9 +162,8 @@ pub fn put_route(
 /// Puts the neighbor in its place, and says how that is taken back. Where memory is wanted, the neighbors stay.
 #[tactic(auto, using(crate::proofs::Places::neighbor_set, crate::proofs::Places::neighbor_end, crate::proofs::Places::set_back, crate::proofs::Places::end_back, crate::proofs::Keying::neighbor_keys_set, crate::proofs::Keying::keys_last))]
 pub fn put_neighbor(
-    alloc: Global,
     new: Neighbor,
-    neighbors: &mut List<Neighbor>,
+    neighbors: &mut Blocks<Neighbor>,
     keys: &mut Option<IndexSet<(u32, Addr)>>,
 ) -> Result<Undo, AllocError>
     requires { AreKeys neighbor_key neighbors.old keys.old }
@@ -232,9 +173,9 @@ pub fn put_neighbor(
     ensures keys { AreKeys neighbor_key neighbors.new keys.new }
 {
     let key = (new.interface, new.addr);
-    let place = digest::place_of_neighbor(keys, new.interface, new.addr, neighbors.as_slice());
+    let place = digest::place_of_neighbor(keys, new.interface, new.addr, neighbors);
     if place < neighbors.len() {
-        let old = set_at(alloc, neighbors, place, new);
+        let old = neighbors.replace(place, new);
         return Ok(Undo::NeighborSet { place, old });
     }
     neighbors.push(new)?;
@@ -244,15 +185,14 @@ pub fn put_neighbor(
 
 // Takes the last item out, and the last of the keys, where they are known. Takes no memory.
 fn drop_last_keyed<T: Drop, K: Eq + Hash + Drop>(
-    alloc: Global,
-    list: &mut List<T>,
+    list: &mut Blocks<T>,
     keys: &mut Option<IndexSet<K>>,
 )
     ensures list { list.new ≡ take (length list.old - 1) list.old }
     ensures keys { Follows (λ ks. remove ks (length list.old - 1)) keys.old keys.new }
 {
     let last = list.len().saturating_sub(1);
-    drop_last(alloc, list);
+    list.pop();
     digest::drop_at(keys, last);
 }
 
@@ -266,7 +206,8 @@ fn keep_where<K: Eq + Hash + Drop>(keys: &mut Option<IndexSet<K>>, are_right: bo
     }
 }
 
-fn is_neighbor_of(interface: u32, addr: Addr, n: &Neighbor) -> bool
+/// Whether it is the neighbor of that interface and address.
+pub fn is_neighbor(interface: u32, addr: Addr, n: &Neighbor) -> bool
     ensures { result ≡ is_neighbor interface addr n.now }
 {
     n.interface == interface && n.addr == addr
@@ -275,8 +216,7 @@ fn is_neighbor_of(interface: u32, addr: Addr, n: &Neighbor) -> bool
 // Puts a neighbor in place of another again, where there is that place. Takes no memory.
 #[tactic(auto, using(crate::proofs::Keying::neighbor_keys_put, crate::proofs::Keying::set_beyond))]
 fn put_neighbor_again(
-    alloc: Global,
-    neighbors: &mut List<Neighbor>,
+    neighbors: &mut Blocks<Neighbor>,
     keys: &mut Option<IndexSet<(u32, Addr)>>,
     place: usize,
     old: Neighbor,
@@ -289,15 +229,14 @@ fn put_neighbor_again(
         return;
     }
     let (interface, addr) = (old.interface, old.addr);
-    let new = set_at(alloc, neighbors, place, old);
-    keep_where(keys, is_neighbor_of(interface, addr, &new));
+    let new = neighbors.replace(place, old);
+    keep_where(keys, is_neighbor(interface, addr, &new));
 }
 
 // Puts a route in place of another again, where there is that place. Takes no memory.
 #[tactic(auto, using(crate::proofs::Keying::set_beyond))]
 fn put_route_again(
-    alloc: Global,
-    routes: &mut List<Route>,
+    routes: &mut Blocks<Route>,
     keys: &mut Option<IndexSet<(Prefix, u8)>>,
     place: usize,
     old: Route,
@@ -310,14 +249,14 @@ fn put_route_again(
         return;
     }
     let (prefix, source) = (old.prefix, old.source);
-    let new = set_at(alloc, routes, place, old);
+    let new = routes.replace(place, old);
     keep_where(keys, is_route(prefix, source, &new));
 }
 
 /// Takes an edit back, and what was known of its keys with it. Takes no memory. The keys of routes are forgotten where a route that went
 /// comes back, or all routes do; those of neighbors where all neighbors do.
 #[tactic(auto, unfolding(crate::specs::Undone::undone), using(crate::proofs::Keying::keys_shorter),)]
-pub fn take_back(alloc: Global, tables: &mut Tables, digest: &mut Digest, undo: Undo)
+pub fn take_back(tables: &mut Tables, digest: &mut Digest, undo: Undo)
     requires { HasKeys tables.old digest.old }
     ensures tables { tables.new ≡ undone undo tables.old }
     ensures keys { HasKeys tables.new digest.new }
@@ -331,32 +270,36 @@ pub fn take_back(alloc: Global, tables: &mut Tables, digest: &mut Digest, undo: 
             digest.neighbors = None;
         }
         Undo::NeighborAdded => {
-            drop_last_keyed(alloc, &mut tables.neighbors, &mut digest.neighbors);
+            drop_last_keyed(&mut tables.neighbors, &mut digest.neighbors);
         }
         Undo::NeighborSet { place, old } => {
             let keys = &mut digest.neighbors;
-            put_neighbor_again(alloc, &mut tables.neighbors, keys, place, old);
+            put_neighbor_again(&mut tables.neighbors, keys, place, old);
+        }
+        Undo::NeighborGone { place, old, spare } => {
+            put_back(&mut tables.neighbors, place, old, spare);
+            digest.neighbors = None;
         }
         Undo::Routes(old) => {
             tables.routes = old;
             digest.routes = None;
         }
         Undo::RouteAdded => {
-            drop_last_keyed(alloc, &mut tables.routes, &mut digest.routes);
+            drop_last_keyed(&mut tables.routes, &mut digest.routes);
         }
         Undo::RouteSet { place, old } => {
             let keys = &mut digest.routes;
-            put_route_again(alloc, &mut tables.routes, keys, place, old);
+            put_route_again(&mut tables.routes, keys, place, old);
         }
         Undo::RouteGone { place, old, spare } => {
-            put_back(alloc, &mut tables.routes, place, old, spare);
+            put_back(&mut tables.routes, place, old, spare);
             digest.routes = None;
         }
     }
 }
 
 /// Takes edits back, the last one first. Takes no memory.
-pub fn take_all_back(alloc: Global, tables: &mut Tables, digest: &mut Digest, undos: Vec<Undo>)
+pub fn take_all_back(tables: &mut Tables, digest: &mut Digest, undos: Vec<Undo>)
     requires { HasKeys tables.old digest.old }
     ensures tables { tables.new ≡ undone_all undos.items tables.old }
     ensures keys { HasKeys tables.new digest.new }
@@ -364,7 +307,7 @@ pub fn take_all_back(alloc: Global, tables: &mut Tables, digest: &mut Digest, un
 {
     let mut left = undos;
     while let Some(undo) = left.pop() {
-        take_back(alloc, tables, digest, undo);
+        take_back(tables, digest, undo);
     }
 }
 
@@ -378,7 +321,10 @@ fn is_within(later: &Undo, undo: &Undo) -> bool
         Undo::Addresses(_) => matches!(later, Undo::Addresses(_)),
         Undo::Neighbors(_) => matches!(
             later,
-            Undo::Neighbors(_) | Undo::NeighborAdded | Undo::NeighborSet { .. }
+            Undo::Neighbors(_)
+                | Undo::NeighborAdded
+                | Undo::NeighborSet { .. }
+                | Undo::NeighborGone { .. }
         ),
         Undo::Routes(_) => matches!(
             later,
@@ -386,6 +332,7 @@ fn is_within(later: &Undo, undo: &Undo) -> bool
         ),
         Undo::NeighborAdded => false,
         Undo::NeighborSet { .. } => false,
+        Undo::NeighborGone { .. } => false,
         Undo::RouteAdded => false,
         Undo::RouteSet { .. } => false,
         Undo::RouteGone { .. } => false,
@@ -402,14 +349,15 @@ fn is_within_last(later: &Undo, undos: &[Undo]) -> bool
     }
 }
 
-/// How a deletion after these edits is to be taken back: by a copy of all routes, unless the last of them has one already. That one gives
-/// the routes back whatever they are by then, so what takes the deletion back won't be kept.
-pub fn back_after(undos: &[Undo]) -> Back
-    ensures { result ≡ Spare → (S : TablesValue) (routes : ListValue RouteValue)
-        → undone_all undos.now (with_routes S routes) ≡ undone_all undos.now S }
+/// How a deletion after these edits is to be taken back: by a copy of the whole list, unless the last of them has one already. That one
+/// gives the list back whatever it is by then, so what takes the deletion back won't be kept.
+#[tactic(auto, unfolding(fib_resolve::specs::Edits::edited))]
+pub fn back_after(undos: &[Undo], edit: &Edit) -> Back
+    ensures { result ≡ Spare → (S : TablesValue) → undone_all undos.now (edited S edit.now) ≡ undone_all undos.now S }
 {
-    match undos.last() {
-        Some(Undo::Routes(_)) => Back::Spare,
+    match (undos.last(), edit) {
+        (Some(Undo::Routes(_)), Edit::DelRoute { .. }) => Back::Spare,
+        (Some(Undo::Neighbors(_)), Edit::DelNeighbor { .. }) => Back::Spare,
         _ => Back::Whole,
     }
 }
@@ -505,42 +453,6 @@ pub fn without_address(
         .filter(|a| !is_same_address(a, gone))
         .collect(alloc)?;
     Ok(List::from_vec(kept))
-}
-
-/// The neighbors without that pair.
-pub fn without_neighbor(
-    alloc: Global,
-    interface: u32,
-    addr: Addr,
-    neighbors: &[Neighbor],
-) -> Result<List<Neighbor>, AllocError>
-    ensures { IfOk result (λ x. x ≡ filter (λ n. not
-        (same_neighbor n (record { interface = interface; addr = addr; mac = 0 }))) neighbors.now) }
-{
-    let kept: Vec<Neighbor> = neighbors
-        .iter()
-        .copied()
-        .filter(|n| !(n.interface == interface && n.addr == addr))
-        .collect(alloc)?;
-    Ok(List::from_vec(kept))
-}
-
-/// The routes without that one.
-pub fn without_route(
-    alloc: Global,
-    prefix: Prefix,
-    source: FibSource,
-    routes: &[Route],
-) -> Result<List<Route>, AllocError>
-    ensures { IfOk result (λ x. x ≡ without_route prefix source routes.now) }
-{
-    let mut out = List::new(alloc);
-    for r in routes {
-        if !is_route(prefix, source, r) {
-            out.push(r.duplicate(alloc)?)?;
-        }
-    }
-    Ok(out)
 }
 
 fn is_same_key(p: &Path, q: &Path) -> bool

@@ -18,7 +18,7 @@ use crate::errors::{BatchError, EditError};
 use crate::undo::{Back, Edited, EditedAll, Undo};
 use crate::{changes, edits, lookups};
 use fib_addr::{Addr, Mac, Prefix};
-use fib_resolve::{Address, Duplicate, Edit, FibSource, List, Neighbor, Path, Refusal, Tables};
+use fib_resolve::{Address, Duplicate, Edit, FibSource, Neighbor, Path, Refusal, Tables};
 use std::alloc::{AllocError, Global};
 use std::marker::Model;
 
@@ -64,12 +64,7 @@ impl Config {
         ensures { IfOk result (λ c. c ≡ record { tables = fresh; room = room }) }
     {
         Ok(Config {
-            held: Tables {
-                interfaces: List::new(alloc),
-                addresses: List::new(alloc),
-                neighbors: List::new(alloc),
-                routes: List::new(alloc),
-            },
+            held: Tables::fresh(alloc),
             most: room,
             digest: Digest::unknown(),
             alloc,
@@ -122,7 +117,7 @@ impl Config {
     pub fn neighbors_inside(&self, prefix: Prefix) -> Result<Vec<Neighbor>, AllocError>
         ensures { IfOk result (λ v. v.items ≡ filter (λ n. contains prefix n.addr) self.now.tables.neighbors) }
     {
-        lookups::neighbors_inside(self.alloc, prefix, self.held.neighbors.as_slice())
+        lookups::neighbors_inside(self.alloc, prefix, &self.held.neighbors)
     }
 
     /// A configuration of the same tables and room.
@@ -187,7 +182,7 @@ impl Config {
         ensures tables { self.new.tables ≡ undone undo self.old.tables }
         ensures room { self.new.room ≡ self.old.room }
     {
-        changes::take_back(self.alloc, &mut self.held, &mut self.digest, undo);
+        changes::take_back(&mut self.held, &mut self.digest, undo);
         self.digest.forget_bound();
     }
 
@@ -220,7 +215,7 @@ impl Config {
         ensures tables { self.new.tables ≡ undone_all undos.items self.old.tables }
         ensures room { self.new.room ≡ self.old.room }
     {
-        changes::take_all_back(self.alloc, &mut self.held, &mut self.digest, undos);
+        changes::take_all_back(&mut self.held, &mut self.digest, undos);
         self.digest.forget_bound();
     }
 

@@ -7,9 +7,9 @@ ghost use Rattle.fib_config.specs.inner.Digest.{AreKeys, Follows, HasKeys, IsDig
 ghost use Rattle.fib_resolve.specs.declared.types.Tables.{Tables as TablesValue};
 ghost use Rattle.fib_resolve.specs.Tables.{is_route};
 
-use crate::changes::is_route;
+use crate::changes::{is_neighbor, is_route};
 use fib_addr::{Addr, Prefix};
-use fib_resolve::{Edit, FibSource, Neighbor, Route, Tables};
+use fib_resolve::{Blocks, Edit, FibSource, Neighbor, Route, Tables};
 use indexmap::IndexSet;
 use std::alloc::Global;
 use std::hash::Hash;
@@ -104,34 +104,36 @@ pub fn drop_at<K: Eq + Hash + Drop>(keys: &mut Option<IndexSet<K>>, place: usize
 }
 
 /// The keys of the routes; none where two have one key, or where memory is wanted.
-fn of_routes(alloc: Global, routes: &[Route]) -> Option<IndexSet<(Prefix, u8)>>
+fn of_routes(alloc: Global, routes: &Blocks<Route>) -> Option<IndexSet<(Prefix, u8)>>
     ensures { AreKeys route_key routes.now result }
 {
     let mut keys = Some(IndexSet::new(alloc));
-    for r in routes {
+    for place in 0..routes.len() {
+        let r = &routes[place];
         keys = with_last(keys, (r.prefix, r.source.rank()));
     }
     keys
 }
 
 /// The keys of the neighbors; none where two have one key, or where memory is wanted.
-fn of_neighbors(alloc: Global, neighbors: &[Neighbor]) -> Option<IndexSet<(u32, Addr)>>
+fn of_neighbors(alloc: Global, neighbors: &Blocks<Neighbor>) -> Option<IndexSet<(u32, Addr)>>
     ensures { AreKeys neighbor_key neighbors.now result }
 {
     let mut keys = Some(IndexSet::new(alloc));
-    for n in neighbors {
+    for place in 0..neighbors.len() {
+        let n = neighbors[place];
         keys = with_last(keys, (n.interface, n.addr));
     }
     keys
 }
 
 /// The place of the route of that prefix and source, or else the number of routes, by a search.
-fn searched_route(prefix: Prefix, source: FibSource, routes: &[Route]) -> usize
+fn searched_route(prefix: Prefix, source: FibSource, routes: &Blocks<Route>) -> usize
     ensures { result ≡ place_of (is_route prefix source) routes.now }
 {
-    for (i, r) in routes.iter().enumerate() {
-        if is_route(prefix, source, r) {
-            return i;
+    for place in 0..routes.len() {
+        if is_route(prefix, source, &routes[place]) {
+            return place;
         }
     }
     routes.len()
@@ -142,7 +144,7 @@ pub fn place_of_route(
     keys: &Option<IndexSet<(Prefix, u8)>>,
     prefix: Prefix,
     source: FibSource,
-    routes: &[Route],
+    routes: &Blocks<Route>,
 ) -> usize
     requires { AreKeys route_key routes.now keys.now }
     ensures { result ≡ place_of (is_route prefix source) routes.now }
@@ -157,12 +159,12 @@ pub fn place_of_route(
 }
 
 /// The place of the neighbor of that interface and address, or else the number of neighbors, by a search.
-fn searched_neighbor(interface: u32, addr: Addr, neighbors: &[Neighbor]) -> usize
+fn searched_neighbor(interface: u32, addr: Addr, neighbors: &Blocks<Neighbor>) -> usize
     ensures { result ≡ place_of (is_neighbor interface addr) neighbors.now }
 {
-    for (i, n) in neighbors.iter().enumerate() {
-        if n.interface == interface && n.addr == addr {
-            return i;
+    for place in 0..neighbors.len() {
+        if is_neighbor(interface, addr, &neighbors[place]) {
+            return place;
         }
     }
     neighbors.len()
@@ -173,7 +175,7 @@ pub fn place_of_neighbor(
     keys: &Option<IndexSet<(u32, Addr)>>,
     interface: u32,
     addr: Addr,
-    neighbors: &[Neighbor],
+    neighbors: &Blocks<Neighbor>,
 ) -> usize
     requires { AreKeys neighbor_key neighbors.now keys.now }
     ensures { result ≡ place_of (is_neighbor interface addr) neighbors.now }
@@ -196,12 +198,12 @@ pub fn learn(alloc: Global, tables: &Tables, digest: &mut Digest, edit: &Edit)
     match edit {
         Edit::AddRoute { .. } | Edit::DelRoute { .. } => {
             if digest.routes.is_none() {
-                digest.routes = of_routes(alloc, tables.routes.as_slice());
+                digest.routes = of_routes(alloc, &tables.routes);
             }
         }
         Edit::SetNeighbor { .. } | Edit::DelNeighbor { .. } => {
             if digest.neighbors.is_none() {
-                digest.neighbors = of_neighbors(alloc, tables.neighbors.as_slice());
+                digest.neighbors = of_neighbors(alloc, &tables.neighbors);
             }
         }
         _ => {}

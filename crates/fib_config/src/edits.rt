@@ -1,8 +1,8 @@
 // The edited tables.
-ghost use Rattle.std.specs.Prelude.{◌≡◌, ◌≤◌, ◌++◌, [], ◌∷◌, IfOk, IfErr, OnOk, OnErr, None, Ok, length, map, filter, not, ◌<◌, ◌^◌, ◌-◌};
-ghost use Rattle.std.specs.List.{AllByRecursion, IsDistinct};
+ghost use Rattle.std.specs.Prelude.{◌≡◌, ◌≤◌, ◌++◌, [], ◌∷◌, slice_index_or, IfOk, IfErr, OnOk, OnErr, None, Ok, length, map, filter, not, ◌<◌, ◌^◌, ◌-◌};
+ghost use Rattle.std.specs.List.{AllByRecursion, IsDistinct, remove};
 ghost use Rattle.fib_config.specs.Undone.{undone, undone_all, IsBackOf, IsNeighborBackOf};
-ghost use Rattle.fib_config.specs.inner.Digest.{AreKeys, HasKeys, IsDigest, route_key, neighbor_key};
+ghost use Rattle.fib_config.specs.inner.Digest.{AreKeys, Follows, HasKeys, IsDigest, route_key, neighbor_key};
 ghost use Rattle.fib_resolve_changes.specs.Differ.{Differ, change_of};
 ghost use Rattle.fib_resolve.specs.Tables.{IsSound, same_neighbor, same_route};
 ghost use Rattle.fib_resolve.specs.declared.types.Tables.{Tables as TablesValue};
@@ -17,12 +17,13 @@ use crate::undo::{Back, Edited, EditedAll, Undo};
 use crate::{bounds, changes, reasons, sizes};
 use fib_addr::{Addr, Prefix};
 use fib_resolve::{
-    Address, Duplicate, Edit, FibSource, Interface, List, Neighbor, Path, PathSpec, Refusal, Route,
-    Tables,
+    Address, Blocks, Duplicate, Edit, FibSource, Interface, List, Neighbor, Path, PathSpec,
+    Refusal, Route, Spare, Tables,
 };
 use fib_resolve_changes::Change;
 use indexmap::IndexSet;
 use std::alloc::{AllocError, Global};
+use std::hash::Hash;
 use std::mem;
 
 // Puts the route with the paths that are left of it in its place; it goes where none is left.
@@ -30,7 +31,7 @@ use std::mem;
 fn leave_route(
     alloc: Global,
     left: Route,
-    routes: &mut List<Route>,
+    routes: &mut Blocks<Route>,
     keys: &mut Option<IndexSet<(Prefix, u8)>>,
     back: Back,
 ) -> Result<Undo, AllocError>
@@ -43,15 +44,55 @@ fn leave_route(
 {
     match left.paths.as_slice() {
         [] => drop_route(alloc, &left, routes, keys, back),
-        [_, ..] => changes::put_route(alloc, left, routes, keys),
+        [_, ..] => changes::put_route(left, routes, keys),
     }
 }
 
+// Takes the item at that place out, with its key, and reserves the memory for its way back. Where there is none, all stays.
+fn take_spared<T: Drop, K: Eq + Hash + Drop>(
+    list: &mut Blocks<T>,
+    keys: &mut Option<IndexSet<K>>,
+    place: usize,
+) -> Result<(T, Spare<T>), AllocError>
+    requires { place < length list.old }
+    ensures list { OnOk result (list.new ≡ remove list.old place) }
+    ensures value { IfOk result (λ x. x.0 ≡ slice_index_or list.old place x.0) }
+    ensures spare { IfOk result (λ x. x.1 ≡ length list.old) }
+    ensures keys { OnOk result (Follows (λ ks. remove ks place) keys.old keys.new) }
+    ensures err { OnErr result (list.new ≡ list.old) }
+    ensures kept { OnErr result (keys.new ≡ keys.old) }
+{
+    let spare = list.spare()?;
+    let old = list.remove(place);
+    digest::drop_at(keys, place);
+    Ok((old, spare))
+}
+
+// Takes the item at that place out, with its key, and gives a copy of the whole list. Where memory is wanted, all stays.
+fn take_copied<T: Duplicate + Drop, K: Eq + Hash + Drop>(
+    alloc: Global,
+    list: &mut Blocks<T>,
+    keys: &mut Option<IndexSet<K>>,
+    place: usize,
+) -> Result<Blocks<T>, AllocError>
+    ensures list { OnOk result (list.new ≡ remove list.old place) }
+    ensures copy { IfOk result (λ x. x ≡ list.old) }
+    ensures keys { OnOk result (Follows (λ ks. remove ks place) keys.old keys.new) }
+    ensures err { OnErr result (list.new ≡ list.old) }
+    ensures kept { OnErr result (keys.new ≡ keys.old) }
+{
+    let copied = list.duplicate(alloc)?;
+    changes::remove_at(list, place);
+    digest::drop_at(keys, place);
+    Ok(copied)
+}
+
 // Takes out the route of that prefix and source, to be taken back so.
+#[tactic(auto, using(crate::proofs::Keying::route_keys_without, crate::proofs::Keying::route_out))]
 fn drop_route(
     alloc: Global,
     gone: &Route,
-    routes: &mut List<Route>,
+    routes: &mut Blocks<Route>,
     keys: &mut Option<IndexSet<(Prefix, u8)>>,
     back: Back,
 ) -> Result<Undo, AllocError>
@@ -62,80 +103,41 @@ fn drop_route(
     ensures err { OnErr result (routes.new ≡ routes.old) }
     ensures keys { AreKeys route_key routes.new keys.new }
 {
+    let place = digest::place_of_route(keys, gone.prefix, gone.source, routes);
     match back {
-        Back::Spare => drop_spared(alloc, gone.prefix, gone.source, routes, keys),
-        Back::Whole => drop_whole(alloc, gone.prefix, gone.source, routes, keys),
+        Back::Spare if place < routes.len() => {
+            let (old, spare) = take_spared(routes, keys, place)?;
+            Ok(Undo::RouteGone { place, old, spare })
+        }
+        _ => Ok(Undo::Routes(take_copied(alloc, routes, keys, place)?)),
     }
 }
 
-// Takes the route out of the list, and reserves the room for its way back. Where there is none, the list stays, by a copy: such an edit was
-// refused before.
-fn drop_spared(
-    alloc: Global,
-    prefix: Prefix,
-    source: FibSource,
-    routes: &mut List<Route>,
-    keys: &mut Option<IndexSet<(Prefix, u8)>>,
-) -> Result<Undo, AllocError>
-    requires keys { AreKeys route_key routes.old keys.old }
-    requires apart { IsDistinct same_route routes.old }
-    ensures ok { OnOk result (routes.new ≡ without_route prefix source routes.old) }
-    ensures back { IfOk result (λ u. IsBackOf u routes.new routes.old) }
-    ensures err { OnErr result (routes.new ≡ routes.old) }
-    ensures keys { AreKeys route_key routes.new keys.new }
-{
-    let place = digest::place_of_route(keys, prefix, source, routes.as_slice());
-    if place < routes.len() {
-        let spare = Vec::with_capacity(alloc, routes.len())?;
-        let old = changes::remove_at(alloc, routes, place);
-        digest::drop_at(keys, place);
-        return Ok(Undo::RouteGone { place, old, spare });
-    }
-    drop_whole(alloc, prefix, source, routes, keys)
-}
-
-// Puts a copy of the other routes in place of the list, which is kept.
-#[tactic(auto, using(crate::proofs::Keying::route_keys_without))]
-fn drop_whole(
-    alloc: Global,
-    prefix: Prefix,
-    source: FibSource,
-    routes: &mut List<Route>,
-    keys: &mut Option<IndexSet<(Prefix, u8)>>,
-) -> Result<Undo, AllocError>
-    requires keys { AreKeys route_key routes.old keys.old }
-    requires apart { IsDistinct same_route routes.old }
-    ensures ok { OnOk result (routes.new ≡ without_route prefix source routes.old) }
-    ensures back { IfOk result (λ u. IsBackOf u routes.new routes.old) }
-    ensures err { OnErr result (routes.new ≡ routes.old) }
-    ensures keys { AreKeys route_key routes.new keys.new }
-{
-    let place = digest::place_of_route(keys, prefix, source, routes.as_slice());
-    let left = changes::without_route(alloc, prefix, source, routes.as_slice())?;
-    digest::drop_at(keys, place);
-    Ok(Undo::Routes(mem::replace(routes, left)))
-}
-
-#[tactic(auto, using(crate::proofs::Keying::neighbor_keys_without))]
+// Takes out the neighbor of that interface and address, to be taken back so.
+#[tactic(auto, using(crate::proofs::Keying::neighbor_keys_without, crate::proofs::Keying::neighbor_out))]
 fn drop_neighbor(
     alloc: Global,
-    interface: u32,
-    addr: Addr,
-    neighbors: &mut List<Neighbor>,
+    gone: (u32, Addr),
+    neighbors: &mut Blocks<Neighbor>,
     keys: &mut Option<IndexSet<(u32, Addr)>>,
+    back: Back,
 ) -> Result<Undo, AllocError>
     requires keys { AreKeys neighbor_key neighbors.old keys.old }
     requires apart { IsDistinct same_neighbor neighbors.old }
     ensures ok { OnOk result (neighbors.new ≡ filter
-        (λ n. not (same_neighbor n (record { interface = interface; addr = addr; mac = 0 }))) neighbors.old) }
+        (λ n. not (same_neighbor n (record { interface = gone.0; addr = gone.1; mac = 0 }))) neighbors.old) }
     ensures back { IfOk result (λ u. IsNeighborBackOf u neighbors.new neighbors.old) }
     ensures err { OnErr result (neighbors.new ≡ neighbors.old) }
     ensures keys { AreKeys neighbor_key neighbors.new keys.new }
 {
-    let place = digest::place_of_neighbor(keys, interface, addr, neighbors.as_slice());
-    let left = changes::without_neighbor(alloc, interface, addr, neighbors.as_slice())?;
-    digest::drop_at(keys, place);
-    Ok(Undo::Neighbors(mem::replace(neighbors, left)))
+    let place = digest::place_of_neighbor(keys, gone.0, gone.1, neighbors);
+    match back {
+        Back::Spare if place < neighbors.len() => {
+            let (old, spare) = take_spared(neighbors, keys, place)?;
+            Ok(Undo::NeighborGone { place, old, spare })
+        }
+        _ => Ok(Undo::Neighbors(take_copied(alloc, neighbors, keys, place)?)),
+    }
 }
 
 // What is left of the list of that prefix and source without those paths.
@@ -209,7 +211,7 @@ fn add_route(
         source,
         paths: changes::set_paths(alloc, old, new.as_slice())?,
     };
-    let undo = changes::put_route(alloc, route, &mut tables.routes, &mut digest.routes)?;
+    let undo = changes::put_route(route, &mut tables.routes, &mut digest.routes)?;
     Ok(undo)
 }
 
@@ -268,13 +270,14 @@ fn make(
                 mac: *mac,
             };
             let neighbors = &mut tables.neighbors;
-            let undo = changes::put_neighbor(alloc, new, neighbors, &mut digest.neighbors)?;
+            let undo = changes::put_neighbor(new, neighbors, &mut digest.neighbors)?;
             Ok(undo)
         }
         Edit::DelNeighbor { name, addr } => {
             let number = changes::number_of(tables, name);
             let neighbors = &mut tables.neighbors;
-            let undo = drop_neighbor(alloc, number, *addr, neighbors, &mut digest.neighbors)?;
+            let gone = (number, *addr);
+            let undo = drop_neighbor(alloc, gone, neighbors, &mut digest.neighbors, back)?;
             Ok(undo)
         }
         Edit::AddRoute { prefix, api, paths } => {
@@ -385,12 +388,12 @@ fn fitted(
             Ok(edited)
         }
         Ok(None) => {
-            changes::take_back(alloc, tables, digest, edited.undo);
+            changes::take_back(tables, digest, edited.undo);
             digest.bound = before;
             Err(EditError::Refused(Refusal::TooLarge))
         }
         Err(_) => {
-            changes::take_back(alloc, tables, digest, edited.undo);
+            changes::take_back(tables, digest, edited.undo);
             digest.bound = before;
             Err(EditError::Memory)
         }
@@ -447,7 +450,7 @@ fn keep(
 {
     kept.changes.reserve(1)?;
     kept.undos.reserve(1)?;
-    let back = changes::back_after(kept.undos.as_slice());
+    let back = changes::back_after(kept.undos.as_slice(), edit);
     let Edited { change, undo } = fitted(alloc, tables, digest, room, edit, back)?;
     kept.changes.push_reserved(change);
     changes::keep_undo(&mut kept.undos, undo);
@@ -519,7 +522,7 @@ pub fn changed_in_turn(
         Ok(()) => Ok(kept),
         Err(error) => {
             let EditedAll { undos, .. } = kept;
-            changes::take_all_back(alloc, tables, digest, undos);
+            changes::take_all_back(tables, digest, undos);
             digest.bound = before;
             Err(error)
         }

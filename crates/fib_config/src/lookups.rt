@@ -10,7 +10,7 @@ ghost use Rattle.fib_config.specs.inner.Digest.{HasKeys};
 
 use crate::digest::{self, Digest};
 use fib_addr::{Addr, Mac, Prefix};
-use fib_resolve::{Address, Neighbor, Tables};
+use fib_resolve::{Address, Blocks, Neighbor, Tables};
 use std::alloc::{AllocError, Global};
 
 /// Whether the interface is there and up.
@@ -29,7 +29,7 @@ pub fn mac_of(interface: u32, addr: Addr, tables: &Tables, digest: &Digest) -> O
     requires { HasKeys tables.now digest.now }
     ensures { result ≡ mac_of tables.now interface addr }
 {
-    let neighbors = tables.neighbors.as_slice();
+    let neighbors = &tables.neighbors;
     let place = digest::place_of_neighbor(&digest.neighbors, interface, addr, neighbors);
     if place < neighbors.len() {
         return Some(neighbors[place].mac);
@@ -71,13 +71,16 @@ pub fn addresses_at(
 pub fn neighbors_inside(
     alloc: Global,
     prefix: Prefix,
-    neighbors: &[Neighbor],
+    neighbors: &Blocks<Neighbor>,
 ) -> Result<Vec<Neighbor>, AllocError>
     ensures { IfOk result (λ v. v.items ≡ filter (λ n. contains prefix n.addr) neighbors.now) }
 {
-    neighbors
-        .iter()
-        .copied()
-        .filter(|n| prefix.contains(n.addr))
-        .collect(alloc)
+    let mut out = Vec::new(alloc);
+    for place in 0..neighbors.len() {
+        let n = neighbors[place];
+        if prefix.contains(n.addr) {
+            out.push(n)?;
+        }
+    }
+    Ok(out)
 }

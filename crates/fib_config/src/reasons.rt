@@ -79,7 +79,7 @@ fn has_neighbor(tables: &Tables, digest: &Digest, interface: u32, addr: Addr) ->
     requires { HasKeys tables.now digest.now }
     ensures { result ≡ has_neighbor tables.now (record { interface = interface; addr = addr; mac = 0 }) }
 {
-    let neighbors = tables.neighbors.as_slice();
+    let neighbors = &tables.neighbors;
     digest::place_of_neighbor(&digest.neighbors, interface, addr, neighbors) < neighbors.len()
 }
 
@@ -171,7 +171,7 @@ fn has_route(tables: &Tables, digest: &Digest, prefix: Prefix, source: FibSource
     requires { HasKeys tables.now digest.now }
     ensures { result ≡ list_any (is_route prefix source) tables.now.routes }
 {
-    let routes = tables.routes.as_slice();
+    let routes = &tables.routes;
     digest::place_of_route(&digest.routes, prefix, source, routes) < routes.len()
 }
 

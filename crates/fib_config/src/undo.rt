@@ -1,5 +1,5 @@
 // What takes an edit back.
-use fib_resolve::{Address, Interface, List, Neighbor, Route};
+use fib_resolve::{Address, Blocks, Interface, List, Neighbor, Route, Spare};
 use fib_resolve_changes::Change;
 
 /// What takes an edit back, on the tables that it made: `undone` in `specs/Undone` says what each gives.
@@ -10,7 +10,7 @@ pub enum Undo {
     /// The addresses are these again.
     Addresses(List<Address>),
     /// The neighbors are these again.
-    Neighbors(List<Neighbor>),
+    Neighbors(Blocks<Neighbor>),
     /// The last neighbor goes.
     NeighborAdded,
     /// The neighbor at that place is this one again.
@@ -18,8 +18,15 @@ pub enum Undo {
         place: usize,
         old: Neighbor,
     },
+    /// The neighbor that went stands at that place again. Where there is no such place, or where the neighbors and the one more are too many
+    /// for the memory, nothing happens.
+    NeighborGone {
+        place: usize,
+        old: Neighbor,
+        spare: Spare<Neighbor>,
+    },
     /// The routes are these again.
-    Routes(List<Route>),
+    Routes(Blocks<Route>),
     /// The last route goes.
     RouteAdded,
     /// The route at that place is this one again.
@@ -27,19 +34,19 @@ pub enum Undo {
         place: usize,
         old: Route,
     },
-    /// The route that went stands at that place again. The routes move into the spare vector where theirs is full; where they and the
-    /// one more are too many for it, nothing happens.
+    /// The route that went stands at that place again. Where there is no such place, or where the routes and the one more are too many for
+    /// the memory, nothing happens.
     RouteGone {
         place: usize,
         old: Route,
-        spare: Vec<Route>,
+        spare: Spare<Route>,
     },
 }
 
-/// How the deletion of a route is to be taken back.
+/// How the deletion of a route or a neighbor is to be taken back.
 #[derive(Clone, Copy)]
 pub enum Back {
-    /// By the route alone, with a vector that is reserved for as many routes as there were. It costs no copy, but the room of one.
+    /// By what went alone, with memory that is reserved for as many as there were. It costs no copy, but the room of one.
     Spare,
     /// By a copy of the whole list, since of several edits one such list takes back all.
     Whole,

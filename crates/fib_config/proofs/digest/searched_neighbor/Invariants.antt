@@ -3,5 +3,5 @@ use Rattle.fib_config.specs.Undone.{place_of}
 use Rattle.fib_config.specs.inner.Digest.{is_neighbor}
 use Rattle.fib_config.proofs.digest.searched_neighbor.Given as goal
 
-abbrev pub invariant-loop-i : goal.invariant-loop-i
-invariant-loop-i l = l.i + place_of (is_neighbor l.interface l.addr) (drop l.i l.neighbors) ≡ place_of (is_neighbor l.interface l.addr) l.neighbors
+abbrev pub invariant-loop-place : goal.invariant-loop-place
+invariant-loop-place l = l.place + place_of (is_neighbor l.interface l.addr) (drop l.place l.neighbors) ≡ place_of (is_neighbor l.interface l.addr) l.neighbors

@@ -3,5 +3,5 @@ use Rattle.fib_resolve.specs.Tables.{is_route}
 use Rattle.fib_config.specs.Undone.{place_of}
 use Rattle.fib_config.proofs.digest.searched_route.Given as goal
 
-abbrev pub invariant-loop-i : goal.invariant-loop-i
-invariant-loop-i l = l.i + place_of (is_route l.prefix l.source) (drop l.i l.routes) ≡ place_of (is_route l.prefix l.source) l.routes
+abbrev pub invariant-loop-place : goal.invariant-loop-place
+invariant-loop-place l = l.place + place_of (is_route l.prefix l.source) (drop l.place l.routes) ≡ place_of (is_route l.prefix l.source) l.routes
