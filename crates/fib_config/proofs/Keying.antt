@@ -157,6 +157,11 @@ module _ {X K S : Type 0} (key : X → K) where
   keys_shorter xs ys old new is are by =
       fewer_keys key xs ys (length xs - 1) old new (sym (map-remove key xs (length xs - 1)) ∙ ap (map key) (last_out xs (length xs - 1) (omega arith) ∙ sym is)) are by
 
+module _ {X K S : Type 0} (key : X → K) where
+  -- an item goes, and its key
+  pub keys_removed : (xs ys : List X) (k : ℕ) (old new : Option (IndexSet K S)) → ys ≡ remove xs k → AreKeys key xs old → Follows (λ ks. remove ks k) old new → AreKeys key ys new
+  keys_removed xs ys k old new is are by = fewer_keys key xs ys k old new (sym (map-remove key xs k) ∙ ap (map key) (sym is)) are by
+
 -- routes
 route_like : (p : Prefix) (s : FibSource) (r : Route) → is_route p s r ≡ true → route_key r ≡ (p, source_rank s)
 route_like p s r is =

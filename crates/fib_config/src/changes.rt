@@ -6,10 +6,10 @@ ghost use Rattle.fib_config.specs.Undone.{place_of, put_back, undone, undone_all
 ghost use Rattle.fib_config.specs.inner.Digest.{AreKeys, Follows, HasKeys, is_neighbor, route_key, neighbor_key};
 ghost use Rattle.fib_resolve.specs.Keys.{key_of, key_lt, same_key};
 ghost use Rattle.fib_resolve.specs.Tables.{has_name, interface_named, same_address, same_neighbor, is_route};
-ghost use Rattle.fib_resolve.specs.Edits.{number_of, with_state, set_neighbor, set_path, set_paths, kind_of, path_of, source_of, paths_at, set_route, without_route, lacks_key, without_paths, route_left, routes_without, with_routes};
+ghost use Rattle.fib_resolve.specs.Edits.{edited, number_of, with_state, set_neighbor, set_path, set_paths, kind_of, path_of, source_of, paths_at, set_route, without_route, lacks_key, without_paths, route_left, routes_without, with_neighbors, with_routes};
 ghost use Rattle.fib_resolve.specs.declared.types.Tables.{Tables as TablesValue};
 ghost use Rattle.fib_resolve.specs.declared.types.Route.{Route as RouteValue};
-ghost use Rattle.fib_config.specs.declared.undo.Back.TheVariants.{Spare};
+ghost use Rattle.fib_config.specs.declared.undo.Back.TheVariants.{Reserved};
 
 use crate::digest::{self, Digest};
 use crate::undo::{Back, Undo};
@@ -349,15 +349,40 @@ fn is_within_last(later: &Undo, undos: &[Undo]) -> bool
     }
 }
 
+// Whether it takes paths out of a route, or the whole.
+#[tactic(auto, unfolding(fib_resolve::specs::Edits::edited))]
+fn deletes_route(edit: &Edit) -> bool
+    ensures { result ≡ true → (S : TablesValue) → with_routes S (edited S edit.now).routes ≡ edited S edit.now }
+{
+    matches!(edit, Edit::DelRoute { .. })
+}
+
+// Whether it takes a neighbor out.
+#[tactic(auto, unfolding(fib_resolve::specs::Edits::edited))]
+fn deletes_neighbor(edit: &Edit) -> bool
+    ensures { result ≡ true → (S : TablesValue) → with_neighbors S (edited S edit.now).neighbors ≡ edited S edit.now }
+{
+    matches!(edit, Edit::DelNeighbor { .. })
+}
+
 /// How a deletion after these edits is to be taken back: by a copy of the whole list, unless the last of them has one already. That one
 /// gives the list back whatever it is by then, so what takes the deletion back won't be kept.
-#[tactic(auto, unfolding(fib_resolve::specs::Edits::edited))]
 pub fn back_after(undos: &[Undo], edit: &Edit) -> Back
-    ensures { result ≡ Spare → (S : TablesValue) → undone_all undos.now (edited S edit.now) ≡ undone_all undos.now S }
+    ensures { result ≡ Reserved → (S : TablesValue) → undone_all undos.now (edited S edit.now) ≡ undone_all undos.now S }
 {
-    match (undos.last(), edit) {
-        (Some(Undo::Routes(_)), Edit::DelRoute { .. }) => Back::Spare,
-        (Some(Undo::Neighbors(_)), Edit::DelNeighbor { .. }) => Back::Spare,
+    match undos.last() {
+        Some(Undo::Routes(_)) => {
+            if deletes_route(edit) {
+                return Back::Reserved;
+            }
+            Back::Whole
+        }
+        Some(Undo::Neighbors(_)) => {
+            if deletes_neighbor(edit) {
+                return Back::Reserved;
+            }
+            Back::Whole
+        }
         _ => Back::Whole,
     }
 }

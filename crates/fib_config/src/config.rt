@@ -172,7 +172,7 @@ impl Config {
             &mut self.held,
             &mut self.digest,
             edit,
-            Back::Spare,
+            Back::Reserved,
         )
     }
 

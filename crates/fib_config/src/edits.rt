@@ -88,7 +88,7 @@ fn take_copied<T: Duplicate + Drop, K: Eq + Hash + Drop>(
 }
 
 // Takes out the route of that prefix and source, to be taken back so.
-#[tactic(auto, using(crate::proofs::Keying::route_keys_without, crate::proofs::Keying::route_out))]
+#[tactic(auto, using(crate::proofs::Keying::route_out))]
 fn drop_route(
     alloc: Global,
     gone: &Route,
@@ -105,7 +105,7 @@ fn drop_route(
 {
     let place = digest::place_of_route(keys, gone.prefix, gone.source, routes);
     match back {
-        Back::Spare if place < routes.len() => {
+        Back::Reserved if place < routes.len() => {
             let (old, spare) = take_spared(routes, keys, place)?;
             Ok(Undo::RouteGone { place, old, spare })
         }
@@ -114,7 +114,7 @@ fn drop_route(
 }
 
 // Takes out the neighbor of that interface and address, to be taken back so.
-#[tactic(auto, using(crate::proofs::Keying::neighbor_keys_without, crate::proofs::Keying::neighbor_out))]
+#[tactic(auto, using(crate::proofs::Keying::neighbor_out))]
 fn drop_neighbor(
     alloc: Global,
     gone: (u32, Addr),
@@ -132,7 +132,7 @@ fn drop_neighbor(
 {
     let place = digest::place_of_neighbor(keys, gone.0, gone.1, neighbors);
     match back {
-        Back::Spare if place < neighbors.len() => {
+        Back::Reserved if place < neighbors.len() => {
             let (old, spare) = take_spared(neighbors, keys, place)?;
             Ok(Undo::NeighborGone { place, old, spare })
         }
@@ -422,7 +422,7 @@ pub fn made(
     ensures refused { IfErr result (TellsRefusal (refused tables.old room edit.now)) }
     ensures err { OnErr result (tables.new ≡ tables.old) }
 {
-    let edited = fitted(alloc, tables, digest, room, edit, Back::Spare)?;
+    let edited = fitted(alloc, tables, digest, room, edit, Back::Reserved)?;
     forget(edited);
     Ok(())
 }

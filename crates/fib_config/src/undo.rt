@@ -47,7 +47,7 @@ pub enum Undo {
 #[derive(Clone, Copy)]
 pub enum Back {
     /// By what went alone, with memory that is reserved for as many as there were. It costs no copy, but the room of one.
-    Spare,
+    Reserved,
     /// By a copy of the whole list, since of several edits one such list takes back all.
     Whole,
 }

@@ -12,7 +12,8 @@ returns-in-Some-get_index_of c =
 
 pub returns-in-None-get_index_of : goal.returns-in-None-get_index_of
 returns-in-None-get_index_of c =
-    missed_by_key neighbor_key _ (is_neighbor c.args.interface c.args.addr) (neighbor_match c.args.interface c.args.addr)
+    c.len.ensures
+    ∙ missed_by_key neighbor_key _ (is_neighbor c.args.interface c.args.addr) (neighbor_match c.args.interface c.args.addr)
     c.args.neighbors.now c.in-Some.set.keys
     (subst (AreKeys neighbor_key c.args.neighbors.now) c.in-Some.is c.requires)
     (sym c.get_index_of.ensures.index ∙ c.in-None-get_index_of.is)

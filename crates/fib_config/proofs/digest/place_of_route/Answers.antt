@@ -13,7 +13,8 @@ returns-in-Some-get_index_of c =
 
 pub returns-in-None-get_index_of : goal.returns-in-None-get_index_of
 returns-in-None-get_index_of c =
-    missed_by_key route_key _ (is_route c.args.prefix c.args.source) (λ r. route_match c.args.prefix c.args.source c.rank.result r c.rank.ensures.value)
+    c.len.ensures
+    ∙ missed_by_key route_key _ (is_route c.args.prefix c.args.source) (λ r. route_match c.args.prefix c.args.source c.rank.result r c.rank.ensures.value)
     c.args.routes.now c.in-Some.set.keys
     (subst (AreKeys route_key c.args.routes.now) c.in-Some.is c.requires)
     (sym c.get_index_of.ensures.index ∙ c.in-None-get_index_of.is)
