@@ -9,6 +9,22 @@ use Rattle.fib_base_list.proofs.Lists.{either}
 use Rattle.fib_base_keyed.specs.inner.Rows.{AreApart, AreKnown, Notes, key_of}
 use Rattle.fib_base_keyed.specs.declared.rows.Row.{Row}
 
+pub map_put : {K : Type 0} (rows : List (Row K)) (i : ℕ) (r : Row K) → map key_of (insert rows i r) ≡ insert (map key_of rows) i r.key
+map_put [] zero r = refl
+map_put [] (suc i) r = refl
+map_put (x ∷ xs) zero r = refl
+map_put {K} (x ∷ xs) (suc i) r = ap (λ (ks : List K). x.key ∷ ks) (map_put xs i r)
+
+pub map_out : {K : Type 0} (rows : List (Row K)) (i : ℕ) → map key_of (remove rows i) ≡ remove (map key_of rows) i
+map_out [] zero = refl
+map_out [] (suc i) = refl
+map_out (x ∷ xs) zero = refl
+map_out {K} (x ∷ xs) (suc i) = ap (λ (ks : List K). x.key ∷ ks) (map_out xs i)
+
+pub long : {K : Type 0} (rows : List (Row K)) → length (map key_of rows) ≡ length rows
+long [] = refl
+long (x ∷ xs) = ap suc (long xs)
+
 module _ {K : Type 0} (eq : K → K → Bool) (laws : IsEquivalence eq) where
   same_lookup : {X : Type 0} (es : List (K × X)) (q k : K) → eq q k ≡ true → lookup (eq q) es ≡ lookup (eq k) es
   same_lookup [] q k same = refl
@@ -90,7 +106,7 @@ module _ {K : Type 0} (eq : K → K → Bool) (laws : IsEquivalence eq) where
     pub known_put : (rows : List (Row K)) (i : ℕ) (r : Row K) → AreKnown eq rows (get eq old) → Notes eq old new r.key r.stamp → AreKnown eq (insert rows i r) (get eq new)
     known_put rows i r was notes = record {
       apart = apart_put rows i r (none_equal old rows r.key notes.absent was.known) was.apart;
-      known = all_put (λ q. get eq new q.key ≡ None → ⊥) rows i r (λ none. clash (rw laws.refl r.key at (sym (notes.noted r.key) ∙ none))) (still_known r.key r.stamp notes rows was.known);
+      known = all_put (λ q. get eq new q.key ≡ None → ⊥) rows i r (λ none. clash (rw (laws.refl r.key) at (sym (notes.noted r.key) ∙ none))) (still_known r.key r.stamp notes rows was.known);
     }
       where
         clash : Some r.stamp ≡ None → ⊥

@@ -89,9 +89,9 @@ impl<K: Eq + Hash + Copy + Drop> Keyed<K> {
         let stamp = next_stamp(&rows)?;
         let stamps = noted(stamps, key, stamp)?;
         let mut more = rows;
-        if more.push(Row { key, stamp }).is_err() {
+        let Ok(()) = more.push(Row { key, stamp }) else {
             return None;
-        }
+        };
         Some(Keyed { rows: more, stamps })
     }
 

@@ -15,6 +15,7 @@ pub struct Row<K> {
 }
 
 /// A number that is sought.
+#[derive(Drop)]
 struct Stamp {
     stamp: u64,
 }
