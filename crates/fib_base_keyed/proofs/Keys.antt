@@ -9,17 +9,18 @@ use Rattle.fib_base_list.proofs.Lists.{either}
 use Rattle.fib_base_keyed.specs.inner.Rows.{AreApart, AreKnown, Notes, key_of}
 use Rattle.fib_base_keyed.specs.declared.rows.Row.{Row}
 
-pub map_put : {K : Type 0} (rows : List (Row K)) (i : ℕ) (r : Row K) → map key_of (insert rows i r) ≡ insert (map key_of rows) i r.key
-map_put [] zero r = refl
-map_put [] (suc i) r = refl
-map_put (x ∷ xs) zero r = refl
-map_put {K} (x ∷ xs) (suc i) r = ap (λ (ks : List K). x.key ∷ ks) (map_put xs i r)
+module _ {X Y : Type 0} (f : X → Y) where
+  pub map_put : (xs : List X) (i : ℕ) (x : X) → map f (insert xs i x) ≡ insert (map f xs) i (f x)
+  map_put [] zero x = refl
+  map_put [] (suc i) x = refl
+  map_put (y ∷ xs) zero x = refl
+  map_put (y ∷ xs) (suc i) x = ap (λ (ys : List Y). f y ∷ ys) (map_put xs i x)
 
-pub map_out : {K : Type 0} (rows : List (Row K)) (i : ℕ) → map key_of (remove rows i) ≡ remove (map key_of rows) i
-map_out [] zero = refl
-map_out [] (suc i) = refl
-map_out (x ∷ xs) zero = refl
-map_out {K} (x ∷ xs) (suc i) = ap (λ (ks : List K). x.key ∷ ks) (map_out xs i)
+  pub map_out : (xs : List X) (i : ℕ) → map f (remove xs i) ≡ remove (map f xs) i
+  map_out [] zero = refl
+  map_out [] (suc i) = refl
+  map_out (y ∷ xs) zero = refl
+  map_out (y ∷ xs) (suc i) = ap (λ (ys : List Y). f y ∷ ys) (map_out xs i)
 
 pub long : {K : Type 0} (rows : List (Row K)) → length (map key_of rows) ≡ length rows
 long [] = refl

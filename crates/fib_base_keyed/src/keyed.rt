@@ -95,19 +95,25 @@ impl<K: Eq + Hash + Copy + Drop> Keyed<K> {
         Some(Keyed { rows: more, stamps })
     }
 
-    /// Takes the key at the place out, and gives what its way back needs. The memory for it is reserved.
+    /// Takes the key at the place out, and gives its number. Takes no memory.
+    pub fn remove(&mut self, place: usize) -> u64
+        requires { place < length self.old }
+        ensures { self.new ≡ remove self.old place }
+    {
+        let row = self.rows.remove(place);
+        // The row has the number too.
+        let _stamp = self.stamps.remove(&row.key);
+        row.stamp
+    }
+
+    /// Takes the key at the place out, and gives what its way back needs: the memory for it is reserved.
     pub fn take_out(&mut self, place: usize) -> Gone<K>
         requires { place < length self.old }
         ensures { self.new ≡ remove self.old place }
     {
         let spare = self.rows.spare().ok();
-        let row = self.rows.remove(place);
-        // The number is kept in the row.
-        let _stamp = self.stamps.remove(&row.key);
-        Gone {
-            stamp: row.stamp,
-            spare,
-        }
+        let stamp = self.remove(place);
+        Gone { stamp, spare }
     }
 
     /// The list with a key that went at its place again; None where it is there, where there is no such place, or where no memory was

@@ -2,11 +2,10 @@
 use Rattle.std.proofs.Common.{arith, ◌≡◌, ℕ, zero, suc, ◌-◌, ◌<◌, ◌≤◌, Bool, true, false, cond, not, ◌&&◌, ◌==◌, List, [], ◌∷◌, ◌++◌, length, map, take, Option, Some, None, inl, inr, refl, sym, ◌∙◌, ap}
 use Rattle.std.specs.Prelude.{position, nat_lt, filter, slice_set, slice_index_or}
 use Rattle.std.specs.Cmp.{nat_eq_equiv}
-use Rattle.std.specs.List.{remove, position_or_len, AllByRecursion, IsDistinct}
+use Rattle.std.specs.List.{insert, remove, position_or_len, AllByRecursion, IsDistinct}
 use Rattle.std.proofs.lemmas.Bool.{ltb-false}
 use Rattle.std.proofs.lemmas.List.{map-append}
-use Rattle.indexmap.specs.IndexSet.{IndexSet}
-use Rattle.indexmap.proofs.SetLemmas.{map-remove}
+use Rattle.fib_base_keyed.proofs.Keys.{map_out, map_put}
 use Rattle.fib_base_list.proofs.Lists.{either}
 use Rattle.fib_addr.specs.Prefixes.{Prefix, same_prefix}
 use Rattle.std.proofs.lemmas.Bool.Decides.{Decides-eqb}
@@ -23,40 +22,13 @@ use Rattle.fib_config.specs.inner.Digest.{AreKeys, Follows, route_key, neighbor_
 
 -- a place by a test of the keys
 module _ {X K : Type 0} (key : X → K) (test : K → Bool) (is : X → Bool) (same : (x : X) → test (key x) ≡ is x) where
-  by_keys : (xs : List X) → position_or_len test (map key xs) ≡ place_of is xs
+  pub by_keys : (xs : List X) → position_or_len test (map key xs) ≡ place_of is xs
   by_keys [] = refl
   by_keys (x ∷ xs) =
       elim (either (is x)) [
         | inl here ↦ rw (same x ∙ here, here) refl
         | inr later ↦ rw (same x ∙ later, later) (omega (arith, by_keys xs))
       ]
-
-  as_long : (xs : List X) → length (map key xs) ≡ length xs
-  as_long [] = refl
-  as_long (x ∷ xs) = ap suc (as_long xs)
-
-  within : (xs : List X) → place_of is xs ≤ length xs
-  within [] = omega arith
-  within (x ∷ xs) = elim (either (is x)) [ inl here ↦ rw here (omega arith) | inr later ↦ rw later (omega (arith, within xs)) ]
-
-  found_at : (b : Bool) (n place : ℕ) → cond b (Some n) None ≡ Some place → n ≡ place
-  found_at true n place e = (cc)
-  found_at false n place e = absurd (cc)
-
-  none_at : (b : Bool) (n : ℕ) → cond b (Some n) None ≡ None → b ≡ false
-  none_at true n e = absurd (cc)
-  none_at false n e = refl
-
-  pub found_by_key : (xs : List X) (ks : List K) (place : ℕ) → ks ≡ map key xs → position test ks ≡ Some place → place ≡ place_of is xs
-  found_by_key xs ks place are at =
-      sym (found_at (nat_lt (position_or_len test ks) (length ks)) (position_or_len test ks) place at) ∙ ap (position_or_len test) are ∙ by_keys xs
-
-  pub missed_by_key : (xs : List X) (ks : List K) → ks ≡ map key xs → position test ks ≡ None → length xs ≡ place_of is xs
-  missed_by_key xs ks are at =
-      let over = ltb-false (position_or_len test ks) (length ks) (none_at (nat_lt (position_or_len test ks) (length ks)) (position_or_len test ks) at) in
-      let place = ap (position_or_len test) are ∙ by_keys xs in
-      let long = ap length are ∙ as_long xs in
-      omega (arith, within xs, over, place, long)
 
 -- a key is the route's exactly where the route is the one that is sought
 pub route_match : (p : Prefix) (s : FibSource) (n : ℕ) (r : Route) → n ≡ source_rank s → (same_prefix p r.prefix && (n == source_rank r.source)) ≡ is_route p s r
@@ -93,9 +65,9 @@ module _ {X : Type 0} (same : X → X → Bool) (is : X → Bool) (alike : (x y 
   only_one [] apart = tt
   only_one (x ∷ xs) apart = (λ here. others x xs here apart.0, only_one xs apart.1)
 
-module _ {X K S : Type 0} (key : X → K) where
+module _ {X K : Type 0} (key : X → K) where
   -- one item more, at the end
-  pub keys_last : (xs ys : List X) (x : X) (old new : Option (IndexSet K S)) → ys ≡ xs ++ x ∷ [] → AreKeys key xs old → Follows (λ ks. ks ++ key x ∷ []) old new → AreKeys key ys new
+  pub keys_last : (xs ys : List X) (x : X) (old new : Option (List K)) → ys ≡ xs ++ x ∷ [] → AreKeys key xs old → Follows (λ ks. ks ++ key x ∷ []) old new → AreKeys key ys new
   keys_last xs ys x old None is are by = tt
   keys_last xs ys x None (Some new) is are by = absurd by
   keys_last xs ys x (Some old) (Some new) is are by = by ∙ ap (λ (ks : List K). ks ++ key x ∷ []) are ∙ sym (ap (map key) is ∙ map-append key xs (x ∷ []))
@@ -111,14 +83,14 @@ module _ {X K : Type 0} (key : X → K) where
       ]
 
   keys_without : (is : X → Bool) (xs : List X) → IsOnly is xs → remove (map key xs) (place_of is xs) ≡ map key (filter (λ x. not (is x)) xs)
-  keys_without is xs only = sym (map-remove key xs (place_of is xs)) ∙ ap (map key) (one_out is xs only)
+  keys_without is xs only = sym (map_out key xs (place_of is xs)) ∙ ap (map key) (one_out is xs only)
 
-module _ {X K S : Type 0} (key : X → K) where
-  keep_keys : (xs ys : List X) (keys : Option (IndexSet K S)) → map key ys ≡ map key xs → AreKeys key xs keys → AreKeys key ys keys
+module _ {X K : Type 0} (key : X → K) where
+  keep_keys : (xs ys : List X) (keys : Option (List K)) → map key ys ≡ map key xs → AreKeys key xs keys → AreKeys key ys keys
   keep_keys xs ys None same are = tt
   keep_keys xs ys (Some set) same are = are ∙ sym same
 
-  fewer_keys : (xs ys : List X) (k : ℕ) (old new : Option (IndexSet K S)) → remove (map key xs) k ≡ map key ys → AreKeys key xs old → Follows (λ ks. remove ks k) old new → AreKeys key ys new
+  fewer_keys : (xs ys : List X) (k : ℕ) (old new : Option (List K)) → remove (map key xs) k ≡ map key ys → AreKeys key xs old → Follows (λ ks. remove ks k) old new → AreKeys key ys new
   fewer_keys xs ys k old None same are by = tt
   fewer_keys xs ys k None (Some new) same are by = absurd by
   fewer_keys xs ys k (Some old) (Some new) same are by = by ∙ ap (λ (ks : List K). remove ks k) are ∙ same
@@ -150,17 +122,23 @@ keys_at key [] k x y at same l = refl
 keys_at key (z ∷ xs) zero x y at same l = ap (λ c. c ∷ map key xs) (sym same ∙ ap key at)
 keys_at {X} {K} key (z ∷ xs) (suc k) x y at same l = ap (λ (ks : List K). key z ∷ ks) (keys_at key xs k x y at same (omega (arith, l)))
 
-module _ {X K S : Type 0} (key : X → K) where
+module _ {X K : Type 0} (key : X → K) where
   -- the last item goes, and its key
-  pub keys_shorter : (xs ys : List X) (old new : Option (IndexSet K S)) → ys ≡ take (length xs - 1) xs → AreKeys key xs old
+  pub keys_shorter : (xs ys : List X) (old new : Option (List K)) → ys ≡ take (length xs - 1) xs → AreKeys key xs old
       → Follows (λ ks. remove ks (length xs - 1)) old new → AreKeys key ys new
   keys_shorter xs ys old new is are by =
-      fewer_keys key xs ys (length xs - 1) old new (sym (map-remove key xs (length xs - 1)) ∙ ap (map key) (last_out xs (length xs - 1) (omega arith) ∙ sym is)) are by
+      fewer_keys key xs ys (length xs - 1) old new (sym (map_out key xs (length xs - 1)) ∙ ap (map key) (last_out xs (length xs - 1) (omega arith) ∙ sym is)) are by
 
-module _ {X K S : Type 0} (key : X → K) where
+module _ {X K : Type 0} (key : X → K) where
   -- an item goes, and its key
-  pub keys_removed : (xs ys : List X) (k : ℕ) (old new : Option (IndexSet K S)) → ys ≡ remove xs k → AreKeys key xs old → Follows (λ ks. remove ks k) old new → AreKeys key ys new
-  keys_removed xs ys k old new is are by = fewer_keys key xs ys k old new (sym (map-remove key xs k) ∙ ap (map key) (sym is)) are by
+  pub keys_removed : (xs ys : List X) (k : ℕ) (old new : Option (List K)) → ys ≡ remove xs k → AreKeys key xs old → Follows (λ ks. remove ks k) old new → AreKeys key ys new
+  keys_removed xs ys k old new is are by = fewer_keys key xs ys k old new (sym (map_out key xs k) ∙ ap (map key) (sym is)) are by
+
+  -- an item comes to a place, and its key
+  pub keys_put : (xs ys : List X) (k : ℕ) (x : X) (old new : Option (List K)) → ys ≡ insert xs k x → AreKeys key xs old → Follows (λ ks. insert ks k (key x)) old new → AreKeys key ys new
+  keys_put xs ys k x old None is are by = tt
+  keys_put xs ys k x None (Some new) is are by = absurd by
+  keys_put xs ys k x (Some old) (Some new) is are by = by ∙ ap (λ (ks : List K). insert ks k (key x)) are ∙ sym (map_put key xs k x) ∙ ap (map key) (sym is)
 
 -- routes
 route_like : (p : Prefix) (s : FibSource) (r : Route) → is_route p s r ≡ true → route_key r ≡ (p, source_rank s)
@@ -185,25 +163,24 @@ only_route p s rs apart = only_one same_route (is_route p s) (route_other p s) r
 pub route_out : (p : Prefix) (s : FibSource) (rs : List Route) → IsDistinct same_route rs → remove rs (place_of (is_route p s) rs) ≡ without_route p s rs
 route_out p s rs apart = one_out (is_route p s) rs (only_route p s rs apart)
 
-module _ {S : Type 0} where
-  pub route_keys_set : (new : Route) (rs : List Route) (keys : Option (IndexSet (Prefix × ℕ) S)) → AreKeys route_key rs keys
-      → AreKeys route_key (slice_set rs (place_of (is_route new.prefix new.source) rs) new) keys
-  route_keys_set new rs keys are = keep_keys route_key rs _ keys (keys_set route_key (is_route new.prefix new.source) new (route_like new.prefix new.source) rs) are
+pub route_keys_set : (new : Route) (rs : List Route) (keys : Option (List (Prefix × ℕ))) → AreKeys route_key rs keys
+    → AreKeys route_key (slice_set rs (place_of (is_route new.prefix new.source) rs) new) keys
+route_keys_set new rs keys are = keep_keys route_key rs _ keys (keys_set route_key (is_route new.prefix new.source) new (route_like new.prefix new.source) rs) are
 
-  pub route_keys_put : (rs : List Route) (k : ℕ) (old new : Route) (keys kept : Option (IndexSet (Prefix × ℕ) S)) → new ≡ slice_index_or rs k new → k < length rs
-      → (is_route old.prefix old.source new ≡ true → kept ≡ keys) → (is_route old.prefix old.source new ≡ false → kept ≡ None)
-      → AreKeys route_key rs keys → AreKeys route_key (slice_set rs k old) kept
-  route_keys_put rs k old new keys kept at l right wrong are =
-      elim (either (is_route old.prefix old.source new)) [
-        | inl is ↦ rw (right is) (keep_keys route_key rs _ keys (keys_at route_key rs k old new at (route_like old.prefix old.source new is) l) are)
-        | inr isnt ↦ rw (wrong isnt) tt
-      ]
+pub route_keys_put : (rs : List Route) (k : ℕ) (old new : Route) (keys kept : Option (List (Prefix × ℕ))) → new ≡ slice_index_or rs k new → k < length rs
+    → (is_route old.prefix old.source new ≡ true → kept ≡ keys) → (is_route old.prefix old.source new ≡ false → kept ≡ None)
+    → AreKeys route_key rs keys → AreKeys route_key (slice_set rs k old) kept
+route_keys_put rs k old new keys kept at l right wrong are =
+    elim (either (is_route old.prefix old.source new)) [
+      | inl is ↦ rw (right is) (keep_keys route_key rs _ keys (keys_at route_key rs k old new at (route_like old.prefix old.source new is) l) are)
+      | inr isnt ↦ rw (wrong isnt) tt
+    ]
 
-  pub route_keys_without : (p : Prefix) (s : FibSource) (rs : List Route) (old new : Option (IndexSet (Prefix × ℕ) S)) → IsDistinct same_route rs → AreKeys route_key rs old
-      → Follows (λ ks. remove ks (place_of (is_route p s) rs)) old new → AreKeys route_key (without_route p s rs) new
-  route_keys_without p s rs old new apart are by =
-      fewer_keys route_key rs (without_route p s rs) (place_of (is_route p s) rs) old new
-      (keys_without route_key (is_route p s) rs (only_route p s rs apart)) are by
+pub route_keys_without : (p : Prefix) (s : FibSource) (rs : List Route) (old new : Option (List (Prefix × ℕ))) → IsDistinct same_route rs → AreKeys route_key rs old
+    → Follows (λ ks. remove ks (place_of (is_route p s) rs)) old new → AreKeys route_key (without_route p s rs) new
+route_keys_without p s rs old new apart are by =
+    fewer_keys route_key rs (without_route p s rs) (place_of (is_route p s) rs) old new
+    (keys_without route_key (is_route p s) rs (only_route p s rs apart)) are by
 
 -- neighbors
 neighbor_like : (i a : ℕ) (n : Neighbor) → is_neighbor i a n ≡ true → neighbor_key n ≡ (i, a)
@@ -225,22 +202,21 @@ neighbor_other i a x y is apart =
 pub neighbor_out : (i a : ℕ) (ns : List Neighbor) → IsDistinct same_neighbor ns → remove ns (place_of (is_neighbor i a) ns) ≡ filter (λ n. not (same_neighbor n (record { interface = i; addr = a; mac = 0 }))) ns
 neighbor_out i a ns apart = one_out (is_neighbor i a) ns (only_one same_neighbor (is_neighbor i a) (neighbor_other i a) ns apart)
 
-module _ {S : Type 0} where
-  pub neighbor_keys_set : (new : Neighbor) (ns : List Neighbor) (keys : Option (IndexSet (ℕ × ℕ) S)) → AreKeys neighbor_key ns keys
-      → AreKeys neighbor_key (slice_set ns (place_of (is_neighbor new.interface new.addr) ns) new) keys
-  neighbor_keys_set new ns keys are = keep_keys neighbor_key ns _ keys (keys_set neighbor_key (is_neighbor new.interface new.addr) new (neighbor_like new.interface new.addr) ns) are
+pub neighbor_keys_set : (new : Neighbor) (ns : List Neighbor) (keys : Option (List (ℕ × ℕ))) → AreKeys neighbor_key ns keys
+    → AreKeys neighbor_key (slice_set ns (place_of (is_neighbor new.interface new.addr) ns) new) keys
+neighbor_keys_set new ns keys are = keep_keys neighbor_key ns _ keys (keys_set neighbor_key (is_neighbor new.interface new.addr) new (neighbor_like new.interface new.addr) ns) are
 
-  pub neighbor_keys_put : (ns : List Neighbor) (k : ℕ) (old new : Neighbor) (keys kept : Option (IndexSet (ℕ × ℕ) S)) → new ≡ slice_index_or ns k new → k < length ns
-      → (is_neighbor old.interface old.addr new ≡ true → kept ≡ keys) → (is_neighbor old.interface old.addr new ≡ false → kept ≡ None)
-      → AreKeys neighbor_key ns keys → AreKeys neighbor_key (slice_set ns k old) kept
-  neighbor_keys_put ns k old new keys kept at l right wrong are =
-      elim (either (is_neighbor old.interface old.addr new)) [
-        | inl is ↦ rw (right is) (keep_keys neighbor_key ns _ keys (keys_at neighbor_key ns k old new at (neighbor_like old.interface old.addr new is) l) are)
-        | inr isnt ↦ rw (wrong isnt) tt
-      ]
+pub neighbor_keys_put : (ns : List Neighbor) (k : ℕ) (old new : Neighbor) (keys kept : Option (List (ℕ × ℕ))) → new ≡ slice_index_or ns k new → k < length ns
+    → (is_neighbor old.interface old.addr new ≡ true → kept ≡ keys) → (is_neighbor old.interface old.addr new ≡ false → kept ≡ None)
+    → AreKeys neighbor_key ns keys → AreKeys neighbor_key (slice_set ns k old) kept
+neighbor_keys_put ns k old new keys kept at l right wrong are =
+    elim (either (is_neighbor old.interface old.addr new)) [
+      | inl is ↦ rw (right is) (keep_keys neighbor_key ns _ keys (keys_at neighbor_key ns k old new at (neighbor_like old.interface old.addr new is) l) are)
+      | inr isnt ↦ rw (wrong isnt) tt
+    ]
 
-  pub neighbor_keys_without : (i a : ℕ) (ns : List Neighbor) (old new : Option (IndexSet (ℕ × ℕ) S)) → IsDistinct same_neighbor ns → AreKeys neighbor_key ns old
-      → Follows (λ ks. remove ks (place_of (is_neighbor i a) ns)) old new → AreKeys neighbor_key (filter (λ n. not (same_neighbor n (record { interface = i; addr = a; mac = 0 }))) ns) new
-  neighbor_keys_without i a ns old new apart are by =
-      fewer_keys neighbor_key ns _ (place_of (is_neighbor i a) ns) old new
-      (keys_without neighbor_key (is_neighbor i a) ns (only_one same_neighbor (is_neighbor i a) (neighbor_other i a) ns apart)) are by
+pub neighbor_keys_without : (i a : ℕ) (ns : List Neighbor) (old new : Option (List (ℕ × ℕ))) → IsDistinct same_neighbor ns → AreKeys neighbor_key ns old
+    → Follows (λ ks. remove ks (place_of (is_neighbor i a) ns)) old new → AreKeys neighbor_key (filter (λ n. not (same_neighbor n (record { interface = i; addr = a; mac = 0 }))) ns) new
+neighbor_keys_without i a ns old new apart are by =
+    fewer_keys neighbor_key ns _ (place_of (is_neighbor i a) ns) old new
+    (keys_without neighbor_key (is_neighbor i a) ns (only_one same_neighbor (is_neighbor i a) (neighbor_other i a) ns apart)) are by

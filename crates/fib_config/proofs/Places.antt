@@ -153,11 +153,11 @@ back_undone (undos.Addresses old) S new h = absurd h
 back_undone (undos.Neighbors old) S new h = absurd h
 back_undone undos.NeighborAdded S new h = absurd h
 back_undone (undos.NeighborSet place old) S new h = absurd h
-back_undone (undos.NeighborGone place old spare) S new h = absurd h
+back_undone (undos.NeighborGone place old spare key) S new h = absurd h
 back_undone (undos.Routes old) S new h = ap (with_routes S) h
 back_undone undos.RouteAdded S new h = ap (with_routes S) h
 back_undone (undos.RouteSet place old) S new h = ap (with_routes S) h
-back_undone (undos.RouteGone place old spare) S new h = ap (with_routes S) h
+back_undone (undos.RouteGone place old spare key) S new h = ap (with_routes S) h
 
 -- neighbors taken back in the tables
 pub neighbor_back_undone : (u : Undo) (S : Tables) (new : List Neighbor) → IsNeighborBackOf u new S.neighbors → undone u (with_neighbors S new) ≡ S
@@ -167,8 +167,8 @@ neighbor_back_undone (undos.Addresses old) S new h = absurd h
 neighbor_back_undone (undos.Neighbors old) S new h = ap (with_neighbors S) h
 neighbor_back_undone undos.NeighborAdded S new h = ap (with_neighbors S) h
 neighbor_back_undone (undos.NeighborSet place old) S new h = ap (with_neighbors S) h
-neighbor_back_undone (undos.NeighborGone place old spare) S new h = ap (with_neighbors S) h
+neighbor_back_undone (undos.NeighborGone place old spare key) S new h = ap (with_neighbors S) h
 neighbor_back_undone (undos.Routes old) S new h = absurd h
 neighbor_back_undone undos.RouteAdded S new h = absurd h
 neighbor_back_undone (undos.RouteSet place old) S new h = absurd h
-neighbor_back_undone (undos.RouteGone place old spare) S new h = absurd h
+neighbor_back_undone (undos.RouteGone place old spare key) S new h = absurd h

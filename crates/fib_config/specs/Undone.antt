@@ -24,11 +24,11 @@ undone (undos.Addresses old) S = with_addresses S old
 undone (undos.Neighbors old) S = with_neighbors S old
 undone undos.NeighborAdded S = with_neighbors S (take (length S.neighbors - 1) S.neighbors)
 undone (undos.NeighborSet place old) S = with_neighbors S (slice_set S.neighbors place old)
-undone (undos.NeighborGone place old spare) S = with_neighbors S (put_back place old spare S.neighbors)
+undone (undos.NeighborGone place old spare key) S = with_neighbors S (put_back place old spare S.neighbors)
 undone (undos.Routes old) S = with_routes S old
 undone undos.RouteAdded S = with_routes S (take (length S.routes - 1) S.routes)
 undone (undos.RouteSet place old) S = with_routes S (slice_set S.routes place old)
-undone (undos.RouteGone place old spare) S = with_routes S (put_back place old spare S.routes)
+undone (undos.RouteGone place old spare key) S = with_routes S (put_back place old spare S.routes)
 
 -- the tables with several edits taken back, the last one first
 unfoldable pub undone_all : List Undo → Tables → Tables
@@ -40,23 +40,23 @@ abbrev pub IsBackOf : Undo → List Route → List Route → Type 0
 IsBackOf (undos.RouteSet place old) new routes = slice_set new place old ≡ routes
 IsBackOf undos.RouteAdded new routes = take (length new - 1) new ≡ routes
 IsBackOf (undos.Routes old) new routes = old ≡ routes
-IsBackOf (undos.RouteGone place old spare) new routes = put_back place old spare new ≡ routes
+IsBackOf (undos.RouteGone place old spare key) new routes = put_back place old spare new ≡ routes
 IsBackOf (undos.Interfaces old) new routes = ⊥
 IsBackOf (undos.Addresses old) new routes = ⊥
 IsBackOf (undos.Neighbors old) new routes = ⊥
 IsBackOf undos.NeighborAdded new routes = ⊥
 IsBackOf (undos.NeighborSet place old) new routes = ⊥
-IsBackOf (undos.NeighborGone place old spare) new routes = ⊥
+IsBackOf (undos.NeighborGone place old spare key) new routes = ⊥
 
 -- the same of neighbors
 abbrev pub IsNeighborBackOf : Undo → List Neighbor → List Neighbor → Type 0
 IsNeighborBackOf (undos.NeighborSet place old) new neighbors = slice_set new place old ≡ neighbors
 IsNeighborBackOf undos.NeighborAdded new neighbors = take (length new - 1) new ≡ neighbors
 IsNeighborBackOf (undos.Neighbors old) new neighbors = old ≡ neighbors
-IsNeighborBackOf (undos.NeighborGone place old spare) new neighbors = put_back place old spare new ≡ neighbors
+IsNeighborBackOf (undos.NeighborGone place old spare key) new neighbors = put_back place old spare new ≡ neighbors
 IsNeighborBackOf (undos.Interfaces old) new neighbors = ⊥
 IsNeighborBackOf (undos.Addresses old) new neighbors = ⊥
 IsNeighborBackOf (undos.Routes old) new neighbors = ⊥
 IsNeighborBackOf undos.RouteAdded new neighbors = ⊥
 IsNeighborBackOf (undos.RouteSet place old) new neighbors = ⊥
-IsNeighborBackOf (undos.RouteGone place old spare) new neighbors = ⊥
+IsNeighborBackOf (undos.RouteGone place old spare key) new neighbors = ⊥

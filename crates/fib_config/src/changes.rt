@@ -14,11 +14,11 @@ ghost use Rattle.fib_config.specs.declared.undo.Back.TheVariants.{Reserved};
 use crate::digest::{self, Digest};
 use crate::undo::{Back, Undo};
 use fib_addr::{Addr, Prefix};
+use fib_base_keyed::{Gone, Keyed};
 use fib_resolve::{
     Address, Blocks, Duplicate, Edit, FibSource, Interface, List, Name, Neighbor, Path, PathKind,
     PathSpec, Route, Spare, SpecKind, Tables, keys,
 };
-use indexmap::IndexSet;
 use std::alloc::{AllocError, Global};
 use std::hash::Hash;
 
@@ -126,21 +126,12 @@ pub fn remove_at<T: Drop>(list: &mut Blocks<T>, place: usize)
     }
 }
 
-// Puts an item that went in again, where the place and the memory allow it. Takes no other.
-fn put_back<T: Drop>(list: &mut Blocks<T>, place: usize, old: T, spare: Spare<T>)
-    ensures { list.new ≡ put_back place old spare list.old }
-{
-    if place <= list.len() && list.len() < spare.most() {
-        list.put_back(place, old, spare);
-    }
-}
-
 /// Puts the route in its place, and says how that is taken back. Where memory is wanted, the routes stay.
 #[tactic(auto, using(crate::proofs::Places::route_set, crate::proofs::Places::route_end, crate::proofs::Places::set_back, crate::proofs::Places::end_back, crate::proofs::Keying::route_keys_set, crate::proofs::Keying::keys_last))]
 pub fn put_route(
     new: Route,
     routes: &mut Blocks<Route>,
-    keys: &mut Option<IndexSet<(Prefix, u8)>>,
+    keys: &mut Option<Keyed<(Prefix, u8)>>,
 ) -> Result<Undo, AllocError>
     requires { AreKeys route_key routes.old keys.old }
     ensures ok { OnOk result (routes.new ≡ set_route new routes.old) }
@@ -164,7 +155,7 @@ pub fn put_route(
 pub fn put_neighbor(
     new: Neighbor,
     neighbors: &mut Blocks<Neighbor>,
-    keys: &mut Option<IndexSet<(u32, Addr)>>,
+    keys: &mut Option<Keyed<(u32, Addr)>>,
 ) -> Result<Undo, AllocError>
     requires { AreKeys neighbor_key neighbors.old keys.old }
     ensures ok { OnOk result (neighbors.new ≡ set_neighbor new neighbors.old) }
@@ -184,9 +175,9 @@ pub fn put_neighbor(
 }
 
 // Takes the last item out, and the last of the keys, where they are known. Takes no memory.
-fn drop_last_keyed<T: Drop, K: Eq + Hash + Drop>(
+fn drop_last_keyed<T: Drop, K: Eq + Hash + Copy + Drop>(
     list: &mut Blocks<T>,
-    keys: &mut Option<IndexSet<K>>,
+    keys: &mut Option<Keyed<K>>,
 )
     ensures list { list.new ≡ take (length list.old - 1) list.old }
     ensures keys { Follows (λ ks. remove ks (length list.old - 1)) keys.old keys.new }
@@ -197,7 +188,7 @@ fn drop_last_keyed<T: Drop, K: Eq + Hash + Drop>(
 }
 
 // The keys where they are still right, else none.
-fn keep_where<K: Eq + Hash + Drop>(keys: &mut Option<IndexSet<K>>, are_right: bool)
+fn keep_where<K: Eq + Hash + Copy + Drop>(keys: &mut Option<Keyed<K>>, are_right: bool)
     ensures kept { are_right ≡ true → keys.new ≡ keys.old }
     ensures gone { are_right ≡ false → keys.new ≡ None }
 {
@@ -217,7 +208,7 @@ pub fn is_neighbor(interface: u32, addr: Addr, n: &Neighbor) -> bool
 #[tactic(auto, using(crate::proofs::Keying::neighbor_keys_put, crate::proofs::Keying::set_beyond))]
 fn put_neighbor_again(
     neighbors: &mut Blocks<Neighbor>,
-    keys: &mut Option<IndexSet<(u32, Addr)>>,
+    keys: &mut Option<Keyed<(u32, Addr)>>,
     place: usize,
     old: Neighbor,
 )
@@ -237,7 +228,7 @@ fn put_neighbor_again(
 #[tactic(auto, using(crate::proofs::Keying::set_beyond))]
 fn put_route_again(
     routes: &mut Blocks<Route>,
-    keys: &mut Option<IndexSet<(Prefix, u8)>>,
+    keys: &mut Option<Keyed<(Prefix, u8)>>,
     place: usize,
     old: Route,
 )
@@ -253,8 +244,50 @@ fn put_route_again(
     keep_where(keys, is_route(prefix, source, &new));
 }
 
-/// Takes an edit back, and what was known of its keys with it. Takes no memory. The keys of routes are forgotten where a route that went
-/// comes back, or all routes do; those of neighbors where all neighbors do.
+// Puts a neighbor that went in again, where the place and the memory allow it. Takes no other.
+#[tactic(auto, using(crate::proofs::Keying::keys_put))]
+fn put_neighbor_back(
+    neighbors: &mut Blocks<Neighbor>,
+    keys: &mut Option<Keyed<(u32, Addr)>>,
+    place: usize,
+    old: Neighbor,
+    spare: Spare<Neighbor>,
+    gone: Option<Gone<(u32, Addr)>>,
+)
+    requires { AreKeys neighbor_key neighbors.old keys.old }
+    ensures list { neighbors.new ≡ put_back place old spare neighbors.old }
+    ensures keys { AreKeys neighbor_key neighbors.new keys.new }
+{
+    if place <= neighbors.len() && neighbors.len() < spare.most() {
+        let key = (old.interface, old.addr);
+        neighbors.put_back(place, old, spare);
+        digest::put_again(keys, place, key, gone);
+    }
+}
+
+// Puts a route that went in again, where the place and the memory allow it. Takes no other.
+#[tactic(auto, using(crate::proofs::Keying::keys_put))]
+fn put_route_back(
+    routes: &mut Blocks<Route>,
+    keys: &mut Option<Keyed<(Prefix, u8)>>,
+    place: usize,
+    old: Route,
+    spare: Spare<Route>,
+    gone: Option<Gone<(Prefix, u8)>>,
+)
+    requires { AreKeys route_key routes.old keys.old }
+    ensures list { routes.new ≡ put_back place old spare routes.old }
+    ensures keys { AreKeys route_key routes.new keys.new }
+{
+    if place <= routes.len() && routes.len() < spare.most() {
+        let key = (old.prefix, old.source.rank());
+        routes.put_back(place, old, spare);
+        digest::put_again(keys, place, key, gone);
+    }
+}
+
+/// Takes an edit back, and what was known of its keys with it. Takes no memory. The keys of routes or neighbors are forgotten where
+/// all of these come back at once, after several edits.
 #[tactic(auto, unfolding(crate::specs::Undone::undone), using(crate::proofs::Keying::keys_shorter),)]
 pub fn take_back(tables: &mut Tables, digest: &mut Digest, undo: Undo)
     requires { HasKeys tables.old digest.old }
@@ -276,9 +309,14 @@ pub fn take_back(tables: &mut Tables, digest: &mut Digest, undo: Undo)
             let keys = &mut digest.neighbors;
             put_neighbor_again(&mut tables.neighbors, keys, place, old);
         }
-        Undo::NeighborGone { place, old, spare } => {
-            put_back(&mut tables.neighbors, place, old, spare);
-            digest.neighbors = None;
+        Undo::NeighborGone {
+            place,
+            old,
+            spare,
+            key,
+        } => {
+            let keys = &mut digest.neighbors;
+            put_neighbor_back(&mut tables.neighbors, keys, place, old, spare, key);
         }
         Undo::Routes(old) => {
             tables.routes = old;
@@ -291,9 +329,14 @@ pub fn take_back(tables: &mut Tables, digest: &mut Digest, undo: Undo)
             let keys = &mut digest.routes;
             put_route_again(&mut tables.routes, keys, place, old);
         }
-        Undo::RouteGone { place, old, spare } => {
-            put_back(&mut tables.routes, place, old, spare);
-            digest.routes = None;
+        Undo::RouteGone {
+            place,
+            old,
+            spare,
+            key,
+        } => {
+            let keys = &mut digest.routes;
+            put_route_back(&mut tables.routes, keys, place, old, spare, key);
         }
     }
 }

@@ -1,6 +1,6 @@
 // What is known of tables beside them.
 ghost use Rattle.std.specs.Prelude.{◌≡◌, ◌∷◌, ◌++◌, []};
-ghost use Rattle.std.specs.List.{remove};
+ghost use Rattle.std.specs.List.{insert, remove};
 ghost use Rattle.fib_config.specs.Undone.{place_of};
 ghost use Rattle.fib_config.specs.inner.Bounds.{allowance, IsBoundFor};
 ghost use Rattle.fib_config.specs.inner.Digest.{AreKeys, Follows, HasKeys, IsDigest, route_key, neighbor_key, is_neighbor};
@@ -9,8 +9,8 @@ ghost use Rattle.fib_resolve.specs.Tables.{is_route};
 
 use crate::changes::{is_neighbor, is_route};
 use fib_addr::{Addr, Prefix};
+use fib_base_keyed::{Gone, Keyed};
 use fib_resolve::{Blocks, Edit, FibSource, Neighbor, Route, Tables};
-use indexmap::IndexSet;
 use std::alloc::Global;
 use std::hash::Hash;
 use std::mem;
@@ -19,8 +19,8 @@ use std::mem;
 /// interface with an address), in the order of the lists, and a number that their allowance doesn't exceed. A list whose keys aren't known
 /// is searched.
 pub struct Digest {
-    pub routes: Option<IndexSet<(Prefix, u8)>>,
-    pub neighbors: Option<IndexSet<(u32, Addr)>>,
+    pub routes: Option<Keyed<(Prefix, u8)>>,
+    pub neighbors: Option<Keyed<(u32, Addr)>>,
     pub bound: usize,
 }
 
@@ -63,51 +63,114 @@ impl Digest {
 }
 
 /// The keys with one more at the end; none where it was there, or where memory is wanted.
-fn with_last<K: Eq + Hash + Drop>(keys: Option<IndexSet<K>>, key: K) -> Option<IndexSet<K>>
+fn with_last<K: Eq + Hash + Copy + Drop>(keys: Option<Keyed<K>>, key: K) -> Option<Keyed<K>>
     ensures { Follows (λ ks. ks ++ key ∷ []) keys result }
 {
-    let Some(mut set) = keys else {
+    let Some(set) = keys else {
         return None;
     };
-    match set.insert(key) {
-        Ok(true) => Some(set),
-        _ => None,
-    }
+    set.with_last(key)
 }
 
 /// The keys without the one at that place.
-fn without_at<K: Eq + Hash + Drop>(keys: Option<IndexSet<K>>, place: usize) -> Option<IndexSet<K>>
+#[tactic(auto, using(crate::proofs::Keying::remove_beyond))]
+fn without_at<K: Eq + Hash + Copy + Drop>(keys: Option<Keyed<K>>, place: usize) -> Option<Keyed<K>>
     ensures { Follows (λ ks. remove ks place) keys result }
 {
     let Some(mut set) = keys else {
         return None;
     };
-    // The key that goes is let go.
-    let _gone = set.shift_remove_index(place);
+    if place >= set.len() {
+        return Some(set);
+    }
+    // The number of the key that goes isn't wanted.
+    let _stamp = set.remove(place);
     Some(set)
 }
 
+/// The keys without the one at that place, and what its way back needs.
+#[tactic(auto, using(crate::proofs::Keying::remove_beyond))]
+fn taken_at<K: Eq + Hash + Copy + Drop>(
+    keys: Option<Keyed<K>>,
+    place: usize,
+) -> (Option<Keyed<K>>, Option<Gone<K>>)
+    ensures { Follows (λ ks. remove ks place) keys result.0 }
+{
+    let Some(mut set) = keys else {
+        return (None, None);
+    };
+    if place >= set.len() {
+        return (Some(set), None);
+    }
+    let gone = set.take_out(place);
+    (Some(set), Some(gone))
+}
+
+/// The keys with one that went at its place again; none where that can't be, or where no memory was reserved for it.
+fn with_again<K: Eq + Hash + Copy + Drop>(
+    keys: Option<Keyed<K>>,
+    place: usize,
+    key: K,
+    gone: Option<Gone<K>>,
+) -> Option<Keyed<K>>
+    ensures { Follows (λ ks. insert ks place key) keys result }
+{
+    let Some(set) = keys else {
+        return None;
+    };
+    let Some(gone) = gone else {
+        return None;
+    };
+    set.with_again(place, key, gone)
+}
+
 /// One key more at the end, where the keys are known; it forgets them where it was there, or where memory is wanted.
-pub fn add_last<K: Eq + Hash + Drop>(keys: &mut Option<IndexSet<K>>, key: K)
+pub fn add_last<K: Eq + Hash + Copy + Drop>(keys: &mut Option<Keyed<K>>, key: K)
     ensures { Follows (λ ks. ks ++ key ∷ []) keys.old keys.new }
 {
     let known = mem::replace(keys, None);
     *keys = with_last(known, key);
 }
 
-/// The key at that place goes, where the keys are known.
-pub fn drop_at<K: Eq + Hash + Drop>(keys: &mut Option<IndexSet<K>>, place: usize)
+/// The key at that place goes, where the keys are known. Takes no memory.
+pub fn drop_at<K: Eq + Hash + Copy + Drop>(keys: &mut Option<Keyed<K>>, place: usize)
     ensures { Follows (λ ks. remove ks place) keys.old keys.new }
 {
     let known = mem::replace(keys, None);
     *keys = without_at(known, place);
 }
 
+/// The key at that place goes, where the keys are known, and what its way back needs is reserved.
+pub fn take_at<K: Eq + Hash + Copy + Drop>(
+    keys: &mut Option<Keyed<K>>,
+    place: usize,
+) -> Option<Gone<K>>
+    ensures { Follows (λ ks. remove ks place) keys.old keys.new }
+{
+    let known = mem::replace(keys, None);
+    let (left, gone) = taken_at(known, place);
+    *keys = left;
+    gone
+}
+
+/// A key that went stands at its place again, where the keys are known. Takes no memory but what was reserved.
+pub fn put_again<K: Eq + Hash + Copy + Drop>(
+    keys: &mut Option<Keyed<K>>,
+    place: usize,
+    key: K,
+    gone: Option<Gone<K>>,
+)
+    ensures { Follows (λ ks. insert ks place key) keys.old keys.new }
+{
+    let known = mem::replace(keys, None);
+    *keys = with_again(known, place, key, gone);
+}
+
 /// The keys of the routes; none where two have one key, or where memory is wanted.
-fn of_routes(alloc: Global, routes: &Blocks<Route>) -> Option<IndexSet<(Prefix, u8)>>
+fn of_routes(alloc: Global, routes: &Blocks<Route>) -> Option<Keyed<(Prefix, u8)>>
     ensures { AreKeys route_key routes.now result }
 {
-    let mut keys = Some(IndexSet::new(alloc));
+    let mut keys = Some(Keyed::new(alloc));
     for place in 0..routes.len() {
         let r = &routes[place];
         keys = with_last(keys, (r.prefix, r.source.rank()));
@@ -116,10 +179,10 @@ fn of_routes(alloc: Global, routes: &Blocks<Route>) -> Option<IndexSet<(Prefix, 
 }
 
 /// The keys of the neighbors; none where two have one key, or where memory is wanted.
-fn of_neighbors(alloc: Global, neighbors: &Blocks<Neighbor>) -> Option<IndexSet<(u32, Addr)>>
+fn of_neighbors(alloc: Global, neighbors: &Blocks<Neighbor>) -> Option<Keyed<(u32, Addr)>>
     ensures { AreKeys neighbor_key neighbors.now result }
 {
-    let mut keys = Some(IndexSet::new(alloc));
+    let mut keys = Some(Keyed::new(alloc));
     for place in 0..neighbors.len() {
         let n = neighbors[place];
         keys = with_last(keys, (n.interface, n.addr));
@@ -141,7 +204,7 @@ fn searched_route(prefix: Prefix, source: FibSource, routes: &Blocks<Route>) -> 
 
 /// The place of the route of that prefix and source, or else the number of routes.
 pub fn place_of_route(
-    keys: &Option<IndexSet<(Prefix, u8)>>,
+    keys: &Option<Keyed<(Prefix, u8)>>,
     prefix: Prefix,
     source: FibSource,
     routes: &Blocks<Route>,
@@ -150,10 +213,7 @@ pub fn place_of_route(
     ensures { result ≡ place_of (is_route prefix source) routes.now }
 {
     match keys {
-        Some(set) => match set.get_index_of(&(prefix, source.rank())) {
-            Some(place) => place,
-            None => routes.len(),
-        },
+        Some(set) => set.place_of((prefix, source.rank())),
         None => searched_route(prefix, source, routes),
     }
 }
@@ -172,7 +232,7 @@ fn searched_neighbor(interface: u32, addr: Addr, neighbors: &Blocks<Neighbor>) -
 
 /// The place of the neighbor of that interface and address, or else the number of neighbors.
 pub fn place_of_neighbor(
-    keys: &Option<IndexSet<(u32, Addr)>>,
+    keys: &Option<Keyed<(u32, Addr)>>,
     interface: u32,
     addr: Addr,
     neighbors: &Blocks<Neighbor>,
@@ -181,10 +241,7 @@ pub fn place_of_neighbor(
     ensures { result ≡ place_of (is_neighbor interface addr) neighbors.now }
 {
     match keys {
-        Some(set) => match set.get_index_of(&(interface, addr)) {
-            Some(place) => place,
-            None => neighbors.len(),
-        },
+        Some(set) => set.place_of((interface, addr)),
         None => searched_neighbor(interface, addr, neighbors),
     }
 }

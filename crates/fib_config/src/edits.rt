@@ -16,12 +16,12 @@ use crate::errors::{BatchError, EditError};
 use crate::undo::{Back, Edited, EditedAll, Undo};
 use crate::{bounds, changes, reasons, sizes};
 use fib_addr::{Addr, Prefix};
+use fib_base_keyed::Keyed;
 use fib_resolve::{
     Address, Blocks, Duplicate, Edit, FibSource, Interface, List, Neighbor, Path, PathSpec,
     Refusal, Route, Spare, Tables,
 };
 use fib_resolve_changes::Change;
-use indexmap::IndexSet;
 use std::alloc::{AllocError, Global};
 use std::hash::Hash;
 use std::mem;
@@ -32,7 +32,7 @@ fn leave_route(
     alloc: Global,
     left: Route,
     routes: &mut Blocks<Route>,
-    keys: &mut Option<IndexSet<(Prefix, u8)>>,
+    keys: &mut Option<Keyed<(Prefix, u8)>>,
     back: Back,
 ) -> Result<Undo, AllocError>
     requires keys { AreKeys route_key routes.old keys.old }
@@ -48,31 +48,24 @@ fn leave_route(
     }
 }
 
-// Takes the item at that place out, with its key, and reserves the memory for its way back. Where there is none, all stays.
-fn take_spared<T: Drop, K: Eq + Hash + Drop>(
-    list: &mut Blocks<T>,
-    keys: &mut Option<IndexSet<K>>,
-    place: usize,
-) -> Result<(T, Spare<T>), AllocError>
+// Takes the item at that place out, and reserves the memory for its way back. Where there is none, all stays.
+fn take_spared<T: Drop>(list: &mut Blocks<T>, place: usize) -> Result<(T, Spare<T>), AllocError>
     requires { place < length list.old }
     ensures list { OnOk result (list.new ≡ remove list.old place) }
     ensures value { IfOk result (λ x. x.0 ≡ slice_index_or list.old place x.0) }
     ensures spare { IfOk result (λ x. x.1 ≡ length list.old) }
-    ensures keys { OnOk result (Follows (λ ks. remove ks place) keys.old keys.new) }
     ensures err { OnErr result (list.new ≡ list.old) }
-    ensures kept { OnErr result (keys.new ≡ keys.old) }
 {
     let spare = list.spare()?;
     let old = list.remove(place);
-    digest::drop_at(keys, place);
     Ok((old, spare))
 }
 
 // Takes the item at that place out, with its key, and gives a copy of the whole list. Where memory is wanted, all stays.
-fn take_copied<T: Duplicate + Drop, K: Eq + Hash + Drop>(
+fn take_copied<T: Duplicate + Drop, K: Eq + Hash + Copy + Drop>(
     alloc: Global,
     list: &mut Blocks<T>,
-    keys: &mut Option<IndexSet<K>>,
+    keys: &mut Option<Keyed<K>>,
     place: usize,
 ) -> Result<Blocks<T>, AllocError>
     ensures list { OnOk result (list.new ≡ remove list.old place) }
@@ -93,7 +86,7 @@ fn drop_route(
     alloc: Global,
     gone: &Route,
     routes: &mut Blocks<Route>,
-    keys: &mut Option<IndexSet<(Prefix, u8)>>,
+    keys: &mut Option<Keyed<(Prefix, u8)>>,
     back: Back,
 ) -> Result<Undo, AllocError>
     requires keys { AreKeys route_key routes.old keys.old }
@@ -106,8 +99,14 @@ fn drop_route(
     let place = digest::place_of_route(keys, gone.prefix, gone.source, routes);
     match back {
         Back::Reserved if place < routes.len() => {
-            let (old, spare) = take_spared(routes, keys, place)?;
-            Ok(Undo::RouteGone { place, old, spare })
+            let (old, spare) = take_spared(routes, place)?;
+            let key = digest::take_at(keys, place);
+            Ok(Undo::RouteGone {
+                place,
+                old,
+                spare,
+                key,
+            })
         }
         _ => Ok(Undo::Routes(take_copied(alloc, routes, keys, place)?)),
     }
@@ -119,7 +118,7 @@ fn drop_neighbor(
     alloc: Global,
     gone: (u32, Addr),
     neighbors: &mut Blocks<Neighbor>,
-    keys: &mut Option<IndexSet<(u32, Addr)>>,
+    keys: &mut Option<Keyed<(u32, Addr)>>,
     back: Back,
 ) -> Result<Undo, AllocError>
     requires keys { AreKeys neighbor_key neighbors.old keys.old }
@@ -133,8 +132,14 @@ fn drop_neighbor(
     let place = digest::place_of_neighbor(keys, gone.0, gone.1, neighbors);
     match back {
         Back::Reserved if place < neighbors.len() => {
-            let (old, spare) = take_spared(neighbors, keys, place)?;
-            Ok(Undo::NeighborGone { place, old, spare })
+            let (old, spare) = take_spared(neighbors, place)?;
+            let key = digest::take_at(keys, place);
+            Ok(Undo::NeighborGone {
+                place,
+                old,
+                spare,
+                key,
+            })
         }
         _ => Ok(Undo::Neighbors(take_copied(alloc, neighbors, keys, place)?)),
     }

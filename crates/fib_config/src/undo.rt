@@ -1,4 +1,6 @@
 // What takes an edit back.
+use fib_addr::{Addr, Prefix};
+use fib_base_keyed::Gone;
 use fib_resolve::{Address, Blocks, Interface, List, Neighbor, Route, Spare};
 use fib_resolve_changes::Change;
 
@@ -24,6 +26,7 @@ pub enum Undo {
         place: usize,
         old: Neighbor,
         spare: Spare<Neighbor>,
+        key: Option<Gone<(u32, Addr)>>,
     },
     /// The routes are these again.
     Routes(Blocks<Route>),
@@ -40,6 +43,7 @@ pub enum Undo {
         place: usize,
         old: Route,
         spare: Spare<Route>,
+        key: Option<Gone<(Prefix, u8)>>,
     },
 }
 

@@ -43,11 +43,12 @@ fn addr_of(n: &Neighbor) -> Addr
 }
 
 /// Whether it is so of each of these neighbors.
-fn neighbors_apart(order: &PrefixSet, p: Prefix, neighbors: &[Neighbor]) -> bool
+fn neighbors_apart(order: &PrefixSet, p: Prefix, neighbors: &Blocks<Neighbor>) -> bool
     ensures { IsTrue result → (n : NeighborValue) → Contains neighbors.now n → (n.addr < 2 ^ 32) × IsApart order.now p n.addr }
 {
     let mut found = p;
-    for n in neighbors {
+    for place in 0..neighbors.len() {
+        let n = &neighbors[place];
         let Some(next) = apart(order, p, addr_of(n), found) else {
             return false;
         };
@@ -78,7 +79,7 @@ impl Entries {
         if !may_be_leaf(&self.rows, prefix) {
             return Ok(false);
         }
-        if !neighbors_apart(&self.order, prefix, tables.neighbors.as_slice()) {
+        if !neighbors_apart(&self.order, prefix, &tables.neighbors) {
             return Ok(false);
         }
         let hosts = self.index.hosts_inside(self.alloc, prefix)?;

@@ -59,17 +59,23 @@ fn is_neighbor(interface: u32, addr: Addr, n: &Neighbor) -> bool
     n.interface == interface && n.addr == addr
 }
 
-fn neighbor_at(neighbors: &[Neighbor], interface: u32, addr: Addr) -> Option<&Neighbor>
+fn neighbor_at(neighbors: &Blocks<Neighbor>, interface: u32, addr: Addr) -> Option<&Neighbor>
     ensures { option_copied result ≡ find (is_neighbor interface addr) neighbors.now }
 {
-    neighbors.iter().find(|n| is_neighbor(interface, addr, n))
+    for place in 0..neighbors.len() {
+        let n = &neighbors[place];
+        if is_neighbor(interface, addr, n) {
+            return Some(n);
+        }
+    }
+    None
 }
 
 /// The neighbor's MAC; None where there is no such neighbor.
 pub fn mac_of(tables: &Tables, interface: u32, addr: Addr) -> Option<Mac>
     ensures { result ≡ mac_of tables.now interface addr }
 {
-    match neighbor_at(tables.neighbors.as_slice(), interface, addr) {
+    match neighbor_at(&tables.neighbors, interface, addr) {
         Some(n) => Some(n.mac),
         None => None,
     }

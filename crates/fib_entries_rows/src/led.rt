@@ -12,6 +12,7 @@ use crate::hosting::is_loose_list;
 use crate::look::is_same;
 use crate::rows::Row;
 use fib_addr::Prefix;
+use fib_base_blocks::Blocks;
 use fib_paths::PathListId;
 use fib_resolve::{FibSource, Neighbor, Path, PathKind, keys};
 
@@ -75,10 +76,15 @@ fn is_small(n: &Neighbor) -> bool
 }
 
 /// Whether all neighbors' are.
-pub fn are_small(neighbors: &[Neighbor]) -> bool
+pub fn are_small(neighbors: &Blocks<Neighbor>) -> bool
     ensures { result ≡ list_all (λ n. nat_lt n.addr (2 ^ 32)) neighbors.now }
 {
-    neighbors.iter().all(|n| is_small(n))
+    for place in 0..neighbors.len() {
+        if !is_small(&neighbors[place]) {
+            return false;
+        }
+    }
+    true
 }
 
 /// Whether one of the pairs is of that source.

@@ -182,7 +182,7 @@ pub fn reaching(
     if is_none(to.new) {
         return Ok(None);
     }
-    if !are_small(to.tables.neighbors.as_slice()) {
+    if !are_small(&to.tables.neighbors) {
         return Ok(None);
     }
     if !is_quiet(to.prefix, old, to.new) {

@@ -85,3 +85,43 @@ fn elements_are_found(rt: HostRuntime) -> Result<(), Fail> {
     }
     Ok(())
 }
+
+#[test]
+fn elements_come_back(rt: HostRuntime) -> Result<(), Fail> {
+    let mut list: Blocks<Boxed> = Blocks::new(rt.alloc());
+    for number in 0..600 {
+        list.push(numbered(&rt, number)?)?;
+    }
+    for place in 0..600 {
+        if place < list.len() {
+            let spare = list.spare()?;
+            let gone = list.remove(place);
+            if place <= list.len() && list.len() < spare.most() {
+                list.put_back(place, gone, spare);
+            }
+        }
+        same(&rt, number_at(&list, place), Some(place as u32));
+    }
+    if list.len() > 7 {
+        let old = list.replace(7, numbered(&rt, 1_000)?);
+        same(&rt, *old.number, 7);
+        same(&rt, number_at(&list, 7), Some(1_000));
+    }
+    list.pop();
+    same(&rt, list.len(), 599);
+    Ok(())
+}
+
+// There is no block to which it could come.
+#[test]
+fn an_element_comes_back_to_an_empty_list(rt: HostRuntime) -> Result<(), Fail> {
+    let mut list: Blocks<Boxed> = Blocks::new(rt.alloc());
+    list.push(numbered(&rt, 5)?)?;
+    let spare = list.spare()?;
+    if list.len() == 1 && spare.most() == 1 {
+        let gone = list.remove(0);
+        list.put_back(0, gone, spare);
+    }
+    same(&rt, number_at(&list, 0), Some(5));
+    Ok(())
+}

@@ -2,6 +2,7 @@
 // at and has one assertion: the prover follows every way out past every owner.
 use crate::expect::holds;
 use fib_addr::{Addr, Prefix};
+use fib_base_blocks::Blocks;
 use fib_base_list::List;
 use fib_resolve::{Adjacency, FibSource, Need, Pair, Path, PathKind, Route, Tables};
 use fib_resolve_pairs::{
@@ -101,7 +102,7 @@ fn ends_on_links(alloc: Global, paths: &[Path], hop: Addr) -> Result<bool, Alloc
 }
 
 /// Whether the routes' next hops are that one, twice in a row.
-fn is_hop_of(alloc: Global, routes: &[Route], hop: Addr) -> Result<bool, AllocError> {
+fn is_hop_of(alloc: Global, routes: &Blocks<Route>, hop: Addr) -> Result<bool, AllocError> {
     let hops = recursive_hops(alloc, routes)?;
     Ok(hops.as_slice() == [hop, hop].as_slice() && is_once(alloc, hops.as_slice(), hop)?)
 }
@@ -125,10 +126,10 @@ fn says_what_its_paths_say(alloc: Global, route: &Route, hop: Addr) -> Result<bo
 fn what_a_path_says(rt: HostRuntime) -> Result<(), Fail> {
     let alloc = rt.alloc();
     let hop = Addr(7);
-    let routes = [route_over(alloc, hop)?];
-    holds(
-        &rt,
-        says_what_its_paths_say(alloc, &routes[0], hop)? && is_hop_of(alloc, &routes, hop)?,
-    );
+    let route = route_over(alloc, hop)?;
+    holds(&rt, says_what_its_paths_say(alloc, &route, hop)?);
+    let mut routes = Blocks::new(alloc);
+    routes.push(route)?;
+    holds(&rt, is_hop_of(alloc, &routes, hop)?);
     Ok(())
 }

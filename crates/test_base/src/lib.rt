@@ -28,6 +28,8 @@ mod hops;
 #[cfg(test)]
 mod interned;
 #[cfg(test)]
+mod keyed;
+#[cfg(test)]
 mod lawful;
 #[cfg(test)]
 mod ledger;

@@ -6,7 +6,7 @@ use fib_print::{
     BatchFault, put_bad_header, put_batch, put_cut, put_end, put_message, put_not_ipv4, put_packet,
     put_path, put_refusal,
 };
-use fib_resolve::{End, Interface, List, Name, Need, Path, PathKind, Refusal, Tables};
+use fib_resolve::{Blocks, End, Interface, List, Name, Need, Path, PathKind, Refusal, Tables};
 use std::alloc::Global;
 use std::test::Fail;
 
@@ -24,8 +24,8 @@ fn tables(alloc: Global) -> Result<Tables, Fail> {
     Ok(Tables {
         interfaces,
         addresses: List::new(alloc),
-        neighbors: List::new(alloc),
-        routes: List::new(alloc),
+        neighbors: Blocks::new(alloc),
+        routes: Blocks::new(alloc),
     })
 }
 

@@ -215,9 +215,9 @@ fn five_routes(alloc: Global, config: &mut Config) -> Result<(), Fail> {
 }
 
 fn has_five_routes(config: &Config) -> bool {
-    let routes = config.tables().routes.as_slice();
-    for (i, r) in routes.iter().enumerate() {
-        if r.prefix != prefix_of(i) {
+    let routes = &config.tables().routes;
+    for i in 0..routes.len() {
+        if routes[i].prefix != prefix_of(i) {
             return false;
         }
     }

@@ -4,7 +4,7 @@ ghost use Rattle.fib_resolve.specs.Tables.{fresh};
 
 use fib_entries::Entries;
 use fib_print_listing::{laws, put_adjacencies, put_entries, put_path_lists};
-use fib_resolve::{List, Tables};
+use fib_resolve::{Blocks, List, Tables};
 use std::alloc::Global;
 use std::test::Fail;
 
@@ -14,8 +14,8 @@ fn empty(alloc: Global) -> Tables
     Tables {
         interfaces: List::new(alloc),
         addresses: List::new(alloc),
-        neighbors: List::new(alloc),
-        routes: List::new(alloc),
+        neighbors: Blocks::new(alloc),
+        routes: Blocks::new(alloc),
     }
 }
 

@@ -1,6 +1,6 @@
 // The line of a load, for each kind of word.
 use fib_core::Word;
-use fib_resolve::{Interface, List, Name, Tables};
+use fib_resolve::{Blocks, Interface, List, Name, Tables};
 use fib_trace::{Load, put_load};
 use std::alloc::Global;
 use std::test::Fail;
@@ -19,8 +19,8 @@ fn tables(alloc: Global) -> Result<Tables, Fail> {
     Ok(Tables {
         interfaces,
         addresses: List::new(alloc),
-        neighbors: List::new(alloc),
-        routes: List::new(alloc),
+        neighbors: Blocks::new(alloc),
+        routes: Blocks::new(alloc),
     })
 }
 

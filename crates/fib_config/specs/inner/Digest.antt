@@ -1,6 +1,5 @@
 -- What is known of tables beside them. No contract of a public call rests on this.
 use Rattle.std.specs.Prelude.{◌≡◌, ℕ, Bool, ◌&&◌, ◌==◌, List, Option, Some, None, map}
-use Rattle.indexmap.specs.IndexSet.{IndexSet}
 use Rattle.fib_addr.specs.Prefixes.{Prefix}
 use Rattle.fib_resolve.specs.Keys.{source_rank}
 use Rattle.fib_resolve.specs.declared.types.Route.{Route}
@@ -19,15 +18,15 @@ abbrev pub is_neighbor : ℕ → ℕ → Neighbor → Bool
 is_neighbor interface addr n = (n.interface == interface) && (n.addr == addr)
 
 -- the keys of the list's items, in their order, where they are known
-abbrev pub AreKeys : {X K S : Type 0} → (X → K) → List X → Option (IndexSet K S) → Type 0
+abbrev pub AreKeys : {X K : Type 0} → (X → K) → List X → Option (List K) → Type 0
 AreKeys key xs None = Unit {0}
-AreKeys key xs (Some set) = set.keys ≡ map key xs
+AreKeys key xs (Some ks) = ks ≡ map key xs
 
 -- keys that are still known come of the former ones so
-abbrev pub Follows : {K S : Type 0} → (List K → List K) → Option (IndexSet K S) → Option (IndexSet K S) → Type 0
+abbrev pub Follows : {K : Type 0} → (List K → List K) → Option (List K) → Option (List K) → Type 0
 Follows f old None = Unit {0}
 Follows f None (Some new) = ⊥
-Follows f (Some old) (Some new) = new.keys ≡ f old.keys
+Follows f (Some old) (Some new) = new ≡ f old
 
 -- the keys of the routes and of the neighbors
 pub record HasKeys (S : Tables) (digest : Digest) : Type 0 where

@@ -15,7 +15,7 @@ returns-in_ok-old-in-Reserved-clause-back c =
 pub returns-in_ok-old-in-Reserved-clause-keys : goal.returns-in_ok-old-in-Reserved-clause-keys
 returns-in_ok-old-in-Reserved-clause-keys c =
     let got = c.in_ok-old-in-Reserved in
-    keys_removed route_key c.args.routes.now c.take_spared.new.list c.place_of_route-place.result c.args.keys.now c.take_spared.new.keys got.ensures.list c.requires.keys got.ensures.keys
+    keys_removed route_key c.args.routes.now c.take_spared.new.list c.place_of_route-place.result c.args.keys.now c.take_at-key.new.keys got.ensures.list c.requires.keys c.take_at-key.ensures
 
 pub returns-in_ok-take_copied-in_default-clause-keys : goal.returns-in_ok-take_copied-in_default-clause-keys
 returns-in_ok-take_copied-in_default-clause-keys c =

@@ -8,17 +8,17 @@ use Rattle.fib_entries_rows.proofs.Anew.{take_more, take_all}
 use Rattle.fib_entries_rows.proofs.Leafing.{only_one}
 use Rattle.fib_entries.proofs.clear.neighbors_apart.Goals as goal
 
-pub loop-n-init : goal.loop-n-init
-loop-n-init c = record { last = λ lt. absurd (omega (arith, lt)); seen = λ m k. absurd (Contains-nil m k) }
+pub loop-place-init : goal.loop-place-init
+loop-place-init c = record { last = λ lt. absurd (omega (arith, lt)); seen = λ m k. absurd (Contains-nil m k) }
 
-pub loop-n-preserved : goal.loop-n-preserved
-loop-n-preserved c = record {
+pub loop-place-preserved : goal.loop-place-preserved
+loop-place-preserved c = record {
   last = c.in-Some.ensures.next;
-  seen = λ m k. elim (Contains-append_cases (take c.loop-n.n-index c.args.neighbors.now) (c.n-item.result ∷ []) m (subst (λ (l : List Neighbor). Contains l m) (take_more c.args.neighbors.now c.loop-n.n-index c.n-item.result c.loop-n-test.true c.n-item.is) k)) [
-    | inl before ↦ c.loop-n.invariant.seen m before
-    | inr here ↦ subst (λ (z : Neighbor). (z.addr < 2 ^ 32) × IsApart c.args.order.now c.args.p z.addr) (only_one c.n-item.result m here) (subst (λ a. (a < 2 ^ 32) × IsApart c.args.order.now c.args.p a) c.addr_of.ensures.value (c.addr_of.ensures.small, c.in-Some.ensures.apart))
+  seen = λ m k. elim (Contains-append_cases (take c.loop-place.place c.args.neighbors.now) (c.index-n.result.now ∷ []) m (subst (λ (l : List Neighbor). Contains l m) (take_more c.args.neighbors.now c.loop-place.place c.index-n.result.now c.loop-place-test.true c.index-n.ensures) k)) [
+    | inl before ↦ c.loop-place.invariant.seen m before
+    | inr here ↦ subst (λ (z : Neighbor). (z.addr < 2 ^ 32) × IsApart c.args.order.now c.args.p z.addr) (only_one c.index-n.result.now m here) (subst (λ a. (a < 2 ^ 32) × IsApart c.args.order.now c.args.p a) c.addr_of.ensures.value (c.addr_of.ensures.small, c.in-Some.ensures.apart))
   ];
 }
 
 pub returns : goal.returns
-returns c = λ _ m k. c.loop-n.invariant.seen m (subst (λ (l : List Neighbor). Contains l m) (sym (take_all c.args.neighbors.now c.loop-n.n-index c.loop-n-test.false)) k)
+returns c = λ _ m k. c.loop-place.invariant.seen m (subst (λ (l : List Neighbor). Contains l m) (sym (take_all c.args.neighbors.now c.loop-place.place c.loop-place-test.false)) k)

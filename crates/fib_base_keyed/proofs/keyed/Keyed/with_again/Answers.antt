@@ -13,4 +13,4 @@ invariant_of-result g c =
     (known_put eq g.met.K.Eq.laws c.self.inside.stamps c.in_ok-stamps.stamps c.self.inside.rows c.args.place (record { key = c.args.key; stamp = c.args.gone.stamp }) c.self.invariant c.in_ok-stamps.ensures)
 
 pub returns : goal.returns
-returns g c = ap (map key_of) c.put_back.ensures ∙ map_put c.self.inside.rows c.args.place (record { key = c.args.key; stamp = c.args.gone.stamp }) ∙ ap (λ l. insert l c.args.place c.args.key) c.self.view_is
+returns g c = ap (map key_of) c.put_back.ensures ∙ map_put key_of c.self.inside.rows c.args.place (record { key = c.args.key; stamp = c.args.gone.stamp }) ∙ ap (λ l. insert l c.args.place c.args.key) c.self.view_is
