@@ -20,8 +20,8 @@ pub enum Undo {
         place: usize,
         old: Neighbor,
     },
-    /// The neighbor that went stands at that place again. Where there is no such place, or where the neighbors and the one more are too many
-    /// for the memory, nothing happens.
+    /// The neighbor that went stands at that place again, and its key beside the others. Where there is no such place, or where the
+    /// neighbors and the one more are too many for the memory, nothing happens.
     NeighborGone {
         place: usize,
         old: Neighbor,
@@ -37,8 +37,8 @@ pub enum Undo {
         place: usize,
         old: Route,
     },
-    /// The route that went stands at that place again. Where there is no such place, or where the routes and the one more are too many for
-    /// the memory, nothing happens.
+    /// The route that went stands at that place again, and its key beside the others. Where there is no such place, or where the routes
+    /// and the one more are too many for the memory, nothing happens.
     RouteGone {
         place: usize,
         old: Route,
