@@ -3,6 +3,7 @@ pub mod Boarding
 pub mod Clearing
 pub mod Sweeping
 pub mod Storing
+pub mod Laying
 pub mod Resting
 pub mod Beginning
 pub mod Scanning

@@ -2,13 +2,15 @@
 ghost use Rattle.std.specs.Prelude.{false, IsTrue, None, Some, length, vec_capacity, ℕ, [], ◌*◌, ◌+◌, ◌-◌, ◌<◌, ◌^◌, ◌↔◌, ◌≡◌, ◌≢◌, ◌≤◌};
 ghost use Rattle.fib_reach.specs.Walks.{IsAcyclic, Leads};
 ghost use Rattle.fib_union.specs.Unions.{Edge, left_at_once, must_retire};
+ghost use Rattle.fib_core.specs.declared.word.Word.TheVariants as words;
 ghost use Rattle.fib_core.specs.Words.{IsRoomy};
 ghost use Rattle.fib_pool.specs.Objects.{IsLive, count_of};
 ghost use Rattle.fib_core_board.specs.Boards.{board_stored, edge_of, union_of, word_in};
 ghost use Rattle.fib_core_board.specs.May.{MayStore, HoldsPromise};
 ghost use Rattle.fib_core_board.specs.Told.{IsBoard};
 ghost use Rattle.fib_plane.specs.Planes.{IsHeld, IsSwept, counted_more, leads_from, uncounted};
-ghost use Rattle.fib_plane.specs.Puts.{IsPlanePut, MayPut};
+ghost use Rattle.fib_plane_view.specs.declared.put.Put.TheVariants as puts;
+ghost use Rattle.fib_plane.specs.Puts.{Closes, IsPlanePut, MayPut};
 ghost use Rattle.fib_plane.specs.Views.{plane_of};
 ghost use Rattle.fib_plane.specs.inner.Joined.{AreDying, IsJoined};
 
@@ -75,6 +77,39 @@ pub(crate) fn replace<B: Board>(
     let left = union.set(cell.object, cell.slot, to);
     sweep::drop_edge(pool, dying, left);
     sweep::sweep(board, union, pool, dying);
+}
+
+/// Stores a word into an empty cell, and counts its edge, which closes no cycle: nothing leaves.
+pub(crate) fn lay<B: Board>(
+    board: &mut Counted<B>,
+    union: &mut Union,
+    pool: &mut Pool,
+    cell: Cell,
+    word: Word,
+)
+    requires slot { cell.slot < 16 }
+    requires joined { IsJoined board.old union.old pool.old }
+    requires none { AreDying pool.old [] }
+    requires acyclic { IsAcyclic (Edge (union_of board.old)) }
+    requires empty { word_in board.old (16 * cell.object + cell.slot) ≡ words.Drop }
+    requires other { word ≢ words.Drop }
+    requires far { Closes board.old (16 * cell.object + cell.slot) word → ⊥ }
+    requires may { MayPut (plane_of board.old union.old pool.old []) (16 * cell.object + cell.slot) word }
+    requires source { IsLive pool.old cell.object }
+    requires target { (y : ℕ) → edge_of word ≡ Some y → IsLive pool.old y }
+    ensures joined { IsJoined board.new union.new pool.new }
+    ensures none { AreDying pool.new [] }
+    ensures told { IsBoard board.new }
+    ensures objects { board.new.objects ≡ board.old.objects }
+    ensures acyclic { IsAcyclic (Edge (union_of board.new)) }
+    ensures put { IsPlanePut (plane_of board.old union.old pool.old []) (plane_of board.new union.new pool.new [])
+        (16 * cell.object + cell.slot) word puts.Stored }
+{
+    let to = target(word);
+    board.store(cell, word);
+    count(pool, to);
+    union.set(cell.object, cell.slot, to);
+    board.tells();
 }
 
 /// Stores a word that is not there yet, or Drop where it is an edge that would close a cycle.
