@@ -8,6 +8,7 @@ use Rattle.fib_pool.specs.declared.object.AdjacencyRecord.{AdjacencyRecord}
 use Rattle.fib_plane_view.specs.declared.put.Put.TheVariants as puts
 use Rattle.fib_plane_view.specs.View.{View, Closes, Edge, Goes, HasIn, HasKind, IsLive, IsPut, IsRecord, LeadsElsewhere, leads}
 use Rattle.fib_plane_view.specs.Stores.{StoresEach}
+use Rattle.fib_plane_view.specs.inner.Filling.{IsHalfFull}
 use Rattle.fib_plane_view.proofs.Storing.{stores_then}
 
 -- a walk that ends elsewhere than it began has a last edge
@@ -24,16 +25,6 @@ opens_none u x w alone target c = ⊎_elim
     (λ (e : c.0 ≡ x). (target c.0 c.1).1 e)
     (λ (q : (z : ℕ) × Edge u z x). alone (q.0, q.1.0, q.1.1, q.1.2, q.1.3))
     (walk_last (Edge u) c.2.0 c.0 x c.2.1)
-
--- so many of the first cells hold the word, the others are empty, and what is asked of the next put holds
-pub record IsHalfFull (u v : View) (x s : ℕ) (w : Word) : Type 0 where
-  pub held : v.is_held x ≡ true
-  pub alone : HasIn v x → ⊥
-  pub filled : (t : ℕ) → t < s → v.cell x t ≡ w
-  pub empty : (t : ℕ) → s ≤ t → t < 16 → v.cell x t ≡ words.Drop
-  pub target : LeadsElsewhere v x w
-  pub kind : HasKind v x w
-  pub stores : StoresEach (λ y t. (y ≡ x) × (t < s)) u v
 
 module _ (u m v : View) (x s : ℕ) (w : Word) (half : IsHalfFull u m x s w) (put : IsPut m v x s w puts.Stored) where
   held_on : v.is_held x ≡ true

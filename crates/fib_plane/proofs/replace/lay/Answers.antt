@@ -60,9 +60,6 @@ returns-clause-acyclic g c =
     let calm = stored_acyclic b c.args.union.now c.args.pool.now c.requires.joined k c.args.word c.requires.acyclic c.requires.far in
     subst (λ (q : Board). IsAcyclic (Edge (union_of q))) (sym c.store.ensures) calm
 
-pub returns-clause-objects : goal.returns-clause-objects
-returns-clause-objects g c = ap (λ (q : Board). q.objects) c.store.ensures
-
 pub returns-clause-put : goal.returns-clause-put
 returns-clause-put g c =
     let b = c.args.board.now in
