@@ -70,8 +70,7 @@ returns-clause-put g c =
     let pool : c.count.new.pool ≡ ys =
     c.count.ensures ∙ (ap (λ (e : Option ℕ). counted_more e xs) c.target-to.ensures ∙ sym (none_less b k c.requires.empty (counted_more (edge_of c.args.word) xs))) in
     let swept : IsSwept m c.store.new.self ys c.count.new.pool =
-    subst (λ (q : Board). IsSwept m q ys c.count.new.pool) (sym c.store.ensures) (subst (λ (l : List (Option Object)). IsSwept m m ys l) (sym pool) (swept_none m ys)) in
-    (
+    subst (λ (q : Board). IsSwept m q ys c.count.new.pool) (sym c.store.ensures) (subst (λ (l : List (Option Object)). IsSwept m m ys l) (sym pool) (swept_none m ys)) in (
       λ e. c.requires.other (sym e ∙ c.requires.empty),
       c.requires.far,
       record {

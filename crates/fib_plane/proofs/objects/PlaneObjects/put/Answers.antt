@@ -60,7 +60,7 @@ change-requires-clause-calm g c =
     let is = ap (λ (v : Whole). v.plane) c.self.view_is in
     let told : IsPlane p = told_of p b u xs rows c.self.inside.dying.items (vec_capacity c.self.inside.dying) is c.self.invariant c.tells.ensures c.count.ensures.interned in
     λ ply closes. c.requires.calm (ply_of p.objects c.args.object (subst (λ (v : Plane). is_ply_at (at v.objects c.args.object) ≡ true) is ply))
-        (closes_up p c.args.object c.args.slot c.requires.slot c.args.word c.has_room.ensures told (subst (λ (v : Plane). Closes v.board (16 * c.args.object + c.args.slot) c.args.word) is closes))
+    (closes_up p c.args.object c.args.slot c.requires.slot c.args.word c.has_room.ensures told (subst (λ (v : Plane). Closes v.board (16 * c.args.object + c.args.slot) c.args.word) is closes))
 
 pub change-requires-clause-source : goal.change-requires-clause-source
 change-requires-clause-source g c =

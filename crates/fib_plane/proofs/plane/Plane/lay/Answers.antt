@@ -111,8 +111,7 @@ invariant_of-self-inside g c =
     c.self.invariant c.requires.slot source target apart e.put.0 e.put e.joined e.acyclic e.none c.self.invariant.calm roomy in
     let q : Plane = plane_of n.board n.union n.pool rows in
     let after : IsPlane q = told_of q n.board n.union n.pool rows c.self.inside.dying.items (vec_capacity c.self.inside.dying) refl rest e.told c.count.ensures.interned in
-    let put = subst (λ (v : Plane). IsPlanePut v q k c.args.word puts.Stored) is (put_rows b n.board u n.union xs n.pool rows k c.args.word puts.Stored e.put) in
-    (
+    let put = subst (λ (v : Plane). IsPlanePut v q k c.args.word puts.Stored) is (put_rows b n.board u n.union xs n.pool rows k c.args.word puts.Stored e.put) in (
       put_sound p told c.args.self.now.sound c.args.object c.args.slot c.requires.slot (inr c.requires.held) c.args.word c.has_room.ensures c.requires.kind (λ is_ply closes. c.requires.far closes)
           q after (few_copies p b u xs rows is c.self.invariant.joined) c.requires.target puts.Stored put,
       (
