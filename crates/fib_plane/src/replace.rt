@@ -143,7 +143,7 @@ pub(crate) fn change<B: Board>(
 {
     board.tells();
     let closing = closes(union, pool, cell.object, word);
-    if is_dropped(closing, board.load(cell)) {
+    if is_dropped(closing, board, cell) {
         return Put::Dropped;
     }
     replace(board, union, pool, dying, cell, left_for(closing, word));
@@ -151,10 +151,12 @@ pub(crate) fn change<B: Board>(
 }
 
 /// Whether the word would close a cycle, and the cell holds Drop already.
-fn is_dropped(closing: bool, found: Word) -> bool
-    ensures { IsTrue result ↔ ((closing ≡ true) × (found ≡ words.Drop)) }
+fn is_dropped<B: Board>(closing: bool, board: &Counted<B>, cell: Cell) -> bool
+    requires object { cell.object < board.now.objects }
+    requires slot { cell.slot < 16 }
+    ensures { IsTrue result ↔ ((closing ≡ true) × (word_in board.now (16 * cell.object + cell.slot) ≡ words.Drop)) }
 {
-    closing && sweep::is_drop(found)
+    closing && sweep::is_drop(board.load(cell))
 }
 
 /// What is stored in place of the word.

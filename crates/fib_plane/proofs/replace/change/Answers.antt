@@ -28,8 +28,8 @@ closes-closing-requires-clause-target g c = λ y e. live_edge c.args.board.now c
 pub closes-closing-requires-clause-calm : goal.closes-closing-requires-clause-calm
 closes-closing-requires-clause-calm g c = λ is y e l. c.requires.calm is (closes_here c.args.board.now c.args.union.now c.args.pool.now c.requires.joined c.args.cell.object c.args.cell.slot c.args.word c.requires.slot (y, e, l))
 
-pub load-requires-clause-object : goal.load-requires-clause-object
-load-requires-clause-object g c = live_in c.args.board.now c.args.union.now c.args.pool.now c.requires.joined c.args.cell.object c.requires.source
+pub is_dropped-requires-clause-object : goal.is_dropped-requires-clause-object
+is_dropped-requires-clause-object g c = live_in c.args.board.now c.args.union.now c.args.pool.now c.requires.joined c.args.cell.object c.requires.source
 
 pub replace-requires-clause-word : goal.replace-requires-clause-word
 replace-requires-clause-word g c = subst IsRoomy (sym c.left_for.ensures) (left_roomy c.args.word c.requires.may.roomy c.closes-closing.result)
@@ -46,7 +46,7 @@ replace-requires-clause-may g c =
     let inside = live_in b u xs c.requires.joined o c.requires.source in
     let yes : t ≡ true → Closes b k w = λ q. closes_here b u xs c.requires.joined o c.args.cell.slot w c.requires.slot (c.closes-closing.ensures.closes.0 q) in
     let far : t ≡ false → Closes b k w → ⊥ = λ q closes. false≢true (sym q ∙ c.closes-closing.ensures.closes.1 (here_closes b u xs c.requires.joined o c.args.cell.slot w c.requires.slot closes)) in
-    let filled : t ≡ true → word_in b k ≢ words.Drop = λ q e. false≢true (c.if-is_dropped.ensures.1 (q, c.load.ensures ∙ e)) in
+    let filled : t ≡ true → word_in b k ≢ words.Drop = λ q e. false≢true (c.if-is_dropped.ensures.1 (q, e)) in
     subst (λ (z : Word). MayStore b k z) (sym c.left_for.ensures)
     (left_may (plane_of b u xs []) o c.args.cell.slot w c.requires.slot inside c.requires.may c.requires.other t (λ y e. live_in b u xs c.requires.joined y (c.requires.target y e)) yes far filled)
 
@@ -62,7 +62,7 @@ replace-requires-clause-serves g c =
     let inside = live_in b u xs c.requires.joined o c.requires.source in
     let yes : t ≡ true → Closes b k w = λ q. closes_here b u xs c.requires.joined o c.args.cell.slot w c.requires.slot (c.closes-closing.ensures.closes.0 q) in
     let far : t ≡ false → Closes b k w → ⊥ = λ q closes. false≢true (sym q ∙ c.closes-closing.ensures.closes.1 (here_closes b u xs c.requires.joined o c.args.cell.slot w c.requires.slot closes)) in
-    let filled : t ≡ true → word_in b k ≢ words.Drop = λ q e. false≢true (c.if-is_dropped.ensures.1 (q, c.load.ensures ∙ e)) in
+    let filled : t ≡ true → word_in b k ≢ words.Drop = λ q e. false≢true (c.if-is_dropped.ensures.1 (q, e)) in
     subst (λ (z : Word). HoldsPromise (board_stored b k z) (IsHeld b xs)) (sym c.left_for.ensures)
     (left_serves (plane_of b u xs []) o c.args.cell.slot w c.requires.slot inside c.requires.may c.requires.other t yes far filled)
 
@@ -83,7 +83,7 @@ returns-then-is_dropped-clause-put g c =
     let far : t ≡ false → Closes b k w → ⊥ = λ q closes. false≢true (sym q ∙ c.closes-closing.ensures.closes.1 (here_closes b u xs c.requires.joined o c.args.cell.slot w c.requires.slot closes)) in
     let both = c.if-is_dropped.ensures.0 refl in
     let same : plane_of b c.closes-closing.new.union xs [] ≡ plane_of b u xs [] = ap (λ (v : Kept). plane_of b v xs []) c.closes-closing.ensures.unchanged in
-    let there : word_in b k ≡ words.Drop = sym c.load.ensures ∙ both.1 in
+    let there : word_in b k ≡ words.Drop = both.1 in
     (c.requires.other, yes both.0, inl (there, same))
 
 pub returns-clause-put : goal.returns-clause-put
@@ -98,7 +98,7 @@ returns-clause-put g c =
     let inside = live_in b u xs c.requires.joined o c.requires.source in
     let yes : t ≡ true → Closes b k w = λ q. closes_here b u xs c.requires.joined o c.args.cell.slot w c.requires.slot (c.closes-closing.ensures.closes.0 q) in
     let far : t ≡ false → Closes b k w → ⊥ = λ q closes. false≢true (sym q ∙ c.closes-closing.ensures.closes.1 (here_closes b u xs c.requires.joined o c.args.cell.slot w c.requires.slot closes)) in
-    let filled : t ≡ true → word_in b k ≢ words.Drop = λ q e. false≢true (c.if-is_dropped.ensures.1 (q, c.load.ensures ∙ e)) in
+    let filled : t ≡ true → word_in b k ≢ words.Drop = λ q e. false≢true (c.if-is_dropped.ensures.1 (q, e)) in
     let n = c.replace.new in
     let spare = subst (λ (v : Kept). v.spare ≤ n.union.spare + 1) c.closes-closing.ensures.unchanged c.replace.ensures.spare in
     let spared = subst (λ (v : Kept). must_retire (union_of b) k ≡ false → v.spare ≤ n.union.spare) c.closes-closing.ensures.unchanged c.replace.ensures.spared in
