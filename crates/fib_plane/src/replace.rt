@@ -203,7 +203,8 @@ pub(crate) fn same(one: Word, other: Word) -> bool
     one == other
 }
 
-/// Whether the word is an edge that would close a cycle. One from a ply closes none: a put asks that. One beside a current edge to the same object closes none: so of sixteen buckets that
+/// Whether the word is an edge that would close a cycle. One from a ply closes none: a put asks that.
+/// One beside a current edge to the same object closes none: so of sixteen buckets that
 /// come to lead to one object at most the first is searched for.
 pub(crate) fn closes(union: &mut Union, pool: &Pool, object: u32, word: Word) -> bool
     requires acyclic { IsAcyclic (Edge union.old.union) }

@@ -74,7 +74,8 @@ pub trait Objects {
         requires other { word ≢ words.Drop }
         requires target { LeadsElsewhere (view self.old) object word }
         requires kind { HasKind (view self.old) object word }
-        requires promise { (s : ℕ) (m : View) → s < 16 → Fills (view self.old) object word s m → MayPut (promise self.old) m object s word }
+        requires promise { (s : ℕ) (m : View) → s < 16 → Fills (view self.old) object word s m
+            → MayPut (promise self.old) m object s word }
         ensures fills { Fills (view self.old) object word 16 (view self.new) }
         ensures cells { (s : ℕ) → s < 16 → (view self.new).cell object s ≡ word }
         ensures stores { StoresEach (λ x s. (x ≡ object) × (s < 16)) (view self.old) (view self.new) }
