@@ -3,6 +3,8 @@ pub mod Boarding
 pub mod Clearing
 pub mod Sweeping
 pub mod Storing
+pub mod Laying
+pub mod Dropping
 pub mod Resting
 pub mod Beginning
 pub mod Scanning

@@ -9,6 +9,8 @@ ghost use Rattle.fib_pool.specs.Records.{IsNew, adjacency};
 ghost use Rattle.fib_core_board.specs.Boards.{HasNoPly};
 ghost use Rattle.fib_plane_view.specs.Promise.{MayClear, MayLetGo, MayPut};
 ghost use Rattle.fib_plane_view.specs.Stores.{IsFreed, StoresEach};
+ghost use Rattle.fib_plane_view.specs.declared.put.Put.TheVariants as answers;
+ghost use Rattle.fib_plane.specs.Views.{promise_of, view_of};
 ghost use Rattle.fib_plane_view.specs.View.{Closes, GaveRecord, HasKind, HasRoom, IsLetGo, IsLive, IsPut, IsRecord, IsScanned, IsStanding, IsTaken, TookOne, leads};
 ghost use Rattle.fib_plane.specs.Planes as planes;
 ghost use Rattle.fib_plane.specs.Puts as puts;
@@ -33,6 +35,34 @@ fn has_room(word: Word)
         Word::Glean(_interface) => {}
         Word::ToPly(_object) | Word::ToBalance(_object) | Word::ToAdjacency(_object) => {}
         Word::Drop | Word::Receive | Word::Plain(_) => {}
+    }
+}
+
+impl<B: Board> Plane<B> {
+    /// Puts a word into an empty cell of an object that is held. It closes no cycle, so it is stored, and nothing leaves.
+    fn lay(&mut self, object: u32, slot: u32, word: Word)
+        requires slot { slot < 16 }
+        requires held { (view_of self.old.plane).is_held object ≡ true }
+        requires empty { (view_of self.old.plane).cell object slot ≡ words.Drop }
+        requires other { word ≢ words.Drop }
+        requires target { (y : ℕ) → leads word y → IsLive (view_of self.old.plane) y }
+        requires kind { HasKind (view_of self.old.plane) object word }
+        requires far { Closes (view_of self.old.plane) object word → ⊥ }
+        requires promise { MayPut (promise_of self.old.plane.board) (view_of self.old.plane) object slot word }
+        ensures put { IsPut (view_of self.old.plane) (view_of self.new.plane) object slot word answers.Stored }
+        ensures stores { StoresEach (λ x s. (x ≡ object) × (s ≡ slot)) (view_of self.old.plane) (view_of self.new.plane) }
+        ensures promise { promise_of self.new.plane.board ≡ promise_of self.old.plane.board }
+    {
+        self.board.tells();
+        let _ = self.table.count();
+        has_room(word);
+        replace::lay(
+            &mut self.board,
+            &mut self.union,
+            &mut self.pool,
+            Cell { object, slot },
+            word,
+        );
     }
 }
 
@@ -104,6 +134,12 @@ impl<B: Board> Objects for Plane<B> {
             cell,
             word,
         )
+    }
+
+    fn fill(&mut self, object: u32, word: Word) {
+        for slot in 0..16 {
+            self.lay(object, slot, word);
+        }
     }
 
     fn take(&mut self, kind: Kind) -> Option<u32>

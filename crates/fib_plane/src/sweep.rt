@@ -128,3 +128,35 @@ pub(crate) fn sweep<B: Board>(
     }
     board.tells();
 }
+
+/// An edge left, or none did: its object is counted once less, and all that is counted no more then is cleared.
+pub(crate) fn leave<B: Board>(
+    board: &mut Counted<B>,
+    union: &mut Union,
+    pool: &mut Pool,
+    dying: &mut Vec<u32>,
+    left: Option<u32>,
+)
+    requires live { (y : ℕ) → left ≡ Some y → IsLive pool.old y }
+    requires joined { IsJoined board.old union.old (uncounted left pool.old) }
+    requires none { AreDying pool.old [] }
+    requires empty { dying.old.items ≡ [] }
+    requires allowed { Allows board.old }
+    requires serves { HoldsPromise board.old (IsHeld board.old (uncounted left pool.old)) }
+    requires room { length pool.old ≤ vec_capacity dying.old }
+    ensures joined { IsJoined board.new union.new pool.new }
+    ensures none { AreDying pool.new [] }
+    ensures empty { dying.new.items ≡ [] }
+    ensures told { IsBoard board.new }
+    ensures serves { HoldsPromise board.new (IsHeld board.new pool.new) }
+    ensures swept { IsSwept board.old board.new (uncounted left pool.old) pool.new }
+    ensures spare { union.old.spare ≤ union.new.spare }
+    ensures room { vec_capacity dying.old ≤ vec_capacity dying.new }
+{
+    let Some(target) = left else {
+        board.tells();
+        return;
+    };
+    drop_edge(pool, dying, Some(target));
+    sweep(board, union, pool, dying);
+}

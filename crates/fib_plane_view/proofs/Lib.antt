@@ -1,2 +1,3 @@
 pub mod Frames
 pub mod Storing
+pub mod Filling

@@ -2,3 +2,4 @@ pub mod View
 pub mod Promise
 pub mod Frames
 pub mod Stores
+pub mod inner

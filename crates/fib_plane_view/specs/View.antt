@@ -1,5 +1,5 @@
 -- The plane as the prefix table and the stack of buckets see it, and what each of its calls does. Objects have sixteen cells each.
-use Rattle.std.specs.Prelude.{◌≡◌, ◌≢◌, ℕ, ◌+◌, ◌*◌, ◌<◌, ◌≤◌, ◌⊎◌, ◌∷◌, Bool, true, false, List, Option, Some, None, Contains, length, Result, Ok, Err}
+use Rattle.std.specs.Prelude.{◌≡◌, ◌≢◌, ℕ, zero, suc, ◌+◌, ◌*◌, ◌<◌, ◌≤◌, ◌⊎◌, ◌∷◌, Bool, true, false, List, Option, Some, None, Contains, length, Result, Ok, Err}
 use Rattle.std.specs.declared.alloc.AllocError.{AllocError}
 use Rattle.fib_reach.specs.Walks.{Leads}
 use Rattle.fib_resolve.specs.declared.types.End.{End}
@@ -161,6 +161,21 @@ pub record IsPut (u v : View) (x s : ℕ) (w : Word) (answer : Put) : Type 0 whe
   pub spare : u.spare ≤ v.spare + 1
   -- where no pass can come nothing is retired
   pub spared : x ≢ 0 → (HasIn u x → ⊥) → u.spare ≤ v.spare
+
+-- w was put into so many of the first cells of x, one after another, and each put stored it; after each the view is a plane's
+abbrev pub Fills : View → ℕ → Word → ℕ → View → Type 0
+Fills u x w zero v = v ≡ u
+Fills u x w (suc s) v = (m : View) × Fills u x w s m × IsPut m v x s w puts.Stored × IsPlane v
+
+-- an object of the control plane's whose cells are empty, and to which no edge leads
+pub record IsEmpty (u : View) (x : ℕ) : Type 0 where
+  pub held : u.is_held x ≡ true
+  pub alone : HasIn u x → ⊥
+  pub cells : (s : ℕ) → s < 16 → u.cell x s ≡ words.Drop
+
+-- the word leads to objects in use, other than x
+abbrev pub LeadsElsewhere : View → ℕ → Word → Type 0
+LeadsElsewhere u x w = (y : ℕ) → leads w y → IsLive u y × (y ≢ x)
 
 abbrev pub is_ply_kind : Kind → Bool
 is_ply_kind kinds.Ply = true

@@ -1,9 +1,10 @@
 // Shared objects in the control plane's hands.
 ghost use Rattle.std.specs.Prelude.{◌≡◌, ◌≢◌, ℕ, ◌+◌, ◌-◌, ◌^◌, ◌%◌, ◌<◌, ◌≤◌, ◌⊎◌, Option, Ok, Some, true, false, IfSome, IfNone, OnOk, OnErr, [], length};
+ghost use Rattle.fib_core.specs.declared.word.Word.TheVariants as words;
 ghost use Rattle.fib_pool.specs.declared.object.Kind.TheVariants as kinds;
 ghost use Rattle.fib_pool.specs.declared.object.AdjacencyRecord.{AdjacencyRecord};
 ghost use Rattle.fib_pool.specs.Records.{adjacency};
-ghost use Rattle.fib_plane_view.specs.View.{Closes, GaveRecord, HasKind, HasRoom, IsLetGo, IsLive, IsPlane, IsPut, IsRecord, IsScanned, IsStanding, IsTaken, TookOne, View, leads};
+ghost use Rattle.fib_plane_view.specs.View.{Closes, Fills, GaveRecord, HasKind, HasRoom, IsEmpty, IsLetGo, IsLive, IsPlane, IsPut, IsRecord, IsScanned, IsStanding, IsTaken, LeadsElsewhere, TookOne, View, leads};
 ghost use Rattle.fib_plane_view.specs.Promise.{MayClear, MayLetGo, MayPut, Promise};
 ghost use Rattle.fib_plane_view.specs.Stores.{IsFreed, StoresEach};
 
@@ -64,6 +65,20 @@ pub trait Objects {
         ensures put { IsPut (view self.old) (view self.new) object slot word result }
         ensures stores { StoresEach (λ x s. ((x ≡ object) × (s ≡ slot)) ⊎ IsFreed (view self.old) (view self.new) x)
             (view self.old) (view self.new) }
+        ensures promise { promise self.new ≡ promise self.old };
+
+    /// Puts a word into each of the sixteen cells of an object that is held, whose cells are empty and to which no edge leads: as sixteen puts, the
+    /// first cell first, each of which stores it. What is asked of a put is asked of each of them, in the view that those before it leave.
+    fn fill(&mut self, object: u32, word: Word)
+        requires empty { IsEmpty (view self.old) object }
+        requires other { word ≢ words.Drop }
+        requires target { LeadsElsewhere (view self.old) object word }
+        requires kind { HasKind (view self.old) object word }
+        requires promise { (s : ℕ) (m : View) → s < 16 → Fills (view self.old) object word s m
+            → MayPut (promise self.old) m object s word }
+        ensures fills { Fills (view self.old) object word 16 (view self.new) }
+        ensures cells { (s : ℕ) → s < 16 → (view self.new).cell object s ≡ word }
+        ensures stores { StoresEach (λ x s. (x ≡ object) × (s < 16)) (view self.old) (view self.new) }
         ensures promise { promise self.new ≡ promise self.old };
 
     /// Takes a free object as a ply or a balance, and holds it. None exactly where none is free.

@@ -8,6 +8,7 @@ pub mod Fitting
 pub mod Paths
 pub mod Pushes
 pub mod Sprouts
+pub mod Filled
 pub mod Grown
 pub mod Prunes
 pub mod Sets

@@ -250,14 +250,21 @@ module _ (wants : Watch) (look : Look) (a : ℕ) (u : View) (x c d s : ℕ) (the
   free_there : Needs look (d - 1 + 1) (a / 2 ^ (28 - 4 * (d - 1))) → ⊥
   free_there = subst (λ (i : ℕ). Needs look i (a / 2 ^ (28 - 4 * (d - 1))) → ⊥) (sym d_is) (subst (λ (i : ℕ). Needs look d (a / 2 ^ i) → ⊥) (sym shift) free)
 
-  pub block_here : a / 2 ^ (32 - 4 * d) < 2 ^ (4 * d)
-  block_here = let le : d ≤ 7 = ended.cell.few.1 in let f : 4 * d + (32 - 4 * d) ≡ 32 = omega arith in shr_below a (4 * d) (32 - 4 * d) (subst (λ (i : ℕ). a < 2 ^ i) (sym f) lt)
-
-  pub best_here : (r : Option ℕ) → r ≡ best_block look (4 * d) (a / 2 ^ (32 - 4 * d)) → IsSome r
-  best_here r e = let le : d ≤ 7 = ended.cell.few.1 in best_some look (4 * d) (a / 2 ^ (32 - 4 * d)) pruned.at.sound.whole (small le) r e
+  -- its cells lead to what the best prefix of its block leads to
+  pub leaf_best : (o : ℕ) → u.cell c s ≡ ToBalance o → best_block look (4 * d) (a / 2 ^ (32 - 4 * d)) ≡ Some o
+  leaf_best o is = sym (pushed_at look d (a / 2 ^ (32 - 4 * d)) a (omega (arith, ended.cell.few.1)) refl free) ∙ answer
     where
-      small : d ≤ 7 → a / 2 ^ (32 - 4 * d) < 2 ^ (4 * d)
-      small le = let f : 4 * d + (32 - 4 * d) ≡ 32 = omega arith in shr_below a (4 * d) (32 - 4 * d) (subst (λ (i : ℕ). a < 2 ^ i) (sym f) lt)
+      here : IsIn n c s a
+      here = (lt, subst (λ (i : ℕ). IsBelow a (i + 1) (16 * n.value c + s)) (sym ended.cell.path.1) ended.cell.below)
+
+      filled : IsFilled (Mixed look look 0) (Has there) n c s (ToBalance o)
+      filled = subst (λ (z : Word). IsFilled (Mixed look look 0) (Has there) n c s z) is (pruned.at.fits.cells c s ended.cell.path.0 ended.cell.few.0)
+
+      answer : IsAnswer look a o
+      answer = (filled.1 a here).1 (omega arith)
+
+  pub leaf_live : IsLive u c
+  leaf_live = ⊎_elim (λ (z : c ≡ 0). inl z) (λ (h : u.is_held c ≡ true). inr (inl h)) (pruned.at.fits.held c ended.cell.path.0).1
 
   module _ (o : ℕ) (answer : best_block look (4 * d) (a / 2 ^ (32 - 4 * d)) ≡ Some o) where
     answer_there : best_block look (4 * (d - 1 + 1)) (a / 2 ^ (28 - 4 * (d - 1))) ≡ Some o

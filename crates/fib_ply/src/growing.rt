@@ -31,9 +31,7 @@ pub fn fill<P: Objects>(on: &mut P, ply: u32, object: u32)
     ensures beside { Beside (P.view on.old) (P.view on.new) }
     ensures none_dropped { DropsNone (P.view on.old) (P.view on.new) }
 {
-    for slot in 0..16 {
-        put(on, ply, slot, Word::ToBalance(object));
-    }
+    on.fill(ply, Word::ToBalance(object));
 }
 
 /// Puts a ply below a cell that has none, and answers the address's cell of the new ply.

@@ -25,7 +25,10 @@ pub fn unlink<P: Objects, S: Prefixes>(set: &S, on: &mut P, leaf: Leaf, addr: u3
     ensures free { (P.view on.old).free ≤ (P.view on.new).free }
 {
     let block = addr >> (32 - 4 * leaf.depth);
-    let object = set.best(4 * leaf.depth, block).unwrap();
+    // No prefix tells the ply's cells apart: each holds the best balance of its block.
+    let Word::ToBalance(object) = on.word(leaf.ply, leaf.slot) else {
+        unreachable!()
+    };
     let slot = block % 16;
     put(on, leaf.above, slot, Word::ToBalance(object));
     let_go(on, leaf.ply);

@@ -26,8 +26,9 @@ use Rattle.fib_plane_view.specs.declared.put.Put.{Put}
 use Rattle.fib_plane_view.specs.declared.put.Put.TheVariants as puts
 use Rattle.fib_plane_view.specs.View.{View, GaveRecord, IsLive, IsPut}
 use Rattle.fib_plane_view.specs.Stores.{Has, IsFreed, StoresEach}
-use Rattle.fib_plane_view.proofs.Storing.{stores_none}
+use Rattle.fib_plane_view.proofs.Storing.{stores_none, stores_weaker}
 use Rattle.fib_plane.specs.Views.{AreRecorded, cell_in, view_of}
+use Rattle.fib_plane.proofs.Views.Storing.{cell_else as stored_else}
 use Rattle.fib_plane.proofs.Views.Counting.{has_lost, lost, lost_has, lost_long, lost_once}
 use Rattle.fib_plane.proofs.Views.Recorded.{counted_seen}
 use Rattle.fib_plane.proofs.Views.Recording.{cell_else, empty, mac_value, none_here, three}
@@ -182,6 +183,23 @@ module _ (p : Plane) (told : sound.IsPlane p) (all : AreRecorded p) (q : Plane) 
       (λ (n : (word_in p.board (16 * x + s) ≡ words.Drop) × (q ≡ p)). nothing n.1)
       (λ (n : (word_in p.board (16 * x + s) ≢ words.Drop) × plane.IsStored p q (16 * x + s) words.Drop). one words.Drop tt n.0 n.1 seen.answered.1 seen.others)
       h.2
+
+-- a word that was laid into an empty cell: no other cell was stored
+pub laid_stores : (p : Plane) → sound.IsPlane p → AreRecorded p → (q : Plane) → sound.IsPlane q → (x s : ℕ) → s < 16 → 16 * x + s < length p.board.union.cells → (w : Word) → IsRoomy w
+    → plane.IsPlanePut p q (16 * x + s) w puts.Stored → IsPut (view_of p) (view_of q) x s w puts.Stored → q.board ≡ board_stored p.board (16 * x + s) w
+    → StoresEach (λ y t. (y ≡ x) × (t ≡ s)) (view_of p) (view_of q)
+laid_stores p told all q after x s lt here w fits h seen is = stores_weaker (λ y t. ((y ≡ x) × (t ≡ s)) ⊎ IsFreed (view_of p) (view_of q) y) (λ y t. (y ≡ x) × (t ≡ s)) (view_of p) (view_of q) one_cell
+    (put_stores p told all q after x s lt here w fits puts.Stored h seen)
+  where
+    same : (y t : ℕ) → (y ≡ x → t ≡ s → ⊥) → (view_of q).cell y t ≡ (view_of p).cell y t
+    same y t ne = ap (λ (b : Board). cell_in b y t) is ∙ stored_else p x s lt here w fits y t ne
+
+    one_cell : (y t : ℕ) → (view_of p).cell y t ≢ (view_of q).cell y t → ((y ≡ x) × (t ≡ s)) ⊎ IsFreed (view_of p) (view_of q) y → (y ≡ x) × (t ≡ s)
+    one_cell y t ne (inl e) = e
+    one_cell y t ne (inr freed) = elim (cases_eq y x) [
+      | inl a ↦ elim (cases_eq t s) [ inl b ↦ (a, b) | inr other ↦ absurd (ne (sym (same y t (λ e f. other f)))) ]
+      | inr other ↦ absurd (ne (sym (same y t (λ e f. other e))))
+    ]
 
 -- a record that gets a user: only a new one stores, into three cells of an object that wasn't in use
 plain_full : (n : ℕ) → words.Plain n ≡ words.Drop → ⊥

@@ -14,3 +14,6 @@ returns-then-has_edge-clause-closes c =
       λ t. absurd (false≢true t),
       λ q. absurd (no_second_way u c.args.object c.in-Some.to c.requires.acyclic (c.if-has_edge.ensures.0 refl) (subst (λ (y : ℕ). Leads (Edge u) y c.args.object) (some_is q.0 c.in-Some.to (sym q.1 ∙ to)) q.2)),
     )
+
+pub returns-then-is_ply-clause-closes : goal.returns-then-is_ply-clause-closes
+returns-then-is_ply-clause-closes c = (λ t. absurd (false≢true t), λ q. absurd (c.requires.calm (sym c.if-is_ply.ensures) q.0 q.1 q.2))

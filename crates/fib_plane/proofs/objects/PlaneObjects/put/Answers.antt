@@ -1,17 +1,19 @@
-use Rattle.std.proofs.Common.{◌≡◌, ◌≢◌, ◌<◌, ◌+◌, ◌*◌, ◌∙◌, ℕ, Some, None, sym, ap, subst, refl, vec_capacity}
+use Rattle.std.proofs.Common.{◌≡◌, ◌≢◌, ◌<◌, ◌+◌, ◌*◌, ◌∙◌, ℕ, Some, None, true, sym, ap, subst, refl, vec_capacity}
 use Rattle.std.proofs.lemmas.Bool.{false≢true}
 use Rattle.fib_base_interned.specs.Interned.{kept_of}
-use Rattle.fib_pool.specs.Objects.{IsLive}
+use Rattle.fib_pool.specs.Objects.{IsLive, at}
 use Rattle.fib_core_board.specs.Boards.{edge_of, word_in}
 use Rattle.fib_plane_view.specs.declared.put.Put.TheVariants as puts
 use Rattle.fib_plane_view.specs.View.{HasKind}
 use Rattle.fib_plane.specs.Planes.{Plane, leads_from}
-use Rattle.fib_plane.specs.Puts.{IsPlanePut, MayPut}
+use Rattle.fib_plane.specs.Puts.{Closes, IsPlanePut, MayPut}
 use Rattle.fib_plane.specs.Sound.{IsPlane}
-use Rattle.fib_plane.specs.Views.{Whole, plane_of, view_of}
+use Rattle.fib_plane.specs.Views.{Whole, is_ply_at, plane_of, view_of}
 use Rattle.fib_plane.proofs.Resting.{change_rest, few_copies, may_rows, put_rows, told_of}
 use Rattle.fib_plane.proofs.Views.Differing.{put_stores}
 use Rattle.fib_plane.proofs.Views.Putting.{in_board, in_cells, may_put, put_promise, put_recorded, put_seen, put_sound, replaced_down, source, standing_unrecorded, target_down}
+use Rattle.fib_plane.proofs.Dropping.{ply_of}
+use Rattle.fib_plane.proofs.Views.Storing.{closes_up}
 use Rattle.fib_plane.proofs.objects.PlaneObjects.put.Goals as goal
 
 pub has_room-requires : goal.has_room-requires
@@ -47,6 +49,18 @@ change-requires-clause-may g c =
     let told : IsPlane p = told_of p b u xs rows c.self.inside.dying.items (vec_capacity c.self.inside.dying) is c.self.invariant c.tells.ensures c.count.ensures.interned in
     let may = may_put p told c.args.self.now.sound c.args.object c.args.slot c.requires.slot c.requires.standing c.args.word c.has_room.ensures c.requires.kind c.requires.calm c.requires.promise in
     may_rows b b u u xs xs rows (16 * c.args.object + c.args.slot) c.args.word (subst (λ (v : Plane). MayPut v (16 * c.args.object + c.args.slot) c.args.word) (sym is) may)
+
+pub change-requires-clause-calm : goal.change-requires-clause-calm
+change-requires-clause-calm g c =
+    let p = c.args.self.now.plane in
+    let b = c.self.inside.board in
+    let u = c.self.inside.union in
+    let xs = c.self.inside.pool in
+    let rows = c.self.inside.table in
+    let is = ap (λ (v : Whole). v.plane) c.self.view_is in
+    let told : IsPlane p = told_of p b u xs rows c.self.inside.dying.items (vec_capacity c.self.inside.dying) is c.self.invariant c.tells.ensures c.count.ensures.interned in
+    λ ply closes. c.requires.calm (ply_of p.objects c.args.object (subst (λ (v : Plane). is_ply_at (at v.objects c.args.object) ≡ true) is ply))
+    (closes_up p c.args.object c.args.slot c.requires.slot c.args.word c.has_room.ensures told (subst (λ (v : Plane). Closes v.board (16 * c.args.object + c.args.slot) c.args.word) is closes))
 
 pub change-requires-clause-source : goal.change-requires-clause-source
 change-requires-clause-source g c =

@@ -1,9 +1,16 @@
-use Rattle.std.proofs.Common.{◌<◌, ◌^◌, ℕ, sym, subst, ◌∙◌}
+use Rattle.std.proofs.Common.{◌≡◌, ◌<◌, ◌^◌, ℕ, inl, inr, ⊎_elim, true, sym, subst, ◌∙◌}
 use Rattle.fib_ply.specs.Rows.{ArePrefixes}
 use Rattle.fib_ply.specs.Tables.{Table}
 use Rattle.fib_ply.specs.inner.Change.{IsCellOf}
 use Rattle.fib_ply.proofs.Laws.{answered, trie_of}
 use Rattle.fib_ply.proofs.prefixes.PrefixTable.answer.Goals as goal
+
+pub word-requires-clause-live : goal.word-requires-clause-live
+word-requires-clause-live g c =
+    let s = c.requires.stands in
+    let trie = trie_of s.0 c.args.self.now (g.P.Objects.view c.args.on.now) s.1 in
+    let cell = c.find-at.ensures s.1.1 trie in
+    ⊎_elim (λ (z : c.find-at.result.ply ≡ 0). inl z) (λ (h : (g.P.Objects.view c.args.on.now).is_held c.find-at.result.ply ≡ true). inr (inl h)) (trie.standing c.find-at.result.ply cell.path.0)
 
 pub unreachable-requires : goal.unreachable-requires
 unreachable-requires g c =
