@@ -41,7 +41,7 @@ pub fn begin<P: Objects>(
     ensures underway { let before = moment (P.view on.old) table.old stack.old queue.old in
         let after = moment (P.view on.new) table.new stack.new queue.new in
         FromTurn entries.now (P.promise on.old) before entry
-        (λ S. IfOk result (IsUnderway S (rank_of entries.now.rows) (P.promise on.old) before.view after)) }
+        (λ S rank. IfOk result (IsUnderway S rank (P.promise on.old) before.view after)) }
     ensures room { IfOk result (λ plan. HasRoomFor (P.view on.new) stack.new table.new queue.new (length plan.uses.items)
         (length plan.woken.items)) }
     ensures parts { parts_of table.new stack.new queue.new ≡ parts_of table.old stack.old queue.old }

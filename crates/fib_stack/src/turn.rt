@@ -62,11 +62,11 @@ fn restack<P: Objects>(
         × IsTurnOf S (rank_of entries.now.rows) (P.promise on.old) (moment (P.view on.old) table.old stack.old queue.old) entry }
     ensures turn { let before = moment (P.view on.old) table.old stack.old queue.old in
         let after = moment (P.view on.new) table.new stack.new queue.new in
-        FromTurn entries.now (P.promise on.old) before entry (λ S. OnOk result (EntryTurned S entry before after)) }
+        FromTurn entries.now (P.promise on.old) before entry (λ S rank. OnOk result (EntryTurned S entry before after)) }
     ensures leaves { let before = moment (P.view on.old) table.old stack.old queue.old in
         let after = moment (P.view on.new) table.new stack.new queue.new in
         FromTurn entries.now (P.promise on.old) before entry
-        (λ S. LeavesAll S (rank_of entries.now.rows) (P.promise on.old) (IsErrOf result Want.Object) before after) }
+        (λ S rank. LeavesAll S rank (P.promise on.old) (IsErrOf result Want.Object) before after) }
     ensures count { IfOk result (λ n. n ≡ late_count (late_at stack.new.late.members entry) 16) }
     ensures stored { OnOk result ((P.view on.old).stored ≤ (P.view on.new).stored) }
     ensures err { OnErr result (SamePlane (P.view on.old) (P.view on.new)) }
@@ -125,12 +125,11 @@ fn take<P: Objects>(
         × IsNext S (rank_of entries.now.rows) (P.promise on.old) (moment (P.view on.old) table.old stack.old queue.old) entry }
     ensures turn { let before = moment (P.view on.old) table.old stack.old queue.old in
         let after = moment (P.view on.new) table.new stack.new queue.new in
-        FromNext entries.now (P.promise on.old) before entry
-        (λ S. OnOk result (PrefixTurned S (rank_of entries.now.rows) entry before after)) }
+        FromNext entries.now (P.promise on.old) before entry (λ S rank. OnOk result (PrefixTurned S rank entry before after)) }
     ensures leaves { let before = moment (P.view on.old) table.old stack.old queue.old in
         let after = moment (P.view on.new) table.new stack.new queue.new in
         FromNext entries.now (P.promise on.old) before entry
-        (λ S. LeavesAll S (rank_of entries.now.rows) (P.promise on.old) (IsErrOf result Want.Object) before after) }
+        (λ S rank. LeavesAll S rank (P.promise on.old) (IsErrOf result Want.Object) before after) }
     ensures count { IfOk result (λ n. n ≡ late_count (late_at stack.new.late.members entry) 16) }
     ensures stored { OnOk result ((P.view on.old).stored ≤ (P.view on.new).stored) }
     ensures err { OnErr result (SamePlane (P.view on.old) (P.view on.new)) }

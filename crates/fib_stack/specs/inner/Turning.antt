@@ -27,13 +27,13 @@ pub record IsTurnOf (S : Tables) (rank : Prefix → ℕ) (p : Promise) (m : Mome
 abbrev pub ForTables : Known → (Tables → Type 0) → Type 0
 ForTables k P = (S : Tables) → StandsFor k S → P S
 
--- and with which the turn is this prefix's
-abbrev pub FromNext : Known → Promise → Moment → Prefix → (Tables → Type 0) → Type 0
-FromNext k p m e P = (S : Tables) → StandsFor k S → IsNext S (rank_of k.rows) p m e → P S
+-- this holds of those with which, under the ranks that are known, the turn is this prefix's
+abbrev pub FromNext : Known → Promise → Moment → Prefix → (Tables → (Prefix → ℕ) → Type 0) → Type 0
+FromNext k p m e P = (S : Tables) → StandsFor k S → IsNext S (rank_of k.rows) p m e → P S (rank_of k.rows)
 
 -- or this entry's
-abbrev pub FromTurn : Known → Promise → Moment → Prefix → (Tables → Type 0) → Type 0
-FromTurn k p m e P = (S : Tables) → StandsFor k S → IsTurnOf S (rank_of k.rows) p m e → P S
+abbrev pub FromTurn : Known → Promise → Moment → Prefix → (Tables → (Prefix → ℕ) → Type 0) → Type 0
+FromTurn k p m e P = (S : Tables) → StandsFor k S → IsTurnOf S (rank_of k.rows) p m e → P S (rank_of k.rows)
 
 -- an entry had its turn: by a run of puts, which store each cell that differs once where it was in the prefix table
 pub record EntryTurned (S : Tables) (e : Prefix) (m n : Moment) : Type 0 where

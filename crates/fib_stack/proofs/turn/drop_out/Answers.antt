@@ -1,4 +1,4 @@
-use Rattle.std.proofs.Common.{ap, sym, subst, arith}
+use Rattle.std.proofs.Common.{ap, subst, arith}
 use Rattle.fib_plane_view.specs.Promise.{Promise}
 use Rattle.fib_plane_view.specs.View.{View}
 use Rattle.fib_stack_ledger.proofs.Books.{times_within}

@@ -1,4 +1,4 @@
-use Rattle.std.proofs.Common.{refl, sym, subst, ap, ◌∙◌, ◌≡◌, ◌-◌, ◌%◌, ◌≤◌, length, arith}
+use Rattle.std.proofs.Common.{refl, sym, subst, ap, ◌∙◌, ◌≡◌, ◌-◌, ◌%◌, length, arith}
 use Rattle.fib_entries_rows.specs.Known.{rank_of}
 use Rattle.fib_plane_view.specs.Promise.{Promise}
 use Rattle.fib_ply.proofs.Tables.{wraps}
