@@ -14,8 +14,14 @@ use Rattle.fib_stack.specs.declared.stack.Stack.{Stack}
 
 -- what the prefix table, the stack and the queue know
 abbrev pub parts_of : Table → Stack → Order Queued → Parts
-parts_of t s q =
-    record { rows = t.rows.members; plies = t.plies; known = known_of s.ledger.rows; total = total s.ledger.rows; late = s.late.members; queue = q.members }
+parts_of t s q = record {
+  rows = t.rows.members;
+  plies = t.plies;
+  known = known_of s.ledger.rows;
+  total = total s.ledger.rows;
+  late = s.late.members;
+  queue = q.members;
+}
 
 pub record Moment : Type 0 where
   pub view : View

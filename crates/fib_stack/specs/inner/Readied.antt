@@ -113,7 +113,8 @@ found_in (u ∷ us) end = if same_end (end_used u) end then Some u.object else f
 abbrev pub names_for : Parts → List Use → Objects
 names_for s us = record { balance = balance_in s; record_of = found_in us }
 
--- the rest of a turn between its first put and its end: the puts' words and answers, the plane after them, and after the old records went back
+-- the rest of a turn between its first put and its end: the puts' words and answers, the plane after them, and after the old records went
+-- back
 pub record Course : Type 0 where
   pub words : List Word
   pub answers : List Put
@@ -143,8 +144,8 @@ pub record IsFinished (S : Tables) (plan : Plan) (m : Moment) (course : Course) 
       → queued_in n.parts d ≡ (queued_in m.parts d && not (same_prefix d plan.entry))
       || (differ (was_by m.parts plan.entry) plan.forwards && wakes S d plan.entry)
 
--- the turn is over, which began over the plane v: its puts, from m on, are a run from any plane of which only what it needs was taken, and they
--- store what differs, if that did
+-- the turn is over, which began over the plane v: its puts, from m on, are a run from any plane of which only what it needs was taken; and
+-- they store each cell that differs once, if what was taken did
 pub record EndsTurn (S : Tables) (rank : Prefix → ℕ) (p : Promise) (v : View) (plan : Plan) (m n : Moment) : Type 0 where
   pub turn : IsRestacked S plan.entry (state_in v m.parts) (state_at n)
   pub run : (u : View) → TakesOnly u m.view → HasRun S plan.entry u n.view (state_at n)
