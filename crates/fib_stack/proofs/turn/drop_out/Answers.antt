@@ -3,7 +3,7 @@ use Rattle.fib_plane_view.specs.Promise.{Promise}
 use Rattle.fib_plane_view.specs.View.{View}
 use Rattle.fib_stack_ledger.proofs.Books.{times_within}
 use Rattle.fib_stack.specs.Joined.{Joined, in_change}
-use Rattle.fib_stack.specs.Moments.{parts_of}
+use Rattle.fib_stack.specs.Moments.{moment, parts_of}
 use Rattle.fib_stack_ledger.specs.Deferred.{late_at}
 use Rattle.fib_stack.proofs.Deferring.{none_late}
 use Rattle.fib_stack.proofs.Moving.{moved_joined, room_moved, roomy_leaving, roomy_removed}
@@ -13,22 +13,44 @@ use Rattle.fib_stack.proofs.turn.drop_out.Goals as goal
 pub leave-requires-clause-left : goal.leave-requires-clause-left
 leave-requires-clause-left g c =
     let l = c.requires.left in
-    (l.0, l.1, roomy_leaving l.0 l.1 (g.P.Objects.promise c.args.on.now) (g.P.Objects.promise c.room.new.on) (g.P.Objects.view c.args.on.now) (g.P.Objects.view c.room.new.on) (parts_of c.args.table.now c.args.stack.now c.args.queue.now) c.args.entry c.room.ensures.promise c.room.ensures.same (g.met.P.Objects.sound c.room.new.on) (λ d r. times_within c.args.stack.now.ledger.rows d r) l.2)
+    let s = parts_of c.args.table.now c.args.stack.now c.args.queue.now in
+    let p = g.P.Objects.promise c.args.on.now in
+    let q = g.P.Objects.promise c.room.new.on in
+    let u = g.P.Objects.view c.args.on.now in
+    let v = g.P.Objects.view c.room.new.on in (
+      l.0,
+      l.1,
+      roomy_leaving l.0 l.1 p q u v s c.args.entry c.room.ensures.promise c.room.ensures.same
+          (g.met.P.Objects.sound c.room.new.on) (λ d r. times_within c.args.stack.now.ledger.rows d r) l.2,
+    )
 
 pub leave-requires-clause-spare : goal.leave-requires-clause-spare
 leave-requires-clause-spare g c = let r = c.in-Ok.ensures.room in omega (arith, r)
 
 pub returns-clause-turn : goal.returns-clause-turn
 returns-clause-turn g c = λ S rank h.
-    roomy_removed (g.P.Objects.view c.args.on.now) (g.P.Objects.view c.room.new.on) (parts_of c.args.table.now c.args.stack.now c.args.queue.now) c.args.entry _ c.room.ensures.same
+    let s = parts_of c.args.table.now c.args.stack.now c.args.queue.now in
+    let p = g.P.Objects.promise c.args.on.now in
+    let q = g.P.Objects.promise c.room.new.on in
+    let u = g.P.Objects.view c.args.on.now in
+    let v = g.P.Objects.view c.room.new.on in
+    roomy_removed u v s c.args.entry _ c.room.ensures.same
     (c.leave.ensures.turn S rank
-    (roomy_leaving S rank (g.P.Objects.promise c.args.on.now) (g.P.Objects.promise c.room.new.on) (g.P.Objects.view c.args.on.now) (g.P.Objects.view c.room.new.on) (parts_of c.args.table.now c.args.stack.now c.args.queue.now) c.args.entry c.room.ensures.promise c.room.ensures.same (g.met.P.Objects.sound c.room.new.on) (λ d r. times_within c.args.stack.now.ledger.rows d r) h)).turn
+    (roomy_leaving S rank p q u v s c.args.entry c.room.ensures.promise c.room.ensures.same
+    (g.met.P.Objects.sound c.room.new.on) (λ d r. times_within c.args.stack.now.ledger.rows d r) h)).turn
 
 pub returns-clause-joined : goal.returns-clause-joined
 returns-clause-joined g c = λ S rank h.
-    subst (λ (p : Promise). Joined S rank p (g.P.Objects.view c.leave.new.on) (parts_of c.leave.new.table c.leave.new.stack c.leave.new.queue)) c.room.ensures.promise
+    let s = parts_of c.args.table.now c.args.stack.now c.args.queue.now in
+    let p = g.P.Objects.promise c.args.on.now in
+    let q = g.P.Objects.promise c.room.new.on in
+    let u = g.P.Objects.view c.args.on.now in
+    let v = g.P.Objects.view c.room.new.on in
+    let after = moment (g.P.Objects.view c.leave.new.on) c.leave.new.table c.leave.new.stack c.leave.new.queue in
+    subst (λ (r : Promise). Joined S rank r after.view after.parts) c.room.ensures.promise
     (c.leave.ensures.turn S rank
-    (roomy_leaving S rank (g.P.Objects.promise c.args.on.now) (g.P.Objects.promise c.room.new.on) (g.P.Objects.view c.args.on.now) (g.P.Objects.view c.room.new.on) (parts_of c.args.table.now c.args.stack.now c.args.queue.now) c.args.entry c.room.ensures.promise c.room.ensures.same (g.met.P.Objects.sound c.room.new.on) (λ d r. times_within c.args.stack.now.ledger.rows d r) h)).joined
+    (roomy_leaving S rank p q u v s c.args.entry c.room.ensures.promise c.room.ensures.same
+    (g.met.P.Objects.sound c.room.new.on) (λ d r. times_within c.args.stack.now.ledger.rows d r) h)).joined
 
 pub returns-clause-count : goal.returns-clause-count
 returns-clause-count g c = none_late (late_at c.leave.new.stack.late.members c.args.entry) 16 c.leave.ensures.clear
