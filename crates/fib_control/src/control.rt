@@ -18,12 +18,11 @@ ghost use Rattle.fib_ply.specs.Rows.{held};
 ghost use Rattle.fib_core.specs.declared.word.Word.{Word};
 ghost use Rattle.fib_stack_ledger.specs.Deferred.{late_at};
 ghost use Rattle.fib_control_quiet.specs.Rest.{IsAccounted};
-ghost use Rattle.fib_stack.specs.Done.{IsCounted, IsStored, RunDone, StaysLate, StoresDiffering, TurnDone};
+ghost use Rattle.fib_stack.specs.Done.{IsCounted, IsStored, IsTurnDone, LeavesAll, RunDone, StaysLate, StoresDiffering, TurnDone};
 ghost use Rattle.fib_entries_rows.specs.Known.{StandsFor, rank_of};
 ghost use Rattle.fib_plane.specs.Views.{promise_of, view_of};
 ghost use Rattle.fib_stack.specs.Joined.{Joined};
-ghost use Rattle.fib_stack.specs.Room.{HasRoomLeft, Took};
-ghost use Rattle.fib_stack.specs.Turns.{parts_of, state_at};
+ghost use Rattle.fib_stack.specs.Moments.{moment, parts_of};
 ghost use Rattle.fib_stack.specs.Records.{SamePlane};
 ghost use Rattle.fib_stack.specs.Steps.{Retried};
 ghost use Rattle.fib_control.specs.Controls.{ArePassed, Control as Value, IsBatchNotCrowded, IsBeneath, IsBusy, IsChanged, IsDoneAfter, IsNotCrowded};
@@ -491,28 +490,15 @@ fn restack<B: Board>(
     requires stands { StandsFor entries.now config.now.tables }
     requires joined { Joined config.now.tables (rank_of entries.now.rows) (promise_of shared.old.plane.board) (view_of shared.old.plane)
         (parts_of table.old stack.old queue.old) }
-    ensures turn { IfOk result (λ t. TurnDone config.now.tables (rank_of entries.now.rows) t
-        (state_at (view_of shared.old.plane) table.old stack.old queue.old)
-        (state_at (view_of shared.new.plane) table.new stack.new queue.new)) }
-    ensures joined { Joined config.now.tables (rank_of entries.now.rows) (promise_of shared.new.plane.board) (view_of shared.new.plane)
-        (parts_of table.new stack.new queue.new) }
-    ensures run { IfOk result (λ t. RunDone config.now.tables t (view_of shared.old.plane) (view_of shared.new.plane)
-        (state_at (view_of shared.new.plane) table.new stack.new queue.new)) }
-    ensures dropped { IfOk result (λ t. IsCounted t stack.new.late.members) }
-    ensures stores { IfOk result (λ t. IsStored t shared.old.plane.board.stored shared.new.plane.board.stored) }
-    ensures exact { IfOk result (λ t. StoresDiffering config.now.tables t (held table.old.rows.members) (view_of shared.old.plane)
-        (view_of shared.new.plane)) }
+    ensures turn { let before = moment (view_of shared.old.plane) table.old stack.old queue.old in
+        let after = moment (view_of shared.new.plane) table.new stack.new queue.new in
+        IfOk result (λ t. IsTurnDone config.now.tables (rank_of entries.now.rows) t before after) }
+    ensures leaves { let before = moment (view_of shared.old.plane) table.old stack.old queue.old in
+        let after = moment (view_of shared.new.plane) table.new stack.new queue.new in
+        LeavesAll config.now.tables (rank_of entries.now.rows) (promise_of shared.new.plane.board) (IsErrOf result Want.Object)
+        before after }
     ensures err { OnErr result (SamePlane (view_of shared.old.plane) (view_of shared.new.plane)) }
     ensures parts { OnErr result (parts_of table.new stack.new queue.new ≡ parts_of table.old stack.old queue.old) }
-    ensures finds { HasRoomLeft config.now.tables (view_of shared.old.plane).free
-        (state_at (view_of shared.old.plane) table.old stack.old queue.old) → IsErrOf result Want.Object → ⊥ }
-    ensures left { HasRoomLeft config.now.tables (view_of shared.old.plane).free
-        (state_at (view_of shared.old.plane) table.old stack.old queue.old)
-        → HasRoomLeft config.now.tables (view_of shared.new.plane).free
-        (state_at (view_of shared.new.plane) table.new stack.new queue.new) }
-    ensures takes { Took config.now.tables (state_at (view_of shared.old.plane) table.old stack.old queue.old)
-        (state_at (view_of shared.new.plane) table.new stack.new queue.new) (view_of shared.old.plane).free
-        (view_of shared.new.plane).free }
     ensures promise { promise_of shared.new.plane.board ≡ promise_of shared.old.plane.board }
 {
     let tables = config.tables();

@@ -4,8 +4,7 @@ use Rattle.std.specs.Prelude.{Contains, ◌⊎◌, Option, Some, None, IfSome, s
 use Rattle.std.specs.List.{AllByRecursion}
 use Rattle.fib_base_list.proofs.Lists.{each-filter, each-weaker, each-flat_map, each-at}
 use Rattle.fib_base_list.proofs.Booleans.{or_left, or_right, and_both}
-use Rattle.fib_addr.specs.Prefixes.{Prefix, same_prefix}
-use Rattle.fib_addr.proofs.PrefixLaws.{same_prefix-Decides}
+use Rattle.fib_addr.specs.Prefixes.{Prefix}
 use Rattle.fib_buckets.specs.Shares.{buckets}
 use Rattle.fib_resolve.specs.Aims.{marked_list}
 use Rattle.fib_resolve.specs.Forwarding.{forwards}

@@ -36,7 +36,10 @@ use Rattle.fib_stack.specs.Runs.{word_in, put_in, Settled, IsFilled, deferred_at
 use Rattle.fib_stack.specs.States.{Fits, Kept, ends_there, has_hop, is_recorded}
 use Rattle.fib_stack.specs.Steps.{IsLeast, Restacked}
 use Rattle.fib_stack.specs.Calls.{GivesOnly, TakesOnly}
-use Rattle.fib_stack.specs.Turns.{HasRun, IsReadied, IsFinished, IsRestacked, found_in, names_for}
+use Rattle.fib_stack.specs.Turns.{HasRun, IsRestacked}
+use Rattle.fib_stack.specs.Moments.{Moment}
+use Rattle.fib_stack.specs.declared.stack.Plan.{Plan}
+use Rattle.fib_stack.specs.inner.Readied.{Course, IsReadied, IsFinished, found_in, names_for}
 use Rattle.fib_stack.proofs.Aiming.{aim_agree, forwards_agree}
 use Rattle.fib_stack.proofs.Filled.{filled_by, settled_at}
 use Rattle.fib_stack.proofs.Keeping.{prefix_discrete, was_true, word_same}
@@ -150,28 +153,65 @@ same_put before now w puts.Dropped h e = absurd (h.0 e)
 late_is : (ws : List Word) (gave : List Put) (k : ℕ) → k < 16 → deferred_at ws gave k ≡ late_word (word_in ws k) (put_in gave k)
 late_is ws gave k lt = grind (arith, nat_tests)
 
-module _ (S : Tables) (rank : Prefix → ℕ) (p : Promise) (v0 v2 : View) (e : Prefix) (o : ℕ) (s : Parts) (f : Bool) (ms : List Marked) (us : List Use)
-    (ranked : IsRanked S rank) (kept : Kept S (state_in v0 s)) (least : IsLeast rank (state_in v0 s) e) (r : IsReadied S p v0 v2 e o s f ms us) where
-  targets : (u : Prefix) → counts_on (marked_list S e) u ≡ true → was_by s u ≡ forwards S u
-  targets u lead = let falls : rank u < rank e = (ranked.falls e u (ranked.woken e u lead)).1 in was_true S rank (state_in v0 s) ranked kept (rank e) least.least u falls
+module _ (S : Tables) (rank : Prefix → ℕ) (p : Promise) (v0 : View) (m : Moment) (plan : Plan)
+    (ranked : IsRanked S rank) (kept : Kept S (state_in v0 m.parts)) (least : IsLeast rank (state_in v0 m.parts) plan.entry) (r : IsReadied S p v0 m plan) where
+  targets : (u : Prefix) → counts_on (marked_list S plan.entry) u ≡ true → was_by m.parts u ≡ forwards S u
+  targets u lead =
+      let falls : rank u < rank plan.entry = (ranked.falls plan.entry u (ranked.woken plan.entry u lead)).1 in
+      was_true S rank (state_in v0 m.parts) ranked kept (rank plan.entry) least.least u falls
 
-  pub bit_here : f ≡ forwards S e
-  bit_here = r.does ∙ forwards_agree (was_by s) (forwards S) (marked_list S e) targets ∙ sym (ranked.forwarding e)
+  pub bit_here : plan.forwards ≡ forwards S plan.entry
+  bit_here = r.does ∙ forwards_agree (was_by m.parts) (forwards S) (marked_list S plan.entry) targets ∙ sym (ranked.forwarding plan.entry)
 
-  pub aim_here : (k : ℕ) → aim_of (slice_get ms k) ≡ aim S e k
-  aim_here k = aim_spread (was_by s) ms (marked_list S e) k r.wanted ∙ aim_agree (was_by s) (forwards S) (marked_list S e) k targets ∙ sym (aim_is S e k)
+  pub aim_here : (k : ℕ) → aim_of (slice_get plan.wanted.items k) ≡ aim S plan.entry k
+  aim_here k =
+      aim_spread (was_by m.parts) plan.wanted.items (marked_list S plan.entry) k r.wanted
+      ∙ aim_agree (was_by m.parts) (forwards S) (marked_list S plan.entry) k targets ∙ sym (aim_is S plan.entry k)
 
-module _ (S : Tables) (rank : Prefix → ℕ) (p : Promise) (v0 v2 v3 v4 v5 : View) (e : Prefix) (o : ℕ) (s t : Parts) (f : Bool) (ms : List Marked) (us : List Use) (ws : List Word) (gave : List Put)
-    (ranked : IsRanked S rank) (kept : Kept S (state_in v0 s)) (least : IsLeast rank (state_in v0 s) e) (laid : IsLaid v0 s)
-    (r : IsReadied S p v0 v2 e o s f ms us) (d : IsFinished S v2 v3 v4 v5 e o s t f ms us ws gave) where
+module _ (S : Tables) (rank : Prefix → ℕ) (p : Promise) (v0 : View) (plan : Plan) (m2 : Moment) (course : Course) (m5 : Moment)
+    (ranked : IsRanked S rank) (kept : Kept S (state_in v0 m2.parts)) (least : IsLeast rank (state_in v0 m2.parts) plan.entry) (laid : IsLaid v0 m2.parts)
+    (r : IsReadied S p v0 m2 plan) (d : IsFinished S plan m2 course m5) where
+  abbrev v2 : View
+  v2 = m2.view
+
+  abbrev v3 : View
+  v3 = course.filled
+
+  abbrev v4 : View
+  v4 = course.given
+
+  abbrev v5 : View
+  v5 = m5.view
+
+  abbrev s : Parts
+  s = m2.parts
+
+  abbrev t : Parts
+  t = m5.parts
+
+  abbrev e : Prefix
+  e = plan.entry
+
+  abbrev o : ℕ
+  o = plan.object
+
+  abbrev us : List Use
+  us = plan.uses.items
+
+  abbrev ws : List Word
+  ws = course.words
+
+  abbrev gave : List Put
+  gave = course.answers
+
   filled : IsFilled v2 v3 o 0 ws gave
   filled = filled_by v2 v3 o 0 ws gave r.here d.puts
 
   apart_self : (u : Prefix) → counts_on (marked_list S e) u ≡ true → u ≡ e → ⊥
   apart_self u lead is = let falls : rank u < rank e = (ranked.falls e u (ranked.woken e u lead)).1 in let loop : rank e < rank e = subst (λ i. rank i < rank e) is falls in absurd (omega (arith, loop))
 
-  bit : f ≡ forwards S e
-  bit = bit_here S rank p v0 v2 e o s f ms us ranked kept least r
+  bit : plan.forwards ≡ forwards S e
+  bit = bit_here S rank p v0 m2 plan ranked kept least r
 
   users3 : (m : AdjacencyRecord) → v3.users m ≡ times m us + v0.users m
   users3 m = ap (λ (g : AdjacencyRecord → ℕ). g m) filled.records.users ∙ r.users m
@@ -209,7 +249,7 @@ module _ (S : Tables) (rank : Prefix → ℕ) (p : Promise) (v0 v2 v3 v4 v5 : Vi
 
   word_is : (k : ℕ) → k < 16 → word_in ws k ≡ aim_word objects5 (aim S e k)
   word_is k lt =
-      d.words k lt ∙ ap (aim_word (names_for s us)) (aim_here S rank p v0 v2 e o s f ms us ranked kept least r k)
+      d.words k lt ∙ ap (aim_word (names_for s us)) (aim_here S rank p v0 m2 plan ranked kept least r k)
       ∙ sym (word_same (names_for s us) objects5 (aim S e k)
       (λ u is. d.others_balance u (apart_self u (aims_on S e u k is)))
       (λ i a x is.

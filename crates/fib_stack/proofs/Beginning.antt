@@ -16,7 +16,8 @@ use Rattle.fib_plane_view.specs.View.{View, HasRoom, IsBalance}
 use Rattle.fib_stack.specs.Joined.{Parts, balance_in, was_by}
 use Rattle.fib_stack.specs.Records.{TookAll, records_for}
 use Rattle.fib_stack.specs.States.{forwards_by}
-use Rattle.fib_stack.specs.Turns.{GotObject, IsReadied, IsTurnOf, IsUnderway}
+use Rattle.fib_stack.specs.inner.Readied.{GotObject, IsReadied, IsUnderway}
+use Rattle.fib_stack.specs.inner.Turning.{IsTurnOf}
 use Rattle.fib_stack_waking.specs.Waking.{are_among, have_ranks}
 use Rattle.fib_stack.specs.declared.stack.Plan.{Plan}
 use Rattle.fib_stack.proofs.Leaving.{quiet_then}
@@ -24,7 +25,7 @@ use Rattle.fib_stack.proofs.Listing.{objects_kept}
 use Rattle.fib_stack.proofs.Readying.{room_quiet, room_same, room_serves}
 
 module _ (S : Tables) (rank : Prefix → ℕ) (p : Promise) (v0 v1 v2 v3 : View) (s : Parts) (plan : Plan)
-    (ranked : IsRanked S rank) (turn : IsTurnOf S rank p v0 s plan.entry)
+    (ranked : IsRanked S rank) (turn : IsTurnOf S rank p (record { view = v0; parts = s }) plan.entry)
     (does : plan.forwards ≡ forwards_by (was_by s) (marked_list S plan.entry))
     (wanted : plan.wanted.items ≡ spread_marks (of_least_mark (filter (is_usable_mark (was_by s)) (marked_list S plan.entry))))
     (woken : (d : Prefix) → are_among plan.woken.items d ≡ differ (was_by s plan.entry) plan.forwards && wakes S d plan.entry)
@@ -36,7 +37,7 @@ module _ (S : Tables) (rank : Prefix → ℕ) (p : Promise) (v0 v1 v2 v3 : View)
   stay2 : (x : ℕ) → IsBalance v0 x → IsBalance v2 x
   stay2 x b = took.balances.stay x ((room_same v0 v1 room).balances.stay x b)
 
-  readied : IsReadied S p v0 v3 plan.entry plan.object s plan.forwards plan.wanted.items plan.uses.items
+  readied : IsReadied S p v0 (record { view = v3; parts = s }) plan
   readied = record {
     users = λ m. ap (λ (f : AdjacencyRecord → ℕ). f m) got.records.users ∙ (let r = (room_same v0 v1 room).users m in let t = took.users m in omega (arith, r, t));
     kept = λ m there.
@@ -61,7 +62,7 @@ module _ (S : Tables) (rank : Prefix → ℕ) (p : Promise) (v0 v1 v2 v3 : View)
     stored = let r = (room_same v0 v1 room).stored in omega (arith, r, took.stored, got.stored);
   }
 
-  pub underway : IsUnderway S rank p v0 v3 s plan
+  pub underway : IsUnderway S rank p v0 (record { view = v3; parts = s }) plan
   underway = record {
     ranked = ranked;
     joined = turn.joined;

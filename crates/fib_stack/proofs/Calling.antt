@@ -1,16 +1,14 @@
 -- What leads from view to view before a turn's first put, and after its last.
-use Rattle.std.proofs.Common.{◌≡◌, ◌∙◌, inl, inr, ℕ, List, ◌∷◌, [], ◌++◌, refl, sym, subst, ⊎_elim}
-use Rattle.std.specs.Prelude.{Option, Some, None, Result, Ok, Err, IfSome, IfNone}
-use Rattle.std.proofs.lemmas.Option.{IfSome_then}
+use Rattle.std.proofs.Common.{◌≡◌, inl, inr, ℕ, List, sym}
+use Rattle.std.specs.Prelude.{Option, Some, None, Ok, IfSome, IfNone}
 use Rattle.fib_pool.specs.declared.object.AdjacencyRecord.{AdjacencyRecord}
 use Rattle.fib_pool.specs.declared.object.Kind.TheVariants as kinds
-use Rattle.fib_plane_view.specs.View.{View, GaveRecord, HasRoom, IsTaken, TookRecord}
+use Rattle.fib_plane_view.specs.View.{View, GaveRecord, HasRoom, IsTaken}
 use Rattle.fib_ply.specs.Calls.{DropsNone, IsCall}
 use Rattle.fib_reach.proofs.Walking.{edge_leads, leads-map, leads_self, leads_then}
 use Rattle.fib_stack_ledger.specs.declared.ledger.Use.{Use}
 use Rattle.fib_stack.specs.Calls.{GivesOnly, IsGiving, IsTaking, TakesOnly}
 use Rattle.fib_stack.specs.Records.{TookFor}
-use Rattle.fib_stack.specs.declared.records.Want.{Want}
 
 pub takes_none : (u v : View) → v ≡ u → TakesOnly u v
 takes_none u v same = (0, sym same)

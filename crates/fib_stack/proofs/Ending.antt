@@ -1,8 +1,6 @@
 -- What a bucket ends packets at is a possible end.
 use Rattle.std.proofs.Common.{◌≡◌, ℕ, zero, suc, Bool, true, ⊎_elim, List, [], ◌∷◌, map, refl, sym, ap, ◌∙◌, subst, arith}
 use Rattle.std.specs.Prelude.{Contains, IfSome, Option, Some, None, slice_get, flat_map}
-use native.Mathlib.Decide.{ℕ_discrete}
-use mathlib.Core.Logic.{dite}
 use Rattle.fib_addr.specs.Prefixes.{Prefix}
 use Rattle.fib_resolve.specs.Aims.{aim, kind_aim, kind_counts, marked, marked_list, path_aim}
 use Rattle.fib_resolve.specs.Forwarding.{forwards, usable, usable_kind}
@@ -23,8 +21,6 @@ use Rattle.fib_resolve.proofs.Taken.{IsWanted}
 use Rattle.fib_core_stands.proofs.Listed.{at_bucket, end_possible, first_in}
 use Rattle.fib_resolve_changes.specs.Wanted.{aim_by}
 use Rattle.fib_stack.proofs.Aiming.{bucket_end}
-use Rattle.fib_core.specs.declared.word.Word.{Word}
-use Rattle.fib_core.specs.declared.word.Word.TheVariants as words
 
 end_is : (f end : End) → aims.Ends f ≡ aims.Ends end → f ≡ end
 end_is f end e = ap (λ (m : Aim). end_in m) e

@@ -1,14 +1,14 @@
 -- A turn of an entry that is in the prefix table stores each cell that differs once.
-use Rattle.std.proofs.Common.{◌≡◌, ◌≢◌, ◌⊎◌, ℕ, ◌+◌, ◌<◌, inl, inr, ⊎_elim, true, false, true≢false, List, [], ◌∷◌, ◌++◌, refl, sym, ap, ◌∙◌, subst, arith}
-use Rattle.std.specs.Prelude.{Option, Some, None, Result, Ok, Err}
+use Rattle.std.proofs.Common.{◌≡◌, ◌⊎◌, ℕ, ◌+◌, ◌<◌, inl, inr, ⊎_elim, true, true≢false, List, [], ◌∷◌, ◌++◌, refl, sym, ap, ◌∙◌, subst, arith}
+use Rattle.std.specs.Prelude.{Option, Some, None, Result, Ok}
 use Rattle.std.specs.declared.alloc.AllocError.{AllocError}
 use Rattle.std.proofs.lemmas.Bool.{cases_lt}
 use Rattle.fib_core.specs.declared.word.Word.{Word}
 use Rattle.fib_pool.specs.declared.object.AdjacencyRecord.{AdjacencyRecord}
 use Rattle.fib_plane_view.specs.declared.put.Put.{Put}
-use Rattle.fib_plane_view.specs.Stores.{Has, IsFreed, StoresEach}
+use Rattle.fib_plane_view.specs.Stores.{IsFreed, StoresEach}
 use Rattle.fib_plane_view.specs.View.{View, GaveRecord, HasIn, HasKind, HasRoom, IsBalance, IsLive, IsPlane, IsPut, IsRecord, leads}
-use Rattle.fib_plane_view.proofs.Storing.{stores_none, stores_then, stores_weaker}
+use Rattle.fib_plane_view.proofs.Storing.{stores_then, stores_weaker}
 use Rattle.fib_stack_ledger.specs.declared.ledger.Use.{Use}
 use Rattle.fib_stack_ledger.specs.Ledgers.{record_used}
 use Rattle.fib_stack.specs.Records.{AreObjects, IsObjectOf, TookFor}

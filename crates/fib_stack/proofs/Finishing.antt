@@ -159,6 +159,9 @@ some_rank (Some r) h = (r, refl)
 pub waits_of : (S : Tables) (rank : Prefix → ℕ) (p : Promise) (v : View) (s : Parts) (e : Prefix) → Joined S rank p v s → IsLeast rank (state_in v s) e → p.settled < p.applied
 waits_of S rank p v s e j least = let q = some_rank (rank_in s.queue e) least.queued in j.waiting e q.0 q.1
 
+pub ok_no_err : {A B : Type 0} {x : A} {e : B} → ◌≡◌ {A = Result A B} (Ok x) (Err e) → ⊥
+ok_no_err is = cc
+
 pub on_any : {A B : Type 0} {P : Type 0} (r : Result A B) → P → OnOk r P
 on_any (Ok x) h = h
 on_any (Err e) h = tt

@@ -23,7 +23,7 @@ use Rattle.fib_plane_view.specs.Promise.{Promise, Allows, EndsIn, IsBegun, IsEnd
 use Rattle.fib_plane_view.specs.View.{View, HasKind, IsBalance, IsPlane, IsRecord}
 use Rattle.fib_stack.specs.Joined.{in_change}
 use Rattle.fib_stack.specs.Records.{AreObjects, end_used}
-use Rattle.fib_stack.specs.Turns.{found_in}
+use Rattle.fib_stack.specs.inner.Readied.{found_in}
 
 -- names for which the promise holds, the table's own
 pub table_names : (p : Promise) (t : Table) (v : View) → Stands (in_change p) t v → (n : Names) × (n.balance ≡ held t.rows.members) × Serves p n v

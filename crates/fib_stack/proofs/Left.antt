@@ -16,12 +16,25 @@ use Rattle.fib_stack.specs.Joined.{IsLaid, Parts, balance_in, holds_by, state_in
 use Rattle.fib_stack.specs.Records.{AreObjects, holds_in}
 use Rattle.fib_stack.specs.States.{Kept}
 use Rattle.fib_stack.specs.Steps.{Removed}
-use Rattle.fib_stack.specs.Turns.{IsLeft}
+use Rattle.fib_stack.specs.Moments.{Moment, state_at}
+use Rattle.fib_stack.specs.inner.Leaving.{IsLeft}
 use Rattle.fib_stack.proofs.Assembled.{holds_hop_only, some_times}
 use Rattle.fib_stack.proofs.Keeping.{prefix_discrete}
 use Rattle.fib_stack.proofs.Listing.{objects_kept}
 
-module _ (S : Tables) (v0 v1 v2 : View) (e : Prefix) (s t : Parts) (kept : Kept S (state_in v0 s)) (laid : IsLaid v0 s) (d : IsLeft v0 v1 v2 e s t) where
+module _ (S : Tables) (m0 : Moment) (v1 : View) (m2 : Moment) (e : Prefix) (kept : Kept S (state_at m0)) (laid : IsLaid m0.view m0.parts) (d : IsLeft e m0 v1 m2) where
+  abbrev v0 : View
+  v0 = m0.view
+
+  abbrev v2 : View
+  v2 = m2.view
+
+  abbrev s : Parts
+  s = m0.parts
+
+  abbrev t : Parts
+  t = m2.parts
+
   users1 : (m : AdjacencyRecord) → v1.users m ≡ v0.users m
   users1 m = ap (λ (g : AdjacencyRecord → ℕ). g m) d.went.records.users
 

@@ -34,7 +34,7 @@ use Rattle.fib_stack.specs.Records.{AreNew, LacksFor, TookNew, records_for}
 use Rattle.fib_stack.specs.Room.{HasRoomLeft, IsMade, IsSeated, Makes}
 use Rattle.fib_stack.specs.States.{has_hop}
 use Rattle.fib_stack.specs.Steps.{Restacked}
-use Rattle.fib_stack.specs.Turns.{balances_for}
+use Rattle.fib_stack.specs.inner.Readied.{balances_for}
 use Rattle.fib_stack.proofs.Assembled.{end_of, hops_listed, some_times}
 use Rattle.fib_stack.proofs.Counted.{counted, differ_append, differ_map, listed}
 use Rattle.fib_stack.proofs.Finishing.{entry_there}

@@ -27,7 +27,8 @@ use Rattle.fib_stack.specs.Records.{SamePlane}
 use Rattle.fib_stack.specs.States.{IsDone, State}
 use Rattle.fib_stack.specs.Steps.{IsLeast, Removed}
 use Rattle.fib_stack.specs.Steadiness.{Holding, ledger_of}
-use Rattle.fib_stack.specs.Turns.{IsMoved}
+use Rattle.fib_stack.specs.inner.Leaving.{IsLeaving}
+use Rattle.fib_stack.specs.inner.Moved.{IsMoved}
 use Rattle.fib_stack.proofs.Aiming.{bucket_hop}
 use Rattle.fib_stack.proofs.Assembled.{holds_hop_only, some_times}
 use Rattle.fib_stack.proofs.Clearing.{scan_serves}
@@ -144,6 +145,17 @@ roomy_least rank u v s e h least = subst (λ (q : State). IsLeast rank q e) (sym
 
 pub roomy_removed : (u v : View) (s : Parts) (e : Prefix) (t : State) → HasRoom u v → Removed e (state_in v s) t → Removed e (state_in u s) t
 roomy_removed u v s e t h r = subst (λ (q : State). Removed e q t) (room_state u v s h) r
+
+-- the prefix leaves over a plane with room as it did
+pub roomy_leaving : (S : Tables) (rank : Prefix → ℕ) (p q : Promise) (u v : View) (s : Parts) (e : Prefix) → q ≡ p → HasRoom u v → IsPlane v
+    → ((d : Prefix) (r : AdjacencyRecord) → times r (used_by (s.known d)) ≤ s.total r)
+    → IsLeaving S rank p (record { view = u; parts = s }) e → IsLeaving S rank q (record { view = v; parts = s }) e
+roomy_leaving S rank p q u v s e same room plane counted h = record {
+  ranked = h.ranked;
+  joined = subst (λ (r : Promise). Joined S rank r v s) (sym same) (moved_joined S rank p u v s h.joined (room_moved p u v room) plane counted);
+  least = roomy_least rank u v s e room h.least;
+  gone = h.gone;
+}
 
 -- a scan, or what was taken and given back
 pub scan_moved : (p : Promise) (u v : View) (left : ℕ) → IsPlane v → IsScanned u v left → IsMoved p u v

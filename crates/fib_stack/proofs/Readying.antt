@@ -11,7 +11,7 @@ use Rattle.fib_plane_view.specs.Promise.{Promise, Serves}
 use Rattle.fib_plane_view.specs.View.{View, HasRoom, IsBalance, IsPlane, IsTaken}
 use Rattle.fib_stack.specs.Records.{SameBalances, SamePlane}
 use Rattle.fib_stack.specs.declared.records.Want.{Want}
-use Rattle.fib_stack.specs.Turns.{GotObject}
+use Rattle.fib_stack.specs.inner.Readied.{GotObject}
 use Rattle.fib_stack.proofs.Clearing.{serves_still, take_serves}
 use Rattle.fib_stack.proofs.Leaving.{quiet_none, take_quiet}
 

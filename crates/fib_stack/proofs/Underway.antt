@@ -19,7 +19,8 @@ use Rattle.fib_stack.specs.Buckets.{IsLooseBucket, recorded}
 use Rattle.fib_stack.specs.Joined.{Parts, balance_in, state_in, table_of}
 use Rattle.fib_stack.specs.Records.{holds_in}
 use Rattle.fib_stack.specs.Runs.{AreReady, IsReady, word_in}
-use Rattle.fib_stack.specs.Turns.{IsUnderway, names_for}
+use Rattle.fib_stack.specs.Moments.{Moment}
+use Rattle.fib_stack.specs.inner.Readied.{IsUnderway, names_for}
 use Rattle.fib_stack.specs.declared.stack.Plan.{Plan}
 use Rattle.fib_stack.proofs.Assembled.{aim_here, found_object, holds_hops, some_times}
 use Rattle.fib_plane_view.proofs.Storing.{word_discrete}
@@ -33,7 +34,13 @@ some_rank : (o : Option ℕ) → is_some o ≡ true → (r : ℕ) × (o ≡ Some
 some_rank None h = absurd (cc)
 some_rank (Some r) h = (r, refl)
 
-module _ (S : Tables) (rank : Prefix → ℕ) (p : Promise) (v0 v : View) (s : Parts) (plan : Plan) (h : IsUnderway S rank p v0 v s plan) where
+module _ (S : Tables) (rank : Prefix → ℕ) (p : Promise) (v0 : View) (m2 : Moment) (plan : Plan) (h : IsUnderway S rank p v0 m2 plan) where
+  abbrev v : View
+  v = m2.view
+
+  abbrev s : Parts
+  s = m2.parts
+
   -- a change is being made
   pub waits : p.settled < p.applied
   waits = let q = some_rank _ h.least.queued in h.joined.waiting plan.entry q.0 q.1
@@ -46,7 +53,7 @@ module _ (S : Tables) (rank : Prefix → ℕ) (p : Promise) (v0 v : View) (s : P
 
   word_now : (k : ℕ) → aim_word (names_for s plan.uses.items) (aim_of (slice_get plan.wanted.items k)) ≡ aim_word now (aim S plan.entry k)
   word_now k =
-      ap (aim_word (names_for s plan.uses.items)) (aim_here S rank p v0 v plan.entry plan.object s plan.forwards plan.wanted.items plan.uses.items h.ranked h.joined.kept h.least h.readied k)
+      ap (aim_word (names_for s plan.uses.items)) (aim_here S rank p v0 m2 plan h.ranked h.joined.kept h.least h.readied k)
       ∙ word_same now (names_for s plan.uses.items) (aim S plan.entry k) (λ t is. refl)
       (λ i a x is. found_object v plan.uses.items i a x h.readied.objects (holds_hops plan.uses.items (marked_list S plan.entry) (answers.Hop i a x) h.readied.records ∙ aims_hop S plan.entry k i a x is))
 

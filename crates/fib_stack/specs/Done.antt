@@ -7,12 +7,15 @@ use Rattle.fib_stack_ledger.specs.declared.late.Late.{Late}
 use Rattle.fib_stack_ledger.specs.Deferred.{late_at, late_count}
 use Rattle.fib_core.specs.declared.word.Word.{Word}
 use Rattle.fib_plane_view.specs.Stores.{StoresEach}
+use Rattle.fib_plane_view.specs.Promise.{Promise}
 use Rattle.fib_plane_view.specs.View.{View, Closes}
 use Rattle.fib_stack.specs.declared.turn.Turn.{Turn}
 use Rattle.fib_stack.specs.declared.turn.Turn.TheVariants as turns
-use Rattle.fib_stack.specs.Joined.{Parts, balance_in, queued_in}
+use Rattle.fib_stack.specs.Joined.{Joined, Parts, balance_in, queued_in}
+use Rattle.fib_stack.specs.Moments.{Moment, state_at}
+use Rattle.fib_stack.specs.Room.{HasRoomLeft, Took}
 use Rattle.fib_stack.specs.States.{State}
-use Rattle.fib_stack.specs.Steps.{IsLeast, Removed}
+use Rattle.fib_stack.specs.Steps.{IsLeast, Removed, Retried}
 use Rattle.fib_stack.specs.Turns.{HasRun, IsRestacked}
 
 -- a prefix of the least rank was taken
@@ -45,6 +48,30 @@ StoresDiffering S turns.Idle balances u v = Unit {0}
 StoresDiffering S (turns.Restacked e stores dropped) balances u v =
     has_entry S e ≡ true → (o : ℕ) → balances e ≡ Some o
     → (all : StoresEach (λ x k. Unit {0}) u v) × (stores ≡ length all.cells % 2 ^ 64)
+
+-- what a turn did, from one moment to another
+pub record IsTurnDone (S : Tables) (rank : Prefix → ℕ) (turn : Turn) (m n : Moment) : Type 0 where
+  pub state : TurnDone S rank turn (state_at m) (state_at n)
+  pub run : RunDone S turn m.view n.view (state_at n)
+  pub dropped : IsCounted turn n.parts.late
+  pub stores : IsStored turn m.view.stored n.view.stored
+  pub exact : StoresDiffering S turn (balance_in m.parts) m.view n.view
+
+-- where room was left for objects it is left still, and what was taken was made
+pub record LeavesRoom (S : Tables) (m n : Moment) : Type 0 where
+  pub left : HasRoomLeft S m.view.free (state_at m) → HasRoomLeft S n.view.free (state_at n)
+  pub takes : Took S (state_at m) (state_at n) m.view.free n.view.free
+
+-- what stands after a turn, done or not: all stands joined; where room was left no object is lacking, and room is left
+pub record LeavesAll (S : Tables) (rank : Prefix → ℕ) (p : Promise) (lacks : Type 0) (m n : Moment) : Type 0 where
+  pub joined : Joined S rank p n.view n.parts
+  pub finds : HasRoomLeft S m.view.free (state_at m) → lacks → ⊥
+  pub room : LeavesRoom S m n
+
+-- what a retry did: deferred words may have been stored, and all stands joined still
+pub record IsRetryDone (S : Tables) (rank : Prefix → ℕ) (p : Promise) (m n : Moment) : Type 0 where
+  pub retried : Retried (state_at m) (state_at n)
+  pub joined : Joined S rank p n.view n.parts
 
 -- why a bucket stays deferred: its prefix is queued, or the edge that it wants closes a cycle
 abbrev pub StaysLate : View → Parts → Prefix → Word → Type 0

@@ -8,7 +8,8 @@ pub mod Records
 pub mod Runs
 pub mod Calls
 pub mod Joined
+pub mod Moments
 pub mod Turns
-pub mod Done
 pub mod Room
+pub mod Done
 pub mod inner

@@ -12,7 +12,9 @@ ghost use Rattle.fib_plane_view.specs.Stores.{StoresEach};
 ghost use Rattle.fib_ply.specs.Tables.{object_in};
 ghost use Rattle.fib_stack.specs.Calls.{TakesOnly};
 ghost use Rattle.fib_stack.specs.Records.{IsObjectOf, LacksFor, SamePlane, TookNew, records_for};
-ghost use Rattle.fib_stack.specs.Turns.{HasRoomFor, IsTurnOf, IsUnderway, balances_for, parts_of};
+ghost use Rattle.fib_stack.specs.Moments.{moment, parts_of};
+ghost use Rattle.fib_stack.specs.inner.Readied.{HasRoomFor, IsUnderway, balances_for};
+ghost use Rattle.fib_stack.specs.inner.Turning.{ForTables, FromTurn, IsTurnOf};
 
 use crate::ready::{make_room, object_for, read};
 use crate::records::{Want, give_all, take_all};
@@ -33,26 +35,25 @@ pub fn begin<P: Objects>(
     queue: &mut Queue,
     entry: Prefix,
 ) -> Result<Plan, Want>
-    requires turn { (S : TablesValue) × StandsFor entries.now S × IsTurnOf S (rank_of entries.now.rows) (P.promise on.old) (P.view on.old)
-        (parts_of table.old stack.old queue.old) entry }
+    requires turn { (S : TablesValue) × StandsFor entries.now S
+        × IsTurnOf S (rank_of entries.now.rows) (P.promise on.old) (moment (P.view on.old) table.old stack.old queue.old) entry }
     ensures entry { IfOk result (λ plan. plan.entry ≡ entry) }
-    ensures underway { (S : TablesValue) → StandsFor entries.now S
-        → IsTurnOf S (rank_of entries.now.rows) (P.promise on.old) (P.view on.old) (parts_of table.old stack.old queue.old) entry
-        → IfOk result (IsUnderway S (rank_of entries.now.rows) (P.promise on.old) (P.view on.old) (P.view on.new)
-        (parts_of table.new stack.new queue.new)) }
+    ensures underway { let before = moment (P.view on.old) table.old stack.old queue.old in
+        let after = moment (P.view on.new) table.new stack.new queue.new in
+        FromTurn entries.now (P.promise on.old) before entry
+        (λ S rank. IfOk result (IsUnderway S rank (P.promise on.old) before.view after)) }
     ensures room { IfOk result (λ plan. HasRoomFor (P.view on.new) stack.new table.new queue.new (length plan.uses.items)
         (length plan.woken.items)) }
     ensures parts { parts_of table.new stack.new queue.new ≡ parts_of table.old stack.old queue.old }
     ensures err { OnErr result (SamePlane (P.view on.old) (P.view on.new)) }
-    ensures short { (S : TablesValue) → StandsFor entries.now S → IsErrOf result Want.Object
-        → (P.view on.old).free < 8 + length (marked_list S entry) }
-    ensures taken { (S : TablesValue) → StandsFor entries.now S → OnOk result
-        (TookNew (P.view on.old) (P.view on.new) (records_for (marked_list S entry)) (balances_for (object_in table.old entry))) }
+    ensures short { ForTables entries.now (λ S. IsErrOf result Want.Object → (P.view on.old).free < 8 + length (marked_list S entry)) }
+    ensures taken { ForTables entries.now (λ S. OnOk result
+        (TookNew (P.view on.old) (P.view on.new) (records_for (marked_list S entry)) (balances_for (object_in table.old entry)))) }
     ensures calls { OnOk result (TakesOnly (P.view on.old) (P.view on.new)) }
     ensures stores { IfOk result (λ plan. (o : ℕ) → object_in table.old entry ≡ Some o
         → StoresEach (λ y k. IsObjectOf plan.uses.items y) (P.view on.old) (P.view on.new)) }
-    ensures lacks { (S : TablesValue) → StandsFor entries.now S → IsErrOf result Want.Object
-        → LacksFor (P.view on.old) (records_for (marked_list S entry)) 8 }
+    ensures lacks { ForTables entries.now
+        (λ S. IsErrOf result Want.Object → LacksFor (P.view on.old) (records_for (marked_list S entry)) 8) }
     ensures quiet { (look : PrefixValue → Option ℕ) → IsQuiet look (P.view on.old) (P.view on.new) }
     ensures serves { (n : Names) → Serves (P.promise on.old) n (P.view on.old) → Serves (P.promise on.old) n (P.view on.new) }
     ensures promise { P.promise on.new ≡ P.promise on.old }

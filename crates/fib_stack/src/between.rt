@@ -11,7 +11,7 @@ ghost use Rattle.fib_plane_view.specs.View.{HasRoom, IsPlane, IsScanned, View};
 ghost use Rattle.fib_stack.specs.Joined.{Joined, Parts, state_in};
 ghost use Rattle.fib_stack.specs.Room.{HasRoomLeft, Took};
 ghost use Rattle.fib_stack.specs.States.{State};
-ghost use Rattle.fib_stack.specs.Turns.{parts_of};
+ghost use Rattle.fib_stack.specs.Moments.{parts_of};
 ghost use Rattle.fib_stack.specs.declared.stack.Stack.{Stack};
 
 /// A scan keeps what stands between the plane, the prefix table, the stack and the queue.

@@ -4,15 +4,13 @@ ghost use Rattle.fib_addr.specs.Prefixes.{Prefix as PrefixValue};
 ghost use Rattle.fib_resolve.specs.declared.types.Tables.{Tables as TablesValue};
 ghost use Rattle.fib_stack_ledger.specs.Deferred.{late_at, late_count};
 ghost use Rattle.fib_plane_view.specs.Frames.{Beside};
-ghost use Rattle.fib_plane_view.specs.Promise.{Allows, IsBegun};
-ghost use Rattle.fib_plane_view.specs.Stores.{StoresEach};
+ghost use Rattle.fib_plane_view.specs.Promise.{IsBegun};
 ghost use Rattle.fib_plane_view.specs.View.{IsBalance, View};
-ghost use Rattle.fib_stack.specs.Records.{IsObjectOf};
 ghost use Rattle.fib_ply.specs.Tables.{Came, Stands, object_in};
 ghost use Rattle.fib_core_promise.specs.Matches.{FitsVersions, IsSometime};
-ghost use Rattle.fib_stack.specs.Calls.{GivesOnly, TakesOnly};
-ghost use Rattle.fib_stack.specs.Joined.{Joined, state_in};
-ghost use Rattle.fib_stack.specs.Turns.{HasRoomFor, HasRun, IsRestacked, IsUnderway, parts_of, state_at};
+ghost use Rattle.fib_stack.specs.Calls.{GivesOnly};
+ghost use Rattle.fib_stack.specs.Moments.{moment};
+ghost use Rattle.fib_stack.specs.inner.Readied.{EndsTurn, FromUnderway, HasRoomFor, IsUnderway};
 
 use crate::defer::defer;
 use crate::records::give_old;
@@ -64,23 +62,12 @@ pub fn finish<P: Objects>(
     queue: &mut Queue,
     plan: Plan,
 ) -> u32
-    requires underway { (S : TablesValue) × (rank : PrefixValue → ℕ) × (v0 : View)
-        × IsUnderway S rank (P.promise on.old) v0 (P.view on.old) (parts_of table.old stack.old queue.old) plan }
+    requires underway { (S : TablesValue) × (rank : PrefixValue → ℕ) × (v : View)
+        × IsUnderway S rank (P.promise on.old) v (moment (P.view on.old) table.old stack.old queue.old) plan }
     requires room { HasRoomFor (P.view on.old) stack.old table.old queue.old (length plan.uses.items) (length plan.woken.items) }
-    ensures turn { (S : TablesValue) (rank : PrefixValue → ℕ) (v0 : View)
-        → IsUnderway S rank (P.promise on.old) v0 (P.view on.old) (parts_of table.old stack.old queue.old) plan
-        → IsRestacked S plan.entry (state_in v0 (parts_of table.old stack.old queue.old))
-        (state_at (P.view on.new) table.new stack.new queue.new) }
-    ensures run { (S : TablesValue) (rank : PrefixValue → ℕ) (v0 u : View)
-        → IsUnderway S rank (P.promise on.old) v0 (P.view on.old) (parts_of table.old stack.old queue.old) plan
-        → TakesOnly u (P.view on.old) → HasRun S plan.entry u (P.view on.new) (state_at (P.view on.new) table.new stack.new queue.new) }
-    ensures stores { (S : TablesValue) (rank : PrefixValue → ℕ) (v0 u : View)
-        → IsUnderway S rank (P.promise on.old) v0 (P.view on.old) (parts_of table.old stack.old queue.old) plan
-        → object_in table.old plan.entry ≡ Some plan.object → StoresEach (λ y k. IsObjectOf plan.uses.items y) u (P.view on.old)
-        → StoresEach (λ y k. Unit {0}) u (P.view on.new) }
-    ensures joined { (S : TablesValue) (rank : PrefixValue → ℕ) (v0 : View)
-        → IsUnderway S rank (P.promise on.old) v0 (P.view on.old) (parts_of table.old stack.old queue.old) plan
-        → Joined S rank (P.promise on.old) (P.view on.new) (parts_of table.new stack.new queue.new) }
+    ensures turn { let before = moment (P.view on.old) table.old stack.old queue.old in
+        let after = moment (P.view on.new) table.new stack.new queue.new in
+        FromUnderway (P.promise on.old) before plan (λ S rank v. EndsTurn S rank (P.promise on.old) v plan before after) }
     ensures came { (count : ℕ) × Came (object_in table.old) plan.entry count × ((P.view on.old).free ≤ (P.view on.new).free + count) }
     ensures count { result ≡ late_count (late_at stack.new.late.members plan.entry) 16 }
     ensures stored { (P.view on.old).stored ≤ (P.view on.new).stored }

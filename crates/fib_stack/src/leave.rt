@@ -1,17 +1,15 @@
 // A turn of a prefix that left the entries.
-ghost use Rattle.std.specs.Prelude.{◌≡◌, ◌+◌, ◌*◌, ◌<◌, ◌≤◌, ℕ, None, Some, false, Option};
+ghost use Rattle.std.specs.Prelude.{◌≡◌, ◌+◌, ◌*◌, ◌<◌, ◌≤◌, ℕ, None, Some, Option};
 ghost use Rattle.fib_addr.specs.Prefixes.{Prefix as PrefixValue};
 ghost use Rattle.fib_resolve.specs.declared.types.Tables.{Tables as TablesValue};
-ghost use Rattle.fib_resolve_changes.specs.Ranks.{IsRanked, has_entry};
 ghost use Rattle.fib_stack_ledger.specs.Deferred.{late_at};
 ghost use Rattle.fib_core_steady.specs.Aims.{IsLasting};
 ghost use Rattle.fib_plane_view.specs.Promise.{IsBegun};
 ghost use Rattle.fib_plane_view.specs.View.{IsBalance, View};
 ghost use Rattle.fib_ply.specs.Tables.{Stands, object_in};
 ghost use Rattle.fib_core_promise.specs.Matches.{FitsVersions};
-ghost use Rattle.fib_stack.specs.Joined.{Joined};
-ghost use Rattle.fib_stack.specs.Steps.{IsLeast, Removed};
-ghost use Rattle.fib_stack.specs.Turns.{WentFrom, parts_of, state_at};
+ghost use Rattle.fib_stack.specs.Moments.{moment};
+ghost use Rattle.fib_stack.specs.inner.Leaving.{FromLeaving, HasLeft, IsLeaving, WentFrom};
 
 use crate::records::give_old;
 use crate::stack::Stack;
@@ -52,18 +50,13 @@ pub fn leave<P: Objects>(
     queue: &mut Queue,
     entry: Prefix,
 )
-    requires left { (S : TablesValue) × (rank : PrefixValue → ℕ) × IsRanked S rank
-        × Joined S rank (P.promise on.old) (P.view on.old) (parts_of table.old stack.old queue.old)
-        × IsLeast rank (state_at (P.view on.old) table.old stack.old queue.old) entry × (has_entry S entry ≡ false) }
+    requires left { (S : TablesValue) × (rank : PrefixValue → ℕ)
+        × IsLeaving S rank (P.promise on.old) (moment (P.view on.old) table.old stack.old queue.old) entry }
     requires prefix { 1 ≤ entry.len }
     requires spare { 16 * table.old.plies ≤ (P.view on.old).spare }
-    ensures turn { (S : TablesValue) (rank : PrefixValue → ℕ) → Joined S rank (P.promise on.old) (P.view on.old)
-        (parts_of table.old stack.old queue.old) → Removed entry (state_at (P.view on.old) table.old stack.old queue.old)
-        (state_at (P.view on.new) table.new stack.new queue.new) }
-    ensures joined { (S : TablesValue) (rank : PrefixValue → ℕ) → IsRanked S rank
-        → Joined S rank (P.promise on.old) (P.view on.old) (parts_of table.old stack.old queue.old)
-        → IsLeast rank (state_at (P.view on.old) table.old stack.old queue.old) entry → has_entry S entry ≡ false
-        → Joined S rank (P.promise on.old) (P.view on.new) (parts_of table.new stack.new queue.new) }
+    ensures turn { let before = moment (P.view on.old) table.old stack.old queue.old in
+        let after = moment (P.view on.new) table.new stack.new queue.new in
+        FromLeaving (P.promise on.old) before entry (λ S rank. HasLeft S rank (P.promise on.old) entry before after) }
     ensures clear { (k : ℕ) → late_at stack.new.late.members entry k ≡ None }
     ensures free { (P.view on.old).free ≤ (P.view on.new).free }
     ensures stored { (P.view on.old).stored ≤ (P.view on.new).stored }

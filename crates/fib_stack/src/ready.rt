@@ -14,10 +14,10 @@ ghost use Rattle.fib_plane_view.specs.Promise.{MayClear, Promise as PromiseValue
 ghost use Rattle.fib_plane_view.specs.View.{HasRoom, IsBalance};
 ghost use Rattle.fib_ply.specs.Tables.{Stands, object_in};
 ghost use Rattle.fib_stack.specs.Calls.{TakesOnly};
-ghost use Rattle.fib_stack.specs.Joined.{Joined};
 ghost use Rattle.fib_stack.specs.Records.{SamePlane};
-ghost use Rattle.fib_stack.specs.Steps.{IsLeast};
-ghost use Rattle.fib_stack.specs.Turns.{GotObject, HasRoomFor, IsRead, IsUnderway, balances_for, parts_of};
+ghost use Rattle.fib_stack.specs.Moments.{parts_of};
+ghost use Rattle.fib_stack.specs.inner.Readied.{GotObject, HasRoomFor, IsRead, balances_for};
+ghost use Rattle.fib_stack.specs.inner.Turning.{ForTables};
 
 use crate::records::{Want, give_all, take_all};
 use crate::stack::{Plan, Stack};
@@ -46,8 +46,7 @@ pub fn read(
     entry: Prefix,
 ) -> Result<Plan, AllocError>
     requires { (S : TablesValue) × StandsFor entries.now S }
-    ensures { (S : TablesValue) → StandsFor entries.now S → IfOk result
-        (IsRead S (rank_of entries.now.rows) (was_in ledger.now.rows) entry) }
+    ensures { ForTables entries.now (λ S. IfOk result (IsRead S (rank_of entries.now.rows) (was_in ledger.now.rows) entry)) }
 {
     let marks = entries.marked(entry);
     let does = forwards(ledger, marks);

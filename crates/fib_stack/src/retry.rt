@@ -7,11 +7,9 @@ ghost use Rattle.fib_core.specs.declared.word.Word.{Word as WordValue};
 ghost use Rattle.fib_stack_ledger.specs.declared.late.Late.{Late as LateValue};
 ghost use Rattle.fib_stack_ledger.specs.Deferred.{late_at};
 ghost use Rattle.fib_plane_view.specs.Frames.{IsQuiet};
-ghost use Rattle.fib_stack.specs.Done.{StaysLate};
+ghost use Rattle.fib_stack.specs.Done.{IsRetryDone, LeavesRoom, StaysLate};
 ghost use Rattle.fib_stack.specs.Joined.{Joined, queued_in};
-ghost use Rattle.fib_stack.specs.Room.{HasRoomLeft, Took};
-ghost use Rattle.fib_stack.specs.Steps.{Retried};
-ghost use Rattle.fib_stack.specs.Turns.{parts_of, state_at};
+ghost use Rattle.fib_stack.specs.Moments.{FromJoined, moment, parts_of};
 ghost use Rattle.fib_stack.specs.inner.Growing.{Grew};
 
 use crate::stack::Stack;
@@ -31,13 +29,9 @@ fn try_at<P: Objects>(
     requires joined { (S : TablesValue) × (rank : PrefixValue → ℕ)
         × Joined S rank (P.promise on.old) (P.view on.old) (parts_of table.now stack.old queue.now) }
     requires place { place < length stack.old.late.members }
-    ensures retried { (S : TablesValue) (rank : PrefixValue → ℕ)
-        → Joined S rank (P.promise on.old) (P.view on.old) (parts_of table.now stack.old queue.now)
-        → Retried (state_at (P.view on.old) table.now stack.old queue.now)
-        (state_at (P.view on.new) table.now stack.new queue.now) }
-    ensures joined { (S : TablesValue) (rank : PrefixValue → ℕ) → Joined S rank (P.promise on.old) (P.view on.old)
-        (parts_of table.now stack.old queue.now) → Joined S rank (P.promise on.old) (P.view on.new)
-        (parts_of table.now stack.new queue.now) }
+    ensures tried { let before = moment (P.view on.old) table.now stack.old queue.now in
+        let after = moment (P.view on.new) table.now stack.new queue.now in
+        FromJoined (P.promise on.old) before (λ S rank. IsRetryDone S rank (P.promise on.old) before after) }
     ensures done { result ≡ true → stack.new.late.members ≡ remove stack.old.late.members place }
     ensures left { result ≡ false → stack.new.late.members ≡ stack.old.late.members }
     ensures why { result ≡ false → (d : LateValue) → slice_index_or stack.old.late.members place d ≡ d
@@ -73,28 +67,21 @@ impl Stack {
     pub fn retry<P: Objects>(&mut self, on: &mut P, table: &PrefixTable, queue: &Queue) -> u32
         requires { (S : TablesValue) × (rank : PrefixValue → ℕ) × Joined S rank (P.promise on.old) (P.view on.old)
             (parts_of table.now self.old queue.now) }
-        ensures retried { (S : TablesValue) (rank : PrefixValue → ℕ)
-            → Joined S rank (P.promise on.old) (P.view on.old) (parts_of table.now self.old queue.now)
-            → Retried (state_at (P.view on.old) table.now self.old queue.now)
-            (state_at (P.view on.new) table.now self.new queue.now) }
-        ensures joined { (S : TablesValue) (rank : PrefixValue → ℕ)
-            → Joined S rank (P.promise on.old) (P.view on.old) (parts_of table.now self.old queue.now)
-            → Joined S rank (P.promise on.new) (P.view on.new) (parts_of table.now self.new queue.now) }
+        ensures retried { let before = moment (P.view on.old) table.now self.old queue.now in
+            let after = moment (P.view on.new) table.now self.new queue.now in
+            FromJoined (P.promise on.old) before (λ S rank. IsRetryDone S rank (P.promise on.new) before after) }
         ensures left { result ≡ length self.new.late.members }
         ensures why { (e : PrefixValue) (k : ℕ) (w : WordValue) → late_at self.new.late.members e k ≡ Some w
             → StaysLate (P.view on.new) (parts_of table.now self.new queue.now) e w }
-        ensures calm { (S : TablesValue) (rank : PrefixValue → ℕ) → IsRanked S rank
-            → Joined S rank (P.promise on.old) (P.view on.old) (parts_of table.now self.old queue.now)
-            → ((e : PrefixValue) → queued_in (parts_of table.now self.old queue.now) e ≡ false) → (P.view on.old).retired ≡ [] → result
-            ≡ 0 }
+        ensures calm { let before = moment (P.view on.old) table.now self.old queue.now in
+            FromJoined (P.promise on.old) before (λ S rank. IsRanked S rank
+            → ((e : PrefixValue) → queued_in before.parts e ≡ false) → before.view.retired ≡ [] → result ≡ 0) }
         ensures retired { (P.view on.new).retired ≡ (P.view on.old).retired }
         ensures quiet { (look : PrefixValue → Option ℕ) → IsQuiet look (P.view on.old) (P.view on.new) }
         ensures free { (P.view on.old).free ≤ (P.view on.new).free }
-        ensures room { (S : TablesValue) → HasRoomLeft S (P.view on.old).free
-            (state_at (P.view on.old) table.now self.old queue.now)
-            → HasRoomLeft S (P.view on.new).free (state_at (P.view on.new) table.now self.new queue.now) }
-        ensures takes { (S : TablesValue) → Took S (state_at (P.view on.old) table.now self.old queue.now)
-            (state_at (P.view on.new) table.now self.new queue.now) (P.view on.old).free (P.view on.new).free }
+        ensures room { let before = moment (P.view on.old) table.now self.old queue.now in
+            let after = moment (P.view on.new) table.now self.new queue.now in
+            (S : TablesValue) → LeavesRoom S before after }
         ensures stored { (P.view on.old).stored ≤ (P.view on.new).stored }
         ensures promise { P.promise on.new ≡ P.promise on.old }
     {

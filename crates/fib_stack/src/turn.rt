@@ -1,20 +1,19 @@
 // Turns.
-ghost use Rattle.std.specs.Prelude.{◌≡◌, ◌+◌, ◌<◌, ◌≤◌, ℕ, Some, false, true, IfOk, IsErrOf, OnErr, OnOk, Option, length};
+ghost use Rattle.std.specs.Prelude.{◌≡◌, ◌+◌, ◌<◌, ◌≤◌, ℕ, IfOk, IsErrOf, OnErr, OnOk, Option, length};
 ghost use Rattle.fib_addr.specs.Prefixes.{Prefix as PrefixValue};
 ghost use Rattle.fib_resolve.specs.Aims.{marked_list};
 ghost use Rattle.fib_resolve.specs.declared.types.Tables.{Tables as TablesValue};
-ghost use Rattle.fib_resolve_changes.specs.Ranks.{IsRanked, has_entry};
+ghost use Rattle.fib_resolve_changes.specs.Ranks.{has_entry};
 ghost use Rattle.fib_stack_ledger.specs.Deferred.{late_at, late_count};
 ghost use Rattle.fib_entries_rows.specs.Known.{StandsFor, rank_of};
 ghost use Rattle.fib_plane_view.specs.Frames.{IsQuiet};
-ghost use Rattle.fib_plane_view.specs.Stores.{StoresEach};
-ghost use Rattle.fib_ply.specs.Tables.{object_in};
-ghost use Rattle.fib_stack.specs.Done.{IsCounted, IsStored, HadItsTurn, RunDone, StoresDiffering, TurnDone};
+ghost use Rattle.fib_stack.specs.Done.{IsTurnDone, LeavesAll};
 ghost use Rattle.fib_stack.specs.Joined.{Joined};
+ghost use Rattle.fib_stack.specs.Moments.{moment, parts_of, state_at};
 ghost use Rattle.fib_stack.specs.Records.{SamePlane};
-ghost use Rattle.fib_stack.specs.Room.{HasRoomLeft, Took};
 ghost use Rattle.fib_stack.specs.Steps.{IsLeast, Removed};
-ghost use Rattle.fib_stack.specs.Turns.{HasRun, IsRestacked, IsTurnOf, parts_of, state_at};
+ghost use Rattle.fib_stack.specs.inner.Leaving.{FromLeaving, IsLeaving};
+ghost use Rattle.fib_stack.specs.inner.Turning.{EntryTurned, ForTables, FromNext, FromTurn, IsNext, IsTurnOf, PrefixTurned};
 
 use crate::begin::begin;
 use crate::finish::finish;
@@ -59,39 +58,21 @@ fn restack<P: Objects>(
     queue: &mut Queue,
     entry: Prefix,
 ) -> Result<u32, Want>
-    requires turn { (S : TablesValue) × StandsFor entries.now S × IsTurnOf S (rank_of entries.now.rows) (P.promise on.old) (P.view on.old)
-        (parts_of table.old stack.old queue.old) entry }
-    ensures turn { (S : TablesValue) → StandsFor entries.now S → IsTurnOf S (rank_of entries.now.rows) (P.promise on.old) (P.view on.old)
-        (parts_of table.old stack.old queue.old) entry → OnOk result
-        (IsRestacked S entry (state_at (P.view on.old) table.old stack.old queue.old)
-        (state_at (P.view on.new) table.new stack.new queue.new)) }
-    ensures joined { (S : TablesValue) → StandsFor entries.now S
-        → IsTurnOf S (rank_of entries.now.rows) (P.promise on.old) (P.view on.old) (parts_of table.old stack.old queue.old) entry
-        → Joined S (rank_of entries.now.rows) (P.promise on.old) (P.view on.new) (parts_of table.new stack.new queue.new) }
-    ensures run { (S : TablesValue) → StandsFor entries.now S
-        → IsTurnOf S (rank_of entries.now.rows) (P.promise on.old) (P.view on.old) (parts_of table.old stack.old queue.old) entry
-        → OnOk result (HasRun S entry (P.view on.old) (P.view on.new) (state_at (P.view on.new) table.new stack.new queue.new)) }
-    ensures exact { (S : TablesValue) → StandsFor entries.now S
-        → IsTurnOf S (rank_of entries.now.rows) (P.promise on.old) (P.view on.old) (parts_of table.old stack.old queue.old) entry
-        → (o : ℕ) → object_in table.old entry ≡ Some o → OnOk result (StoresEach (λ x k. Unit {0}) (P.view on.old) (P.view on.new)) }
+    requires turn { (S : TablesValue) × StandsFor entries.now S
+        × IsTurnOf S (rank_of entries.now.rows) (P.promise on.old) (moment (P.view on.old) table.old stack.old queue.old) entry }
+    ensures turn { let before = moment (P.view on.old) table.old stack.old queue.old in
+        let after = moment (P.view on.new) table.new stack.new queue.new in
+        FromTurn entries.now (P.promise on.old) before entry (λ S rank. OnOk result (EntryTurned S entry before after)) }
+    ensures leaves { let before = moment (P.view on.old) table.old stack.old queue.old in
+        let after = moment (P.view on.new) table.new stack.new queue.new in
+        FromTurn entries.now (P.promise on.old) before entry
+        (λ S rank. LeavesAll S rank (P.promise on.old) (IsErrOf result Want.Object) before after) }
     ensures count { IfOk result (λ n. n ≡ late_count (late_at stack.new.late.members entry) 16) }
     ensures stored { OnOk result ((P.view on.old).stored ≤ (P.view on.new).stored) }
     ensures err { OnErr result (SamePlane (P.view on.old) (P.view on.new)) }
     ensures parts { OnErr result (parts_of table.new stack.new queue.new ≡ parts_of table.old stack.old queue.old) }
-    ensures short { (S : TablesValue) → StandsFor entries.now S → IsErrOf result Want.Object
-        → (P.view on.old).free < 8 + length (marked_list S entry) }
+    ensures short { ForTables entries.now (λ S. IsErrOf result Want.Object → (P.view on.old).free < 8 + length (marked_list S entry)) }
     ensures quiet { OnErr result ((look : PrefixValue → Option ℕ) → IsQuiet look (P.view on.old) (P.view on.new)) }
-    ensures finds { (S : TablesValue) → StandsFor entries.now S → IsTurnOf S (rank_of entries.now.rows) (P.promise on.old) (P.view on.old)
-        (parts_of table.old stack.old queue.old) entry → HasRoomLeft S (P.view on.old).free
-        (state_at (P.view on.old) table.old stack.old queue.old) → IsErrOf result Want.Object → ⊥ }
-    ensures left { (S : TablesValue) → StandsFor entries.now S → IsTurnOf S (rank_of entries.now.rows) (P.promise on.old) (P.view on.old)
-        (parts_of table.old stack.old queue.old) entry → HasRoomLeft S (P.view on.old).free
-        (state_at (P.view on.old) table.old stack.old queue.old)
-        → HasRoomLeft S (P.view on.new).free (state_at (P.view on.new) table.new stack.new queue.new) }
-    ensures takes { (S : TablesValue) → StandsFor entries.now S
-        → IsTurnOf S (rank_of entries.now.rows) (P.promise on.old) (P.view on.old) (parts_of table.old stack.old queue.old) entry
-        → Took S (state_at (P.view on.old) table.old stack.old queue.old) (state_at (P.view on.new) table.new stack.new queue.new)
-        (P.view on.old).free (P.view on.new).free }
     ensures promise { P.promise on.new ≡ P.promise on.old }
 {
     let plan = begin(on, stack, entries, table, queue, entry)?;
@@ -106,18 +87,15 @@ fn drop_out<P: Objects>(
     queue: &mut Queue,
     entry: Prefix,
 ) -> Result<u32, Want>
-    requires left { (S : TablesValue) × (rank : PrefixValue → ℕ) × IsRanked S rank
-        × Joined S rank (P.promise on.old) (P.view on.old) (parts_of table.old stack.old queue.old)
-        × IsLeast rank (state_at (P.view on.old) table.old stack.old queue.old) entry × (has_entry S entry ≡ false) }
+    requires left { (S : TablesValue) × (rank : PrefixValue → ℕ)
+        × IsLeaving S rank (P.promise on.old) (moment (P.view on.old) table.old stack.old queue.old) entry }
     requires prefix { 1 ≤ entry.len }
-    ensures turn { (S : TablesValue) (rank : PrefixValue → ℕ) → Joined S rank (P.promise on.old) (P.view on.old)
-        (parts_of table.old stack.old queue.old) → OnOk result (Removed entry
-        (state_at (P.view on.old) table.old stack.old queue.old)
-        (state_at (P.view on.new) table.new stack.new queue.new)) }
-    ensures joined { (S : TablesValue) (rank : PrefixValue → ℕ) → IsRanked S rank
-        → Joined S rank (P.promise on.old) (P.view on.old) (parts_of table.old stack.old queue.old)
-        → IsLeast rank (state_at (P.view on.old) table.old stack.old queue.old) entry → has_entry S entry ≡ false
-        → Joined S rank (P.promise on.old) (P.view on.new) (parts_of table.new stack.new queue.new) }
+    ensures turn { let before = moment (P.view on.old) table.old stack.old queue.old in
+        let after = moment (P.view on.new) table.new stack.new queue.new in
+        FromLeaving (P.promise on.old) before entry (λ S rank. OnOk result (Removed entry (state_at before) (state_at after))) }
+    ensures joined { let before = moment (P.view on.old) table.old stack.old queue.old in
+        let after = moment (P.view on.new) table.new stack.new queue.new in
+        FromLeaving (P.promise on.old) before entry (λ S rank. Joined S rank (P.promise on.old) after.view after.parts) }
     ensures count { IfOk result (λ n. n ≡ late_count (late_at stack.new.late.members entry) 16) }
     ensures stored { OnOk result ((P.view on.old).stored ≤ (P.view on.new).stored) }
     ensures free { OnOk result ((P.view on.old).free ≤ (P.view on.new).free) }
@@ -143,48 +121,21 @@ fn take<P: Objects>(
     queue: &mut Queue,
     entry: Prefix,
 ) -> Result<u32, Want>
-    requires turn { (S : TablesValue) × StandsFor entries.now S × Joined S (rank_of entries.now.rows) (P.promise on.old) (P.view on.old)
-        (parts_of table.old stack.old queue.old) × IsLeast (rank_of entries.now.rows)
-        (state_at (P.view on.old) table.old stack.old queue.old) entry }
-    ensures turn { (S : TablesValue) → StandsFor entries.now S → Joined S (rank_of entries.now.rows) (P.promise on.old) (P.view on.old)
-        (parts_of table.old stack.old queue.old) → IsLeast (rank_of entries.now.rows)
-        (state_at (P.view on.old) table.old stack.old queue.old) entry
-        → OnOk result (HadItsTurn S (rank_of entries.now.rows) entry (state_at (P.view on.old) table.old stack.old queue.old)
-        (state_at (P.view on.new) table.new stack.new queue.new)) }
-    ensures joined { (S : TablesValue) → StandsFor entries.now S
-        → Joined S (rank_of entries.now.rows) (P.promise on.old) (P.view on.old) (parts_of table.old stack.old queue.old)
-        → IsLeast (rank_of entries.now.rows) (state_at (P.view on.old) table.old stack.old queue.old) entry
-        → Joined S (rank_of entries.now.rows) (P.promise on.old) (P.view on.new) (parts_of table.new stack.new queue.new) }
-    ensures run { (S : TablesValue) → StandsFor entries.now S
-        → Joined S (rank_of entries.now.rows) (P.promise on.old) (P.view on.old) (parts_of table.old stack.old queue.old)
-        → IsLeast (rank_of entries.now.rows) (state_at (P.view on.old) table.old stack.old queue.old) entry → has_entry S entry ≡ true
-        → OnOk result (HasRun S entry (P.view on.old) (P.view on.new) (state_at (P.view on.new) table.new stack.new queue.new)) }
-    ensures exact { (S : TablesValue) → StandsFor entries.now S
-        → Joined S (rank_of entries.now.rows) (P.promise on.old) (P.view on.old) (parts_of table.old stack.old queue.old)
-        → IsLeast (rank_of entries.now.rows) (state_at (P.view on.old) table.old stack.old queue.old) entry → has_entry S entry ≡ true
-        → (o : ℕ) → object_in table.old entry ≡ Some o → OnOk result (StoresEach (λ x k. Unit {0}) (P.view on.old) (P.view on.new)) }
+    requires turn { (S : TablesValue) × StandsFor entries.now S
+        × IsNext S (rank_of entries.now.rows) (P.promise on.old) (moment (P.view on.old) table.old stack.old queue.old) entry }
+    ensures turn { let before = moment (P.view on.old) table.old stack.old queue.old in
+        let after = moment (P.view on.new) table.new stack.new queue.new in
+        FromNext entries.now (P.promise on.old) before entry (λ S rank. OnOk result (PrefixTurned S rank entry before after)) }
+    ensures leaves { let before = moment (P.view on.old) table.old stack.old queue.old in
+        let after = moment (P.view on.new) table.new stack.new queue.new in
+        FromNext entries.now (P.promise on.old) before entry
+        (λ S rank. LeavesAll S rank (P.promise on.old) (IsErrOf result Want.Object) before after) }
     ensures count { IfOk result (λ n. n ≡ late_count (late_at stack.new.late.members entry) 16) }
     ensures stored { OnOk result ((P.view on.old).stored ≤ (P.view on.new).stored) }
     ensures err { OnErr result (SamePlane (P.view on.old) (P.view on.new)) }
     ensures parts { OnErr result (parts_of table.new stack.new queue.new ≡ parts_of table.old stack.old queue.old) }
-    ensures short { (S : TablesValue) → StandsFor entries.now S → IsErrOf result Want.Object
-        → (P.view on.old).free < 8 + length (marked_list S entry) }
+    ensures short { ForTables entries.now (λ S. IsErrOf result Want.Object → (P.view on.old).free < 8 + length (marked_list S entry)) }
     ensures quiet { OnErr result ((look : PrefixValue → Option ℕ) → IsQuiet look (P.view on.old) (P.view on.new)) }
-    ensures finds { (S : TablesValue) → StandsFor entries.now S → Joined S (rank_of entries.now.rows) (P.promise on.old) (P.view on.old)
-        (parts_of table.old stack.old queue.old) → IsLeast (rank_of entries.now.rows)
-        (state_at (P.view on.old) table.old stack.old queue.old) entry
-        → HasRoomLeft S (P.view on.old).free (state_at (P.view on.old) table.old stack.old queue.old)
-        → IsErrOf result Want.Object → ⊥ }
-    ensures left { (S : TablesValue) → StandsFor entries.now S → Joined S (rank_of entries.now.rows) (P.promise on.old) (P.view on.old)
-        (parts_of table.old stack.old queue.old) → IsLeast (rank_of entries.now.rows)
-        (state_at (P.view on.old) table.old stack.old queue.old) entry
-        → HasRoomLeft S (P.view on.old).free (state_at (P.view on.old) table.old stack.old queue.old)
-        → HasRoomLeft S (P.view on.new).free (state_at (P.view on.new) table.new stack.new queue.new) }
-    ensures takes { (S : TablesValue) → StandsFor entries.now S
-        → Joined S (rank_of entries.now.rows) (P.promise on.old) (P.view on.old) (parts_of table.old stack.old queue.old)
-        → IsLeast (rank_of entries.now.rows) (state_at (P.view on.old) table.old stack.old queue.old) entry
-        → Took S (state_at (P.view on.old) table.old stack.old queue.old) (state_at (P.view on.new) table.new stack.new queue.new)
-        (P.view on.old).free (P.view on.new).free }
     ensures promise { P.promise on.new ≡ P.promise on.old }
 {
     // A length tells that it is a prefix: the bits past it are cleared.
@@ -215,28 +166,18 @@ impl Stack {
         requires stands { StandsFor entries.now tables.now }
         requires joined { Joined tables.now (rank_of entries.now.rows) (P.promise on.old) (P.view on.old)
             (parts_of table.old self.old queue.old) }
-        ensures turn { IfOk result (λ t. TurnDone tables.now (rank_of entries.now.rows) t
-            (state_at (P.view on.old) table.old self.old queue.old)
-            (state_at (P.view on.new) table.new self.new queue.new)) }
-        ensures joined { Joined tables.now (rank_of entries.now.rows) (P.promise on.new) (P.view on.new)
-            (parts_of table.new self.new queue.new) }
-        ensures run { IfOk result (λ t. RunDone tables.now t (P.view on.old) (P.view on.new)
-            (state_at (P.view on.new) table.new self.new queue.new)) }
-        ensures dropped { IfOk result (λ t. IsCounted t self.new.late.members) }
-        ensures stores { IfOk result (λ t. IsStored t (P.view on.old).stored (P.view on.new).stored) }
-        ensures exact { IfOk result (λ t. StoresDiffering tables.now t (object_in table.old) (P.view on.old) (P.view on.new)) }
+        ensures turn { let before = moment (P.view on.old) table.old self.old queue.old in
+            let after = moment (P.view on.new) table.new self.new queue.new in
+            IfOk result (λ t. IsTurnDone tables.now (rank_of entries.now.rows) t before after) }
+        ensures leaves { let before = moment (P.view on.old) table.old self.old queue.old in
+            let after = moment (P.view on.new) table.new self.new queue.new in
+            LeavesAll tables.now (rank_of entries.now.rows) (P.promise on.new) (IsErrOf result Want.Object) before after }
         ensures err { OnErr result (SamePlane (P.view on.old) (P.view on.new)) }
         ensures parts { OnErr result (parts_of table.new self.new queue.new ≡ parts_of table.old self.old queue.old) }
-        ensures short { IsErrOf result Want.Object → (e : PrefixValue)
-            × IsLeast (rank_of entries.now.rows) (state_at (P.view on.old) table.old self.old queue.old) e
-            × ((P.view on.old).free < 8 + length (marked_list tables.now e)) }
+        ensures short { let before = moment (P.view on.old) table.old self.old queue.old in
+            IsErrOf result Want.Object → (e : PrefixValue) × IsLeast (rank_of entries.now.rows) (state_at before) e
+            × (before.view.free < 8 + length (marked_list tables.now e)) }
         ensures quiet { OnErr result ((look : PrefixValue → Option ℕ) → IsQuiet look (P.view on.old) (P.view on.new)) }
-        ensures finds { HasRoomLeft tables.now (P.view on.old).free (state_at (P.view on.old) table.old self.old queue.old)
-            → IsErrOf result Want.Object → ⊥ }
-        ensures left { HasRoomLeft tables.now (P.view on.old).free (state_at (P.view on.old) table.old self.old queue.old)
-            → HasRoomLeft tables.now (P.view on.new).free (state_at (P.view on.new) table.new self.new queue.new) }
-        ensures takes { Took tables.now (state_at (P.view on.old) table.old self.old queue.old)
-            (state_at (P.view on.new) table.new self.new queue.new) (P.view on.old).free (P.view on.new).free }
         ensures promise { P.promise on.new ≡ P.promise on.old }
     {
         let before = on.stored();

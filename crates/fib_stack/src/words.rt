@@ -8,7 +8,7 @@ ghost use Rattle.fib_core_promise.specs.Stack.{aim_word, end_word};
 ghost use Rattle.fib_ply.specs.Tables.{object_in};
 ghost use Rattle.fib_stack.specs.Records.{end_used};
 ghost use Rattle.fib_stack.specs.Runs.{word_in};
-ghost use Rattle.fib_stack.specs.Turns.{found_in};
+ghost use Rattle.fib_stack.specs.inner.Readied.{found_in};
 
 use crate::wanted::aim_at;
 use fib_addr::{Mac, Prefix};

@@ -19,7 +19,9 @@ use Rattle.fib_stack.specs.Joined.{Parts, balance_in, in_change, table_of, was_b
 use Rattle.fib_stack.specs.Records.{Freed, GaveAll, IsAlone, IsObjectOf, TookNew, records_for}
 use Rattle.fib_stack.specs.States.{forwards_by}
 use Rattle.fib_stack.specs.declared.records.Want.TheVariants as wants
-use Rattle.fib_stack.specs.Turns.{GotObject, IsTurnOf, IsUnderway, balances_for, parts_of}
+use Rattle.fib_stack.specs.Moments.{parts_of}
+use Rattle.fib_stack.specs.inner.Readied.{GotObject, IsUnderway, balances_for}
+use Rattle.fib_stack.specs.inner.Turning.{IsTurnOf}
 use Rattle.fib_stack_waking.specs.Waking.{are_among}
 use Rattle.fib_stack.specs.declared.stack.Plan.{Plan}
 use Rattle.fib_stack.proofs.Exact.{stores_room}
@@ -121,9 +123,9 @@ returns-clause-underway g c = λ S st t.
     let plan : Plan = record { entry = c.in-Ok.plan.entry; object = c.in-Some.object; forwards = c.in-Ok.plan.forwards; wanted = c.in-Ok.plan.wanted; uses = c.take_all.new.uses; woken = c.in-Ok.plan.woken } in
     let r = c.in-Ok.ensures S st in
     let balances = ap balance_in c.make_room.ensures.parts in
-    subst (λ (q : Parts). IsUnderway S rank p v0 v3 q plan) (sym c.make_room.ensures.parts)
+    subst (λ (q : Parts). IsUnderway S rank p v0 (record { view = v3; parts = q }) plan) (sym c.make_room.ensures.parts)
     (underway S rank p v0 v1 v2 v3 s plan (ranked S rank st.falls)
-    (subst (λ (x : Prefix). IsTurnOf S rank p v0 s x) (sym r.entry) t)
+    (subst (λ (x : Prefix). IsTurnOf S rank p (record { view = v0; parts = s }) x) (sym r.entry) t)
     (subst (λ (x : Prefix). plan.forwards ≡ forwards_by (was_by s) (marked_list S x)) (sym r.entry) r.does)
     (subst (λ (x : Prefix). plan.wanted.items ≡ spread_marks (of_least_mark (filter (is_usable_mark (was_by s)) (marked_list S x)))) (sym r.entry) r.wanted)
     (subst (λ (x : Prefix). (d : Prefix) → are_among plan.woken.items d ≡ differ (was_by s x) plan.forwards && wakes S d x) (sym r.entry) r.woken)

@@ -1,5 +1,5 @@
 use Rattle.fib_stack_ledger.proofs.Books.{times_within}
-use Rattle.fib_stack.specs.Turns.{parts_of}
+use Rattle.fib_stack.specs.Moments.{parts_of}
 use Rattle.fib_stack.proofs.Moving.{moved_joined, scan_moved}
 use Rattle.fib_stack.proofs.between.a_scan_keeps_what_stands.Goals as goal
 

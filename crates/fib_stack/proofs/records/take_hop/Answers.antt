@@ -1,5 +1,5 @@
-use Rattle.std.proofs.Common.{List, ℕ, ◌∷◌, [], ◌++◌, ap, sym, subst}
-use Rattle.std.specs.Prelude.{Ok, Option, Some}
+use Rattle.std.proofs.Common.{List, ℕ, ap, sym, subst}
+use Rattle.std.specs.Prelude.{Ok, Option}
 use Rattle.fib_plane_view.specs.Stores.{StoresEach}
 use Rattle.fib_plane_view.specs.View.{IsLive}
 use Rattle.fib_stack_ledger.specs.declared.ledger.Use.{Use}

@@ -1,5 +1,5 @@
 use Rattle.std.proofs.Common.{◌∙◌, sym, true≢false}
-use Rattle.fib_stack.specs.Turns.{parts_of}
+use Rattle.fib_stack.specs.Moments.{parts_of}
 use Rattle.fib_stack.proofs.Retrying.{dropped_joined, dropped_retried, dropped_stays, late_kind, late_may, late_placed, late_spare, late_target, opened, read_there, stays_at, stored_joined, stored_retried, there_or, tried_grew, tried_quiet}
 use Rattle.fib_stack.proofs.retry.try_at.Goals as goal
 
@@ -24,15 +24,15 @@ pub put-requires-clause-promise : goal.put-requires-clause-promise
 put-requires-clause-promise g c =
     late_may _ _ _ _ _ _ _ (opened _ _ _ _ _ c.args.place c.at-next.result c.in-Some.object c.is_queued.result c.requires.joined.2 (g.met.P.Objects.sound c.args.on.now) c.requires.place c.len-listed.ensures.apart c.len-listed.ensures.slots c.at-next.ensures c.is_queued.ensures.1 c.if-is_queued.false (sym c.object.ensures ∙ c.in-Some.is))
 
-pub returns-in-Dropped-clause-retried : goal.returns-in-Dropped-clause-retried
-returns-in-Dropped-clause-retried g c = λ S rank j.
-    dropped_retried _ _ _ _ _ _ _ (opened S rank _ _ _ c.args.place c.at-next.result c.in-Some.object c.is_queued.result j (g.met.P.Objects.sound c.args.on.now) c.requires.place c.len-listed.ensures.apart c.len-listed.ensures.slots c.at-next.ensures c.is_queued.ensures.1 c.if-is_queued.false (sym c.object.ensures ∙ c.in-Some.is))
-    (g.P.Objects.view c.put.new.self) _ c.in-Dropped.ensures.put (g.met.P.Objects.sound c.put.new.self) c.in-Dropped.ensures.put.answered.1
-
-pub returns-in-Dropped-clause-joined : goal.returns-in-Dropped-clause-joined
-returns-in-Dropped-clause-joined g c = λ S rank j.
-    dropped_joined _ _ _ _ _ _ _ (opened S rank _ _ _ c.args.place c.at-next.result c.in-Some.object c.is_queued.result j (g.met.P.Objects.sound c.args.on.now) c.requires.place c.len-listed.ensures.apart c.len-listed.ensures.slots c.at-next.ensures c.is_queued.ensures.1 c.if-is_queued.false (sym c.object.ensures ∙ c.in-Some.is))
-    (g.P.Objects.view c.put.new.self) _ c.in-Dropped.ensures.put (g.met.P.Objects.sound c.put.new.self) c.in-Dropped.ensures.put.answered.1
+pub returns-in-Dropped-clause-tried : goal.returns-in-Dropped-clause-tried
+returns-in-Dropped-clause-tried g c = λ S rank j. record {
+  retried =
+      dropped_retried _ _ _ _ _ _ _ (opened S rank _ _ _ c.args.place c.at-next.result c.in-Some.object c.is_queued.result j (g.met.P.Objects.sound c.args.on.now) c.requires.place c.len-listed.ensures.apart c.len-listed.ensures.slots c.at-next.ensures c.is_queued.ensures.1 c.if-is_queued.false (sym c.object.ensures ∙ c.in-Some.is))
+      (g.P.Objects.view c.put.new.self) _ c.in-Dropped.ensures.put (g.met.P.Objects.sound c.put.new.self) c.in-Dropped.ensures.put.answered.1;
+  joined =
+      dropped_joined _ _ _ _ _ _ _ (opened S rank _ _ _ c.args.place c.at-next.result c.in-Some.object c.is_queued.result j (g.met.P.Objects.sound c.args.on.now) c.requires.place c.len-listed.ensures.apart c.len-listed.ensures.slots c.at-next.ensures c.is_queued.ensures.1 c.if-is_queued.false (sym c.object.ensures ∙ c.in-Some.is))
+      (g.P.Objects.view c.put.new.self) _ c.in-Dropped.ensures.put (g.met.P.Objects.sound c.put.new.self) c.in-Dropped.ensures.put.answered.1;
+}
 
 pub returns-in-Dropped-clause-why : goal.returns-in-Dropped-clause-why
 returns-in-Dropped-clause-why g c = λ _ d at.
@@ -54,12 +54,14 @@ pub returns-in-Same : goal.returns-in-Same
 returns-in-Same g c =
     let now = there_or (g.P.Objects.view c.args.on.now) c.in-Some.object c.at-next.result.slot c.at-next.result.word _ c.put.result c.put.ensures.put.answered c.in-Same.is in
     record {
-      retried = λ S rank j.
-          stored_retried _ _ _ _ _ _ _ (opened S rank _ _ _ c.args.place c.at-next.result c.in-Some.object c.is_queued.result j (g.met.P.Objects.sound c.args.on.now) c.requires.place c.len-listed.ensures.apart c.len-listed.ensures.slots c.at-next.ensures c.is_queued.ensures.1 c.if-is_queued.false (sym c.object.ensures ∙ c.in-Some.is))
-          (g.P.Objects.view c.put.new.self) _ c.put.ensures.put (g.met.P.Objects.sound c.put.new.self) _ c.args.place c.requires.place c.len-listed.ensures.apart c.at-next.ensures c.take_out.ensures.members now;
-      joined = λ S rank j.
-          stored_joined _ _ _ _ _ _ _ (opened S rank _ _ _ c.args.place c.at-next.result c.in-Some.object c.is_queued.result j (g.met.P.Objects.sound c.args.on.now) c.requires.place c.len-listed.ensures.apart c.len-listed.ensures.slots c.at-next.ensures c.is_queued.ensures.1 c.if-is_queued.false (sym c.object.ensures ∙ c.in-Some.is))
-          (g.P.Objects.view c.put.new.self) _ c.put.ensures.put (g.met.P.Objects.sound c.put.new.self) _ c.args.place c.requires.place c.len-listed.ensures.apart c.at-next.ensures c.take_out.ensures.members now;
+      tried = λ S rank j. record {
+        retried =
+            stored_retried _ _ _ _ _ _ _ (opened S rank _ _ _ c.args.place c.at-next.result c.in-Some.object c.is_queued.result j (g.met.P.Objects.sound c.args.on.now) c.requires.place c.len-listed.ensures.apart c.len-listed.ensures.slots c.at-next.ensures c.is_queued.ensures.1 c.if-is_queued.false (sym c.object.ensures ∙ c.in-Some.is))
+            (g.P.Objects.view c.put.new.self) _ c.put.ensures.put (g.met.P.Objects.sound c.put.new.self) _ c.args.place c.requires.place c.len-listed.ensures.apart c.at-next.ensures c.take_out.ensures.members now;
+        joined =
+            stored_joined _ _ _ _ _ _ _ (opened S rank _ _ _ c.args.place c.at-next.result c.in-Some.object c.is_queued.result j (g.met.P.Objects.sound c.args.on.now) c.requires.place c.len-listed.ensures.apart c.len-listed.ensures.slots c.at-next.ensures c.is_queued.ensures.1 c.if-is_queued.false (sym c.object.ensures ∙ c.in-Some.is))
+            (g.P.Objects.view c.put.new.self) _ c.put.ensures.put (g.met.P.Objects.sound c.put.new.self) _ c.args.place c.requires.place c.len-listed.ensures.apart c.at-next.ensures c.take_out.ensures.members now;
+      };
       done = λ _. c.take_out.ensures.members;
       left = λ no. absurd (true≢false no);
       why = λ no. absurd (true≢false no);

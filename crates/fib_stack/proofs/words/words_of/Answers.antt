@@ -3,7 +3,7 @@ use Rattle.std.specs.Prelude.{slice_get}
 use Rattle.fib_resolve_changes.specs.Wanted.{aim_of}
 use Rattle.fib_core_promise.specs.Stack.{aim_word}
 use Rattle.fib_ply.specs.Tables.{object_in}
-use Rattle.fib_stack.specs.Turns.{found_in}
+use Rattle.fib_stack.specs.inner.Readied.{found_in}
 use Rattle.fib_stack.proofs.Deferring.{word_set}
 use Rattle.fib_stack.proofs.words.words_of.Goals as goal
 

@@ -4,7 +4,7 @@ use Rattle.fib_resolve_changes.specs.Wanted.{aim_of}
 use Rattle.fib_core_promise.specs.Stack.{aim_word}
 use Rattle.fib_ply.specs.Tables.{object_in}
 use Rattle.fib_stack.specs.Runs.{word_in}
-use Rattle.fib_stack.specs.Turns.{found_in}
+use Rattle.fib_stack.specs.inner.Readied.{found_in}
 use Rattle.fib_stack.proofs.words.words_of.Given as goal
 
 abbrev pub invariant-loop-slot : goal.invariant-loop-slot

@@ -7,7 +7,7 @@ use Rattle.fib_plane_view.specs.Frames.{IsQuiet}
 use Rattle.fib_stack.specs.Done.{StaysLate}
 use Rattle.fib_stack.specs.Joined.{Joined, state_in}
 use Rattle.fib_stack.specs.Steps.{Retried}
-use Rattle.fib_stack.specs.Turns.{parts_of}
+use Rattle.fib_stack.specs.Moments.{parts_of}
 use Rattle.fib_stack.proofs.stack.Stack.retry.Given as goal
 
 abbrev pub invariant-loop-place : goal.invariant-loop-place
