@@ -146,7 +146,7 @@ module _ {T : Type 0} where
 
   -- what is kept under each number then
   module _ (rows : List (Kept T)) (place_of : ℕ → Option ℕ) (book : IsBook rows place_of) (place n : ℕ) (k : Kept T) (at : slice_get rows place ≡ Some k) (some : 0 < n) where
-    kept_set : kept_of (slice_set rows place (kept_with k.content k.id n)) k.id ≡ Some (kept_with k.content k.id n)
+    pub kept_set : kept_of (slice_set rows place (kept_with k.content k.id n)) k.id ≡ Some (kept_with k.content k.id n)
     kept_set =
         kept_by_place (slice_set rows place (kept_with k.content k.id n)) place_of (book_set rows place_of book place n k at some) k.id
         ∙ (ap (kept_at (slice_set rows place (kept_with k.content k.id n))) (book.back place k at)

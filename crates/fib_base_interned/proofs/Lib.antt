@@ -2,3 +2,4 @@ pub mod Books
 pub mod Finding
 pub mod Moving
 pub mod Rows
+pub mod Undoing

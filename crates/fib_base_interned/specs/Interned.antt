@@ -1,7 +1,8 @@
 -- Interned contents: equal contents are kept once, each under a number of its own with a count of its users.
 --
 -- What is kept is seen as a list, in the order of places.
-use Rattle.std.specs.Prelude.{◌≡◌, ◌≢◌, ◌<◌, ◌+◌, ◌-◌, ◌==◌, ℕ, Bool, true, false, List, Option, Some, None, find, Contains, slice_get, if◌then◌else◌}
+use Rattle.std.specs.Prelude.{◌≡◌, ◌≢◌, ◌<◌, ◌+◌, ◌-◌, ◌==◌, ℕ, Bool, true, false, List, [], ◌∷◌, Option, Some, None, IsSome, find, length, Contains, slice_get}
+use Rattle.std.specs.Prelude.{if◌then◌else◌}
 
 -- a content that is kept
 pub record Kept (T : Type 0) : Type 0 where
@@ -50,3 +51,21 @@ lowered (Some k) = if k.users == 1 then None else Some (record { id = k.id; cont
 pub record Gives {T : Type 0} (old new : List (Kept T)) (id : ℕ) : Type 0 where
   pub given : kept_of new id ≡ lowered (kept_of old id)
   pub others : (other : ℕ) → other ≢ id → kept_of new other ≡ kept_of old other
+
+abbrev pub without_user : {T : Type 0} → Kept T → List (Kept T) → List (Kept T)
+without_user k rest = if k.users == 1 then rest else record { id = k.id; content = k.content; users = k.users - 1 } ∷ rest
+
+-- one user less of what is kept under that number, where it stands; forgotten where that was the last
+abbrev pub untaken : {T : Type 0} → ℕ → List (Kept T) → List (Kept T)
+untaken id [] = []
+untaken id (k ∷ rest) = if k.id == id then without_user k rest else k ∷ untaken id rest
+
+-- where what is kept under that number has one user, it stands last
+abbrev pub IsLastToGo : {T : Type 0} → List (Kept T) → ℕ → Type 0
+IsLastToGo {T} rows id = (k : Kept T) → kept_of rows id ≡ Some k → k.users ≡ 1 → slice_get rows (length rows - 1) ≡ Some k
+
+-- what was taken under that number can be taken back, and then all is as it was
+pub record TakesBack {T : Type 0} (old new : List (Kept T)) (id : ℕ) : Type 0 where
+  pub there : IsSome (kept_of new id)
+  pub last : IsLastToGo new id
+  pub back : untaken id new ≡ old

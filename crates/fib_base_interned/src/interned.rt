@@ -1,6 +1,6 @@
 // A store whose numbers the caller gives.
-ghost use Rattle.std.specs.Prelude.{◌≡◌, ◌<◌, ◌-◌, ◌^◌, ◌↔◌, ℕ, [], length, map, Some, None, true, IsSome, IsTrue, IfOk, IfSome, IfNone, OnOk, OnErr, slice_get, option_map};
-ghost use Rattle.fib_base_interned.specs.Interned.{Kept, kept_of, users_of, AreInterned, IsFound, IsAbsent, Takes, Gives};
+ghost use Rattle.std.specs.Prelude.{◌≡◌, ◌<◌, ◌-◌, ◌+◌, ◌^◌, ◌↔◌, ℕ, [], length, map, Some, None, true, IsSome, IsTrue, IfOk, IfSome, IfNone, OnOk, OnErr, slice_get, option_map};
+ghost use Rattle.fib_base_interned.specs.Interned.{Kept, kept_of, users_of, AreInterned, IsFound, IsAbsent, IsLastToGo, Takes, TakesBack, Gives, untaken};
 
 use indexmap::{Equivalent, IndexMap};
 use std::alloc::{AllocError, Global};
@@ -119,6 +119,7 @@ impl<T: Eq + Hash + Drop> Interned<T> {
         requires room { users_of self.old id < 2 ^ 32 - 1 }
         ensures held { (k : Kept T) → kept_of self.old id ≡ Some k → Takes self.old self.new k.content id }
         ensures interned { AreInterned self.new }
+        ensures back { TakesBack self.old self.new id }
     {
         let place = self.place(id);
         self.raise(place);
@@ -130,6 +131,7 @@ impl<T: Eq + Hash + Drop> Interned<T> {
         requires absent { IsAbsent (T.eq content) self.old }
         ensures added { OnOk result (Takes self.old self.new content id) }
         ensures interned { OnOk result (AreInterned self.new) }
+        ensures back { OnOk result (TakesBack self.old self.new id) }
         ensures err { OnErr result (self.new ≡ self.old) }
     {
         let place = self.rows.len();
@@ -157,11 +159,30 @@ impl<T: Eq + Hash + Drop> Interned<T> {
         true
     }
 
+    /// Takes back what was last taken under a number, of what wasn't taken back: all is as before that. Takes no memory.
+    pub fn take_back(&mut self, id: u64)
+        requires kept { IsSome (kept_of self.old id) }
+        requires last { IsLastToGo self.old id }
+        ensures back { self.new ≡ untaken id self.old }
+        ensures given { Gives self.old self.new id }
+        ensures interned { AreInterned self.new }
+    {
+        // The count tells that the contents are interned: a number stands at one place.
+        let _count = self.count();
+        let place = self.place(id);
+        if self.users(id) > 1 {
+            self.lower(place);
+        } else {
+            self.forget(place);
+        }
+    }
+
     fn raise(&mut self, place: usize)
         requires within { place < length self.old }
         requires room { (k : Kept T) → slice_get self.old place ≡ Some k → k.users < 2 ^ 32 - 1 }
         ensures taken { (k : Kept T) → slice_get self.old place ≡ Some k → Takes self.old self.new k.content k.id }
         ensures interned { AreInterned self.new }
+        ensures back { (k : Kept T) → slice_get self.old place ≡ Some k → TakesBack self.old self.new k.id }
     {
         let (_, held) = self.rows.pair_mut(place);
         held.users += 1;
@@ -172,6 +193,7 @@ impl<T: Eq + Hash + Drop> Interned<T> {
         requires held { (k : Kept T) → slice_get self.old place ≡ Some k → 1 < k.users }
         ensures given { (k : Kept T) → slice_get self.old place ≡ Some k → Gives self.old self.new k.id }
         ensures interned { AreInterned self.new }
+        ensures back { (k : Kept T) → slice_get self.old place ≡ Some k → self.new ≡ untaken k.id self.old }
     {
         let (_, held) = self.rows.pair_mut(place);
         held.users -= 1;
@@ -182,6 +204,7 @@ impl<T: Eq + Hash + Drop> Interned<T> {
         requires held { (k : Kept T) → slice_get self.old place ≡ Some k → k.users ≡ 1 }
         ensures given { (k : Kept T) → slice_get self.old place ≡ Some k → Gives self.old self.new k.id }
         ensures interned { AreInterned self.new }
+        ensures back { (k : Kept T) → slice_get self.old place ≡ Some k → place + 1 ≡ length self.old → self.new ≡ untaken k.id self.old }
     {
         let Some((_, gone)) = self.rows.swap_remove_index(place) else {
             unreachable!()

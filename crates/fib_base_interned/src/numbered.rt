@@ -1,6 +1,6 @@
 // A store that gives its numbers itself.
 ghost use Rattle.std.specs.Prelude.{◌≡◌, ◌<◌, ◌-◌, ◌^◌, ◌↔◌, [], length, Some, None, IsSome, IsTrue, IfOk, IfSome, IfNone, OnOk, OnErr, slice_get, option_map};
-ghost use Rattle.fib_base_interned.specs.Interned.{Kept, kept_of, users_of, AreInterned, IsFound, IsAbsent, Takes, Gives};
+ghost use Rattle.fib_base_interned.specs.Interned.{Kept, kept_of, users_of, AreInterned, IsFound, IsAbsent, IsLastToGo, Takes, TakesBack, Gives, untaken};
 
 use crate::Interned;
 use indexmap::Equivalent;
@@ -95,6 +95,7 @@ impl<T: Eq + Hash + Drop> Numbered<T> {
         requires room { users_of self.old id < 2 ^ 32 - 1 }
         ensures held { (k : Kept T) → kept_of self.old id ≡ Some k → Takes self.old self.new k.content id }
         ensures interned { AreInterned self.new }
+        ensures back { TakesBack self.old self.new id }
     {
         self.rows.hold(id);
     }
@@ -105,6 +106,7 @@ impl<T: Eq + Hash + Drop> Numbered<T> {
         ensures added { IfOk result (λ id. Takes self.old self.new content id) }
         ensures number { IfOk result (λ id. kept_of self.old id ≡ None) }
         ensures interned { OnOk result (AreInterned self.new) }
+        ensures back { IfOk result (λ id. TakesBack self.old self.new id) }
         ensures err { OnErr result (self.new ≡ self.old) }
     {
         if self.next == u64::MAX {
@@ -124,5 +126,16 @@ impl<T: Eq + Hash + Drop> Numbered<T> {
         ensures interned { AreInterned self.new }
     {
         self.rows.give(id)
+    }
+
+    /// Takes back what was last taken under a number, of what wasn't taken back: all is as before that. Takes no memory.
+    pub fn take_back(&mut self, id: u64)
+        requires kept { IsSome (kept_of self.old id) }
+        requires last { IsLastToGo self.old id }
+        ensures back { self.new ≡ untaken id self.old }
+        ensures given { Gives self.old self.new id }
+        ensures interned { AreInterned self.new }
+    {
+        self.rows.take_back(id);
     }
 }

@@ -123,8 +123,9 @@ impl PrefixSet {
         self.longest(addr, 32)
     }
 
-    /// The longest match below the limit: one look-up a length, from the longest on.
-    fn longest(&self, addr: Addr, limit: u8) -> Option<Prefix>
+    /// The longest member of a length below the limit that contains the address; None exactly where no such member does. One look-up for each
+    /// length that members have had, from the longest on.
+    pub fn longest(&self, addr: Addr, limit: u8) -> Option<Prefix>
         requires { limit ≤ 33 }
         ensures { IsLongestMatch self.now limit addr result }
     {

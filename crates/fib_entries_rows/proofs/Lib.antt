@@ -58,3 +58,4 @@ pub mod LoopRows
 pub mod Reachings
 pub mod LedRows
 pub mod Turned
+pub mod Named

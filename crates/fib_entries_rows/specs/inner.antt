@@ -22,3 +22,4 @@ pub mod Reaching
 pub mod Course
 pub mod Clear
 pub mod Under
+pub mod Used

@@ -1,13 +1,13 @@
 -- Vectors that are kept, seen as the lists of their paths.
-use Rattle.std.proofs.Common.{arith, ◌≡◌, ◌≢◌, ℕ, zero, suc, ◌+◌, ◌<◌, ◌==◌, Bool, true, false, List, [], ◌∷◌, length, map, Option, Some, None, inl, inr, refl, sym, ◌∙◌, ap, subst, is_some, slice_get, Vec, Global}
+use Rattle.std.proofs.Common.{arith, ◌≡◌, ◌≢◌, ℕ, zero, suc, ◌+◌, ◌-◌, ◌<◌, ◌==◌, Bool, true, false, List, [], ◌∷◌, length, map, Option, Some, None, inl, inr, refl, sym, ◌∙◌, ap, subst, is_some, slice_get, Vec, Global}
 use Rattle.std.specs.Prelude.{IsSome, Contains, option_map}
 use Rattle.std.specs.Cmp.Lexicographic.{pointwise}
 use Rattle.std.proofs.lemmas.Bool.{false≢true, cases_eq}
 use Rattle.fib_base_list.proofs.Lists.{either}
 use Rattle.fib_resolve.specs.declared.types.Path.{Path}
 use Rattle.fib_resolve.specs.contracts.types.PathPartialEq.TheImpl.{eq-value}
-use Rattle.fib_base_interned.specs.Interned.{Kept, kept_of, users_in, users_of, AreInterned, Takes, Gives, lowered}
-use Rattle.fib_base_interned.proofs.Finding.{find_only, get_or_at}
+use Rattle.fib_base_interned.specs.Interned.{Kept, kept_of, users_in, users_of, untaken, without_user, AreInterned, IsLastToGo, Takes, TakesBack, Gives, lowered}
+use Rattle.fib_base_interned.proofs.Finding.{find_only, find_place, get_or_at}
 use Rattle.fib_paths.specs.PathLists.{IsUsedLess}
 use Rattle.fib_paths.specs.inner.Vectors.{listed, AreApart}
 use Rattle.fib_paths.proofs.SamePaths.{same_paths, lists_are}
@@ -233,3 +233,39 @@ interned_listed rows kept apart = record {
 
     found : (i : ℕ) (k : Kept (Vec Path Global)) → slice_get rows i ≡ Some k → kept_of rows k.id ≡ Some k
     found i k at = first rows i k at (λ j l b same. kept.numbers_apart j i l k b at same)
+
+-- what is taken back of vectors is taken back of lists
+without_listed : (k : Kept (Vec Path Global)) (ks : Rows) → map listed (without_user k ks) ≡ without_user (listed k) (map listed ks)
+without_listed k ks = elim (either (k.users == 1)) [ inl is ↦ rw is refl | inr isnt ↦ rw isnt refl ]
+
+pub untaken_listed : (rows : Rows) (id : ℕ) → map listed (untaken id rows) ≡ untaken id (map listed rows)
+untaken_listed [] id = refl
+untaken_listed (k ∷ ks) id = elim (either (k.id == id)) [
+  | inl is ↦ rw is (without_listed k ks)
+  | inr isnt ↦ rw isnt (ap (λ l. listed k ∷ l) (untaken_listed ks id))
+]
+
+get_listed : (rows : Rows) (place : ℕ) (k : Kept (Vec Path Global)) → slice_get rows place ≡ Some k → slice_get (map listed rows) place ≡ Some (listed k)
+get_listed [] place k h = absurd (none_some k h)
+get_listed (l ∷ ls) zero k h = ap (λ (z : Kept (Vec Path Global)). Some (listed z)) (some_is l k h)
+get_listed (l ∷ ls) (suc place) k h = get_listed ls place k h
+
+some_listed_back : (rows : Rows) (id : ℕ) → IsSome (kept_of rows id) → IsSome (kept_of (map listed rows) id)
+some_listed_back rows id h = ap is_some (kept_listed rows id) ∙ some_same (kept_of rows id) ∙ h
+
+pub back_listed : (old new : Rows) (lists : List (Kept (List Path))) (id : ℕ) → map listed old ≡ lists → TakesBack old new id → TakesBack lists (map listed new) id
+back_listed old new lists id same t = record {
+  there = some_listed_back new id t.there;
+  last = λ k at one. (let r = from_listed (kept_of new id) k (sym (kept_listed new id) ∙ at) in
+      ap (λ n. slice_get (map listed new) (n - 1)) (length_listed new)
+      ∙ (get_listed new (length new - 1) r.0 (t.last r.0 r.1 (ap (λ z. z.users) r.2 ∙ one)) ∙ ap Some r.2));
+  back = sym (untaken_listed new id) ∙ (ap (map listed) t.back ∙ same);
+}
+
+-- and the other way round
+pub last_listed : (rows : Rows) (id : ℕ) → AreInterned rows → IsLastToGo (map listed rows) id → IsLastToGo rows id
+last_listed rows id kept last k at one =
+    let here = last (listed k) (kept_listed rows id ∙ ap (option_map listed) at) one in
+    let there = slice_listed rows (length rows - 1) (listed k) (ap (λ n. slice_get (map listed rows) (n - 1)) (sym (length_listed rows)) ∙ here) in
+    let found = find_place (λ z. z.id == id) rows k at in
+    ap (slice_get rows) (kept.numbers_apart (length rows - 1) found.0 there.0 k there.1 found.1 (ap (λ z. z.id) there.2)) ∙ found.1

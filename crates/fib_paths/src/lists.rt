@@ -1,6 +1,6 @@
 // Kept path-lists.
 ghost use Rattle.std.specs.Prelude.{◌≡◌, ◌≢◌, ◌<◌, ◌-◌, ◌^◌, [], length, Some, IsSome, IsTrue, ◌↔◌, IfOk, IfSome, IfNone, OnErr, Contains, slice_get, option_map};
-ghost use Rattle.fib_base_interned.specs.Interned.{kept_of, users_of, AreInterned, Takes, Gives};
+ghost use Rattle.fib_base_interned.specs.Interned.{kept_of, users_of, untaken, AreInterned, IsLastToGo, Takes, TakesBack, Gives};
 ghost use Rattle.fib_paths.specs.PathLists.{IsUsedLess, KeptList};
 
 use fib_base_interned::Numbered;
@@ -115,6 +115,7 @@ impl PathLists {
         requires { IsUsedLess self.old content.now (2 ^ 32 - 1) }
         ensures taken { IfOk result (λ id. Takes self.old self.new content.now id) }
         ensures interned { AreInterned self.new }
+        ensures back { IfOk result (λ id. TakesBack self.old self.new id) }
         ensures err { OnErr result (self.new ≡ self.old) }
     {
         // The count tells that the lists are interned: each is there once, and has a user.
@@ -145,5 +146,17 @@ impl PathLists {
         ensures interned { AreInterned self.new }
     {
         self.rows.give(id.0);
+    }
+
+    /// Takes back what was last taken, of what wasn't taken back: all is as before that. Takes no memory.
+    pub fn take_back(&mut self, id: PathListId)
+        requires kept { IsSome (kept_of self.old id) }
+        requires last { IsLastToGo self.old id }
+        ensures back { self.new ≡ untaken id self.old }
+        ensures interned { AreInterned self.new }
+    {
+        // The count tells that the vectors are interned: a number stands at one place.
+        let _count = self.rows.count();
+        self.rows.take_back(id.0);
     }
 }

@@ -10,6 +10,7 @@ use Rattle.fib_base_interned.proofs.Finding.{some_is, none_some, swapped_at, swa
 use Rattle.fib_base_interned.proofs.Books.{eqb_apart}
 use Rattle.fib_base_interned.proofs.Moving.{IsLast, Moves, moves_popped, moves_moved, book_moved, given_gone}
 use Rattle.fib_base_interned.proofs.Rows.{shown, map_at, map_swap, length_map, rows_interned}
+use Rattle.fib_base_interned.proofs.Undoing.{gone_back}
 use Rattle.fib_base_interned.proofs.interned.Interned.forget.Goals as goal
 
 module _ {T : Type 0} (es : List (T × Held)) (place_of : ℕ → Option ℕ) (place : ℕ) (e : T × Held) (book : IsBook (map shown es) place_of) (at : slice_get es place ≡ Some e) where
@@ -136,3 +137,9 @@ returns-in_default-get_index-clause-interned g c =
     let none = sym c.in_default-get_index.ensures.entry in
     let m = popped_as c.self.inside.rows.entries (get nat_eq c.self.inside.places) c.args.place _ c.self.invariant at (get nat_eq c.remove.new.self) (ap (λ l. slice_get l c.args.place) (sym left) ∙ none) c.remove.ensures.updates.0 in
     rows_interned _ g.met.T.Eq.laws.refl c.swap_remove_index.new.self.entries (get nat_eq c.remove.new.self) (book_left c.self.inside.rows.entries (get nat_eq c.self.inside.places) c.args.place _ c.self.invariant at (get nat_eq c.remove.new.self) c.swap_remove_index.new.self.entries m left) c.in-Some.ensures.unique
+
+pub returns-in_default-get_index-clause-back : goal.returns-in_default-get_index-clause-back
+returns-in_default-get_index-clause-back g c =
+    let at = map_at shown c.self.inside.rows.entries c.args.place _ (sym c.in-Some.ensures.entry) in
+    λ k there len. gone_back c.args.self.now (map shown c.self.inside.rows.entries) _ (get nat_eq c.self.inside.places) c.self.invariant c.self.view_is
+    c.args.place _ k at there (c.requires.held k there) len (ap (map shown) c.in-Some.ensures.entries ∙ map_swap shown c.self.inside.rows.entries c.args.place _)

@@ -4,6 +4,7 @@ use Rattle.std.specs.List.{IsDistinct}
 use Rattle.fib_base_interned.specs.inner.Book.{IsBook}
 use Rattle.fib_base_interned.proofs.Books.{book_set, taken_by}
 use Rattle.fib_base_interned.proofs.Rows.{shown, map_at, map_set, keys_set, rows_interned}
+use Rattle.fib_base_interned.proofs.Undoing.{raised_back}
 use Rattle.fib_base_interned.proofs.interned.Interned.raise.Goals as goal
 
 pub overflow_add-held : goal.overflow_add-held
@@ -29,3 +30,9 @@ pub returns-clause-interned : goal.returns-clause-interned
 returns-clause-interned g c =
     rows_interned _ g.met.T.Eq.laws.refl _ (get nat_eq c.self.inside.places) (invariant_of-self g c)
     (subst (IsDistinct _) (sym (keys_set c.self.inside.rows.entries c.args.place _)) c.pair_mut-held.ensures.unique)
+
+pub returns-clause-back : goal.returns-clause-back
+returns-clause-back g c =
+    let at = map_at shown c.self.inside.rows.entries c.args.place _ c.pair_mut-held.ensures.value in
+    λ k is. raised_back c.args.self.now (map shown c.self.inside.rows.entries) _ (get nat_eq c.self.inside.places) c.self.invariant c.self.view_is
+    c.args.place _ k at is (map_set c.self.inside.rows.entries c.args.place _ _ c.pair_mut-held.ensures.value)

@@ -2,11 +2,11 @@ use Rattle.std.proofs.Common.{◌≡◌, List, map, sym, subst, ◌^◌, ◌-◌
 use Rattle.std.specs.Cmp.Lexicographic.{pointwise}
 use Rattle.fib_resolve.specs.declared.types.Path.{Path}
 use Rattle.fib_resolve.specs.contracts.types.PathPartialEq.TheImpl.{eq-value}
-use Rattle.fib_base_interned.specs.Interned.{AreInterned, Takes}
+use Rattle.fib_base_interned.specs.Interned.{AreInterned, Takes, TakesBack}
 use Rattle.fib_paths.specs.PathLists.{IsUsedLess}
 use Rattle.fib_paths.specs.inner.Vectors.{listed}
 use Rattle.fib_paths.proofs.SamePaths.{lists_are}
-use Rattle.fib_paths.proofs.Listing.{takes_listed, interned_listed, apart_held, apart_added, few_users, new_of, new_as, absent_of}
+use Rattle.fib_paths.proofs.Listing.{takes_listed, back_listed, interned_listed, apart_held, apart_added, few_users, new_of, new_as, absent_of}
 use Rattle.fib_paths.proofs.lists.PathLists.take.Goals as goal
 
 pub hold-requires-clause-room : goal.hold-requires-clause-room
@@ -61,3 +61,9 @@ returns-clause-interned c =
     interned_listed c.add.new.self c.in_ok-id.ensures.interned
     (apart_added c.self.inside.rows c.add.new.self c.in_ok-id.id c.in_ok-copied.copied c.self.invariant
     (new_as c.self.inside.rows c.args.content.now c.in_ok-copied.copied.items copied_is (new_of c.self.inside.rows c.args.content.now c.in_default.ensures.absent)) c.in_ok-id.ensures.added c.in_ok-id.ensures.number)
+
+pub returns-in-Some-clause-back : goal.returns-in-Some-clause-back
+returns-in-Some-clause-back c = back_listed c.self.inside.rows c.hold.new.self c.args.self.now c.in-Some.id c.self.view_is c.hold.ensures.back
+
+pub returns-clause-back : goal.returns-clause-back
+returns-clause-back c = back_listed c.self.inside.rows c.add.new.self c.args.self.now c.in_ok-id.id c.self.view_is c.in_ok-id.ensures.back
