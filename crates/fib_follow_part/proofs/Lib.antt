@@ -1,0 +1,4 @@
+pub mod Searching
+pub mod Parting
+pub mod Numbering
+pub mod Lowering
