@@ -2,3 +2,4 @@ pub mod Searching
 pub mod Parting
 pub mod Numbering
 pub mod Lowering
+pub mod Blocks

@@ -1,5 +1,5 @@
 // Ranks that fall in a part.
-ghost use Rattle.std.specs.Prelude.{◌≡◌, ◌<◌, ◌≤◌, ◌+◌, ℕ, true, map, length, Contains, IfOk, IfSome, IfNone, slice_index, nat_lt};
+ghost use Rattle.std.specs.Prelude.{◌≡◌, ◌<◌, ◌≤◌, ◌+◌, ◌^◌, ◌⊎◌, ℕ, true, map, length, Contains, IfOk, IfSome, IfNone, slice_index, nat_lt};
 ghost use Rattle.std.specs.List.{list_all};
 ghost use Rattle.fib_resolve.specs.declared.types.Tables.{Tables as TablesValue};
 ghost use Rattle.fib_follow_view.specs.Views.{IsAfter};
@@ -53,16 +53,25 @@ fn do_fall(ranks: &[u32], edges: &[(u32, u32)]) -> bool
     edges.iter().all(|edge| does_fall(ranks, *edge))
 }
 
-/// A rank that none of these is below, one of them where there are some.
+fn lesser(a: u32, b: u32) -> u32
+    ensures first { result ≤ a }
+    ensures second { result ≤ b }
+    ensures one { (result ≡ a) ⊎ (result ≡ b) }
+{
+    if b < a { b } else { a }
+}
+
+/// The least of the ranks, or 0 where there is none.
 fn least(ranks: &[u32]) -> u32
     ensures low { (n : ℕ) → Contains ranks.now n → result ≤ n }
     ensures one { 0 < length ranks.now → Contains ranks.now result }
 {
-    let mut found = u32::MAX;
+    let mut found = match ranks.first() {
+        Some(rank) => *rank,
+        None => return 0,
+    };
     'ranks: for place in 0..ranks.len() {
-        if ranks[place] <= found {
-            found = ranks[place];
-        }
+        found = lesser(found, ranks[place]);
     }
     found
 }

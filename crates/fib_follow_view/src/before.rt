@@ -109,7 +109,10 @@ impl<'a> Before<'a> {
         ensures value { result ≡ is_row (row_of self.now.rows e) }
         ensures before { (S : TablesValue) → StandsFor self.now S → result ≡ has_entry S e }
     {
-        self.row(e).is_some()
+        match self.row(e) {
+            Some(_) => true,
+            None => false,
+        }
     }
 
     /// The chosen list that the prefix had, empty where it was no entry.

@@ -2,7 +2,7 @@
 ghost use Rattle.std.specs.Prelude.{◌≡◌, map, IfOk};
 ghost use Rattle.fib_resolve.specs.Forwarding.{is_attached_list};
 ghost use Rattle.fib_entries_rows.specs.inner.Compare.{AreKept};
-ghost use Rattle.fib_follow_view.specs.inner.Told.{aim_goal, cover_aim, cover_in, derived_pairs, first_derived, first_paths, kind_goal, list_first};
+ghost use Rattle.fib_follow_view.specs.inner.Told.{aim_goal, are_some, cover_aim, cover_in, derived_pairs, first_derived, first_paths, kind_goal, list_first};
 
 use fib_addr::Prefix;
 use fib_paths::{PathListId, PathLists};
@@ -37,6 +37,16 @@ pub fn first_paths(pairs: &[Pair]) -> &[Path]
     match pairs {
         [first, ..] => first.paths.as_slice(),
         [] => &[],
+    }
+}
+
+/// Whether there is a pair.
+pub fn are_some(pairs: &[Pair]) -> bool
+    ensures { result ≡ are_some pairs.now }
+{
+    match pairs {
+        [_, ..] => true,
+        [] => false,
     }
 }
 

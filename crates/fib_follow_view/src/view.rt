@@ -129,7 +129,10 @@ impl<'a> View<'a> {
     pub fn is_changed(&self, e: Prefix) -> bool
         ensures { result ≡ is_changed self.now.changed e }
     {
-        self.made(e).is_some()
+        match self.made(e) {
+            Some(_) => true,
+            None => false,
+        }
     }
 
     /// Whether the prefix is an entry.
@@ -138,7 +141,7 @@ impl<'a> View<'a> {
         ensures after { (S T : TablesValue) → IsAfter self.now S T → result ≡ has_entry T e }
     {
         match self.made(e) {
-            Some(x) => !x.pairs.as_slice().is_empty(),
+            Some(x) => parts::are_some(x.pairs.as_slice()),
             None => self.before.is_entry(e),
         }
     }
