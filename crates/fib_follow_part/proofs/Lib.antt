@@ -1,5 +1,5 @@
 pub mod Searching
 pub mod Parting
 pub mod Numbering
-pub mod Lowering
+pub mod Fallen
 pub mod Blocks

@@ -1,5 +1,5 @@
 -- A search through all to which changed entries lead.
-use Rattle.std.proofs.Common.{arith, ◌≡◌, ℕ, zero, suc, ◌+◌, ◌<◌, List, [], ◌∷◌, map, get_or, Some, None, inl, inr, refl, sym, ◌∙◌, ap, subst, slice_get}
+use Rattle.std.proofs.Common.{arith, ◌≡◌, ℕ, zero, suc, ◌+◌, ◌<◌, List, [], ◌∷◌, length, map, get_or, Some, None, inl, inr, refl, sym, ◌∙◌, ap, subst, slice_get}
 use Rattle.std.specs.Prelude.{Contains}
 use Rattle.std.proofs.lemmas.Bool.{cases_lt}
 use Rattle.std.proofs.lemmas.Option.{slice_get_within, slice_get-get_or}
@@ -11,6 +11,7 @@ use Rattle.fib_entries_rows.specs.inner.Looping.{IsMore, Sees}
 use Rattle.fib_entries_rows.proofs.PlyOrder.{index_of}
 use Rattle.fib_entries_rows.proofs.Seeing.{more_in, more_self, more_then, past}
 use Rattle.fib_follow_view.specs.Views.{Seen}
+use Rattle.fib_follow_view.specs.inner.Told.{next_before, next_in}
 use Rattle.fib_follow_part.specs.inner.Searched.{SeesBoth}
 
 pub get_map : {X Y : Type 0} (f : X → Y) (xs : List X) (i : ℕ) (x : X) → slice_get xs i ≡ Some x → slice_get (map f xs) i ≡ Some (f x)
@@ -23,8 +24,14 @@ map_length f [] = refl
 map_length f (x ∷ xs) = ap suc (map_length f xs)
 
 -- two lists are seen one after the other
-pub sees_two : (v : Seen) (e : Prefix) (as bs old mid new : List Prefix) → Sees as old mid → Sees bs mid new → Sees [] old new
-sees_two v e as bs old mid new a b = (more_then old mid new a.0 b.0, b.1, λ t c. absurd (Contains-nil t c))
+pub sees_two : (xs ys old mid new : List Prefix) → Sees xs old mid → Sees ys mid new → Sees [] old new
+sees_two xs ys old mid new a b = (more_then old mid new a.0 b.0, b.1, λ t c. absurd (Contains-nil t c))
+
+pub sees_both : (v : Seen) (e : Prefix) (xs ys old mid new : List Prefix) → xs ≡ next_in v e → ys ≡ next_before v e → Sees xs old mid → Sees ys mid new → SeesBoth v e new
+sees_both v e xs ys old mid new after before a b = (
+  λ t c. more_in mid new b.0 t (a.2 t (subst (λ l. Contains l t) (sym after) c)),
+  λ t c. b.2 t (subst (λ l. Contains l t) (sym before) c),
+)
 
 -- all to which those before a place lead
 abbrev pub SeesSteps : Seen → ℕ → List Prefix → List Prefix → Type 0

@@ -4,10 +4,10 @@
 #![tactic(auto)]
 
 mod edges;
+mod lowering;
 mod numbers;
 mod part;
-mod ranks;
 mod seen;
 
-pub use part::{Part, part};
-pub use ranks::{TOP, ranks};
+pub use lowering::{TOP, ranks};
+pub use part::Part;

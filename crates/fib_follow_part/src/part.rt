@@ -76,6 +76,26 @@ fn loops_of(
 }
 
 impl Part {
+    /// The part to which the changed entries lead.
+    pub fn of(alloc: Global, view: &View<'_>) -> Result<Part, AllocError>
+        ensures { IfOk result (λ p. (S T : TablesValue) → IsAfter view.now S T → IsPart view.now S T p) }
+    {
+        let seen = reached(alloc, view)?;
+        let Ok(nodes) = u32::try_from(seen.as_slice().len()) else {
+            return Err(AllocError);
+        };
+        let edges = edges_of(alloc, view, &seen)?;
+        let loops = on_cycles(alloc, seen.as_slice(), edges.as_slice())?;
+        let left = left_of(alloc, seen.as_slice(), edges.as_slice(), &loops)?;
+        let numbers = numbers(alloc, nodes, left.as_slice())?;
+        Ok(Part {
+            seen,
+            loops,
+            left,
+            numbers,
+        })
+    }
+
     /// The prefixes of the part, each once.
     pub fn members(&self) -> &[Prefix]
         ensures { result.now ≡ self.now.members }
@@ -118,24 +138,4 @@ impl Part {
     {
         loops_of(alloc, &self.loops, e, view.chosen(e))
     }
-}
-
-/// The part to which the changed entries lead.
-pub fn part(alloc: Global, view: &View<'_>) -> Result<Part, AllocError>
-    ensures { IfOk result (λ p. (S T : TablesValue) → IsAfter view.now S T → IsPart view.now S T p) }
-{
-    let seen = reached(alloc, view)?;
-    let Ok(nodes) = u32::try_from(seen.as_slice().len()) else {
-        return Err(AllocError);
-    };
-    let edges = edges_of(alloc, view, &seen)?;
-    let loops = on_cycles(alloc, seen.as_slice(), edges.as_slice())?;
-    let left = left_of(alloc, seen.as_slice(), edges.as_slice(), &loops)?;
-    let numbers = numbers(alloc, nodes, left.as_slice())?;
-    Ok(Part {
-        seen,
-        loops,
-        left,
-        numbers,
-    })
 }
