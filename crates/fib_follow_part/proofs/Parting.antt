@@ -56,6 +56,10 @@ member_of xs e c = (is_member-Decides same_prefix-Decides xs e).1 c
 pub among : (xs : List Prefix) (e : Prefix) → is_member same_prefix xs e ≡ true → Contains xs e
 among xs e is = (is_member-Decides same_prefix-Decides xs e).0 is
 
+-- edges among what is seen lead from place to place
+pub among_places : (next : Prefix → List Prefix) (order : List Prefix) (edges : List (ℕ × ℕ)) → AreEdgesAmong next order (length order) edges → ArePlaces order edges
+among_places next order edges are d c = let r = (are d).0 c in (slice_get_within order d.0 r.1.0 r.1.2, slice_get_within order d.1 r.1.1 r.1.3)
+
 -- edges that are left join places
 pub left_places : (order : List Prefix) (edges left : List (ℕ × ℕ)) (test : ℕ × ℕ → Bool) → left ≡ filter test edges → ArePlaces order edges → AreEdges (length order) left
 left_places order edges left test is places = places_join order left (λ d c. places d (filter_from test edges d (subst (λ l. Contains l d) is c)).0)

@@ -3,7 +3,7 @@ use Rattle.fib_follow_part.proofs.Searching.{steps_more, steps_none, steps_sees,
 use Rattle.fib_follow_part.proofs.seen.see_all.Goals as goal
 
 pub steps-init : goal.steps-init
-steps-init c = steps_none c.args.view.now c.args.seen.now c.requires
+steps-init c = steps_none c.args.view.now c.args.seen.now c.requires.once
 
 pub returns-in_default-clause-seen : goal.returns-in_default-clause-seen
 returns-in_default-clause-seen c = steps_sees c.args.view.now c.steps.place c.args.seen.now c.steps.seen c.steps.invariant
