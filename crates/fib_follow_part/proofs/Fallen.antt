@@ -1,8 +1,7 @@
 -- Ranks of a part that fall there and raise no entry fall everywhere.
-use Rattle.std.proofs.Common.{arith, ◌≡◌, ℕ, zero, suc, ◌+◌, ◌<◌, ◌≤◌, Bool, true, false, List, [], ◌∷◌, map, length, nat_lt, Option, Some, None, inl, inr, refl, sym, ◌∙◌, ap, ap₂, subst, ◌↔◌, slice_get}
-use Rattle.std.specs.Prelude.{Contains, position, slice_index, slice_index_or}
+use Rattle.std.proofs.Common.{arith, ◌≡◌, ℕ, zero, suc, ◌+◌, ◌<◌, ◌≤◌, true, false, List, [], ◌∷◌, map, length, Option, Some, None, inl, inr, refl, sym, ◌∙◌, ap, subst, slice_get}
+use Rattle.std.specs.Prelude.{Contains, position, slice_index}
 use Rattle.std.specs.List.{list_all}
-use Rattle.std.specs.Set.{is_member}
 use Rattle.std.proofs.lemmas.Bool.{false≢true, ltb-true}
 use Rattle.std.proofs.lemmas.Option.{slice_get_within}
 use Rattle.fib_base_list.proofs.Lists.{Contains-nil}
@@ -13,7 +12,6 @@ use Rattle.fib_resolve.specs.Loops.{Kept}
 use Rattle.fib_resolve.specs.Pairs.{entries}
 use Rattle.fib_resolve.specs.declared.types.Tables.{Tables}
 use Rattle.fib_resolve.proofs.KeptEdges.{kept_target}
-use Rattle.fib_resolve_changes.specs.Ranks.{Falls}
 use Rattle.fib_resolve_changes.proofs.Edits.{any_in, in_cases}
 use Rattle.fib_resolve_changes.proofs.Reached.{lowered_fall}
 use Rattle.fib_base_interned.proofs.Finding.{contains_at, none_some, some_is}
@@ -108,16 +106,16 @@ pub block_ranks : (v : Seen) (S T : Tables) (p : Part) (before ranks : List ℕ)
 block_ranks v S T p before ranks h is len was block =
     are_ranks v S T h p is ranks each
     (λ k e at. (let inside = slice_get_within p.members k e at in
-        let x = get_at ranks k (omega (arith, inside, each)) in
-        let same = index_at ranks k x.0 x.1 in
-        let old = ap (λ l. slice_get l k) was ∙ get_map (rank_before v) p.members k e at in
-        let lt = block.low x.0 (rank_before v e) (contains_at ranks k x.0 x.1) (contains_at before k (rank_before v e) old) in
-        omega (arith, same, lt)))
+    let x = get_at ranks k (omega (arith, inside, each)) in
+    let same = index_at ranks k x.0 x.1 in
+    let old = ap (λ l. slice_get l k) was ∙ get_map (rank_before v) p.members k e at in
+    let lt = block.low x.0 (rank_before v e) (contains_at ranks k x.0 x.1) (contains_at before k (rank_before v e) old) in
+    omega (arith, same, lt)))
     (λ d c. (let k = (is.left d).0 c in
-        let a = number d.0 (slice_get_within p.members d.0 k.1.0 k.1.2) in
-        let b = number d.1 (slice_get_within p.members d.1 k.1.1 k.1.3) in
-        let lt = is.falls d c in
-        omega (arith, a, b, lt)))
+    let a = number d.0 (slice_get_within p.members d.0 k.1.0 k.1.2) in
+    let b = number d.1 (slice_get_within p.members d.1 k.1.1 k.1.3) in
+    let lt = is.falls d c in
+    omega (arith, a, b, lt)))
   where
     each : length ranks ≡ length p.members
     each = ap length block.made ∙ (map_length (λ n. block.base + n) p.numbers ∙ len)

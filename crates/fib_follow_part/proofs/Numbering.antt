@@ -1,11 +1,10 @@
 -- Places in an order as numbers that fall along edges.
-use Rattle.std.proofs.Common.{arith, ◌≡◌, ℕ, zero, suc, ◌+◌, ◌<◌, ◌≤◌, Bool, true, false, List, [], ◌∷◌, length, inl, inr, refl, sym, ◌∙◌, ap, subst}
+use Rattle.std.proofs.Common.{arith, ◌≡◌, ℕ, zero, suc, ◌<◌, ◌≤◌, List, [], ◌∷◌, length, inl, inr, refl, sym, ◌∙◌, ap}
 use Rattle.std.specs.Prelude.{Contains, slice_index, slice_index_or}
 use Rattle.std.specs.List.{AllByRecursion}
 use Rattle.std.proofs.lemmas.Bool.{cases_eq}
-use Rattle.fib_base_list.proofs.Lists.{Contains-nil}
 use Rattle.fib_reach.proofs.Places.{length-le_from_differ}
-use Rattle.fib_resolve_changes.proofs.Edits.{in_cases, in_front, in_rest}
+use Rattle.fib_resolve_changes.proofs.Edits.{in_front, in_rest}
 use Rattle.fib_entries_rows.proofs.Ranking.{AreRanked}
 
 upto : ℕ → List ℕ

@@ -1,14 +1,14 @@
 -- What a search has seen is a part; which of its paths are looped, and which edges are left.
-use Rattle.std.proofs.Common.{arith, ◌≡◌, ℕ, ◌<◌, Bool, true, false, not, ◌&&◌, ◌==◌, List, [], ◌∷◌, map, length, Some, ◌⊎◌, inl, inr, refl, sym, ◌∙◌, ap, ap₂, subst, ◌↔◌, slice_get}
+use Rattle.std.proofs.Common.{arith, ◌≡◌, ℕ, ◌<◌, Bool, true, false, not, ◌&&◌, ◌==◌, List, [], ◌∷◌, map, length, inl, inr, refl, sym, ◌∙◌, ap, ap₂, subst}
 use Rattle.std.specs.Prelude.{Contains, filter, slice_index}
 use Rattle.std.specs.Set.{is_member}
 use Rattle.std.proofs.lemmas.Bool.{false≢true}
 use Rattle.std.proofs.lemmas.Bool.Decides.{nat_tests}
 use Rattle.std.proofs.lemmas.Map.Made.{is_member-Decides}
-use Rattle.fib_base_list.proofs.Lists.{either, Contains-nil, Contains-flat_map}
+use Rattle.fib_base_list.proofs.Lists.{Contains-nil, Contains-flat_map}
 use Rattle.fib_addr.specs.Prefixes.{Prefix, host, same_prefix}
 use Rattle.fib_addr.proofs.PrefixLaws.{same_prefix-Decides}
-use Rattle.fib_reach.specs.Walks.{AllDiffer, Leads, Next}
+use Rattle.fib_reach.specs.Walks.{Leads, Next}
 use Rattle.fib_reach.proofs.Walking.{leads-map}
 use Rattle.fib_loops.specs.Loops.{AreEdges, IsLooped}
 use Rattle.fib_resolve.specs.Loops.{is_kept, kind_targets, looped, looped_kind, targets, Kept}
@@ -21,13 +21,12 @@ use Rattle.fib_resolve.proofs.Covering.{filter_from, filter_in}
 use Rattle.fib_resolve.proofs.KeptEdges.{kept_target}
 use Rattle.fib_resolve.proofs.LoopTests.{looped-Decides}
 use Rattle.fib_resolve.proofs.PairLaws.{cover_short}
-use Rattle.fib_resolve_changes.specs.Ranks.{wakes}
 use Rattle.fib_resolve_changes.specs.Reached.{IsReached}
 use Rattle.fib_resolve_changes.proofs.Edits.{in_cases, in_front}
 use Rattle.fib_resolve_changes.proofs.SamePairs.{flat_map_from}
-use Rattle.fib_entries_rows.specs.inner.Building.{AreKeptEdges, IsKeptEdge}
+use Rattle.fib_entries_rows.specs.inner.Building.{AreKeptEdges}
 use Rattle.fib_entries_rows.specs.inner.Edges.{ArePlaces}
-use Rattle.fib_entries_rows.specs.inner.Looping.{AreEdgesAmong, AreLoopedEnds, AreLoops, has_ends}
+use Rattle.fib_entries_rows.specs.inner.Looping.{AreEdgesAmong, AreLoopedEnds, has_ends}
 use Rattle.fib_entries_rows.specs.inner.Reaching.{kind_loops}
 use Rattle.fib_entries_rows.proofs.Edging.{places_join}
 use Rattle.fib_entries_rows.proofs.KeptEdges.{none_looped}
@@ -36,9 +35,9 @@ use Rattle.fib_entries_rows.proofs.PartRows.{kept_wakes, wakes_kept}
 use Rattle.std.proofs.lemmas.Option.{slice_get_within}
 use Rattle.fib_base_interned.proofs.Finding.{contains_at}
 use Rattle.fib_follow_view.specs.Views.{Seen, IsAfter, anew_prefix, is_changed}
-use Rattle.fib_follow_view.specs.inner.Told.{next_before, next_in}
+use Rattle.fib_follow_view.specs.inner.Told.{next_in}
 use Rattle.fib_follow_view.proofs.After.{next_after, next_was}
-use Rattle.fib_follow_part.specs.Parts.{Part, IsPart, in_part}
+use Rattle.fib_follow_part.specs.Parts.{IsPart}
 use Rattle.fib_follow_part.specs.inner.Searched.{IsSearched, is_left, is_left_end, left_at}
 
 same_if : (b c : Bool) → (b ≡ true → c ≡ true) → (c ≡ true → b ≡ true) → b ≡ c

@@ -15,8 +15,8 @@ use Rattle.fib_entries_rows.specs.inner.Building.{AreKeptEdges}
 use Rattle.fib_entries_rows.specs.inner.Reaching.{kind_loops}
 use Rattle.fib_follow_view.specs.Views.{Seen, is_changed}
 
--- the members; the edges that lie on cycles by their ends, and those that are left without looped paths by their places among the members; a
--- number for each member
+-- the members; the edges that lie on cycles by their ends, and those that are left without looped paths by their places among the members;
+-- a number for each member
 pub record Part : Type 0 where
   pub members : List Prefix
   pub loops : List (Prefix × Prefix)
@@ -26,8 +26,8 @@ pub record Part : Type 0 where
 abbrev pub in_part : Part → Prefix → Bool
 in_part p e = is_member same_prefix p.members e
 
--- the part has what was made anew and all to which it leads in the tables before and after; of its paths those are looped that the tables after
--- have so, the edges that are left without these are listed, and the numbers fall along them
+-- the part has what was made anew and all to which it leads in the tables before and after; of its paths those are looped that the tables
+-- after have so, the edges that are left without these are listed, and the numbers fall along them
 pub record IsPart (v : Seen) (S T : Tables) (p : Part) : Type 0 where
   pub once : AllDiffer p.members
   pub reached : IsReached S T (is_changed v.changed) (in_part p)

@@ -3,7 +3,8 @@ ghost use Rattle.std.specs.Prelude.{◌≡◌, ◌<◌, ◌^◌, ◌||◌, ◌&&
 ghost use Rattle.fib_addr.specs.Prefixes.{Prefix as PrefixValue};
 ghost use Rattle.fib_loops.specs.Loops.{AreEdges};
 ghost use Rattle.fib_reach.specs.Walks.{AllDiffer};
-ghost use Rattle.fib_entries_rows.specs.inner.Looping.{AddsEdge, AddsEdges, AreEdgesAmong, AreLoopedEnds, AreMarkedEnds, has_ends, same_ends};
+ghost use Rattle.fib_entries_rows.specs.inner.Looping.{AddsEdge, AddsEdges, AreEdgesAmong, AreLoopedEnds, AreMarkedEnds};
+ghost use Rattle.fib_entries_rows.specs.inner.Looping.{has_ends, same_ends};
 ghost use Rattle.fib_follow_view.specs.inner.Told.{next_in};
 ghost use Rattle.fib_follow_part.specs.inner.Searched.{is_left, is_left_end};
 
@@ -109,11 +110,7 @@ fn marked(
 }
 
 /// The ends of those of the edges that lie on cycles.
-pub fn on_cycles(
-    alloc: Global,
-    order: &[Prefix],
-    edges: &[(u32, u32)],
-) -> Result<Ends, AllocError>
+pub fn on_cycles(alloc: Global, order: &[Prefix], edges: &[(u32, u32)]) -> Result<Ends, AllocError>
     requires { AreEdges (length order.now) edges.now }
     ensures { IfOk result (λ s. AreLoopedEnds order.now edges.now s.keys) }
 {

@@ -1,5 +1,6 @@
 // Ranks that fall in a part.
-ghost use Rattle.std.specs.Prelude.{◌≡◌, ◌<◌, ◌≤◌, ◌+◌, ◌^◌, ◌⊎◌, ℕ, true, map, length, Contains, IfOk, IfSome, IfNone, slice_index, nat_lt};
+ghost use Rattle.std.specs.Prelude.{◌≡◌, ◌<◌, ◌≤◌, ◌+◌, ◌^◌, ◌⊎◌, ℕ, true, map, length, Contains, slice_index, nat_lt};
+ghost use Rattle.std.specs.Prelude.{IfOk, IfSome, IfNone};
 ghost use Rattle.std.specs.List.{list_all};
 ghost use Rattle.fib_resolve.specs.declared.types.Tables.{Tables as TablesValue};
 ghost use Rattle.fib_follow_view.specs.Views.{IsAfter};
@@ -24,11 +25,7 @@ fn rank_before(view: &View<'_>, e: Prefix) -> u32
     }
 }
 
-fn ranks_before(
-    alloc: Global,
-    view: &View<'_>,
-    members: &[Prefix],
-) -> Result<Vec<u32>, AllocError>
+fn ranks_before(alloc: Global, view: &View<'_>, members: &[Prefix]) -> Result<Vec<u32>, AllocError>
     ensures { IfOk result (λ v. v.items ≡ map (rank_before view.now) members.now) }
 {
     members.iter().map(|e| rank_before(view, *e)).collect(alloc)
@@ -103,14 +100,10 @@ fn block(alloc: Global, ranks: &[u32], numbers: &[u32]) -> Result<Option<Vec<u32
     Ok(Some(made))
 }
 
-/// Ranks of the part's members, in their order, with which ranks fall after the change, and no entry of before is raised: as they were, with `TOP`
-/// for a new entry, where these fall inside the part; else a block below them. None where a rank would fall below 0, which takes a member whose
-/// rank is less than their number.
-pub fn ranks(
-    alloc: Global,
-    view: &View<'_>,
-    part: &Part,
-) -> Result<Option<Vec<u32>>, AllocError>
+/// Ranks of the part's members, in their order, with which ranks fall after the change, and no entry of before is raised: as they were, with
+/// `TOP` for a new entry, where these fall inside the part; else a block below them. None where a rank would fall below 0, which takes a
+/// member whose rank is less than their number.
+pub fn ranks(alloc: Global, view: &View<'_>, part: &Part) -> Result<Option<Vec<u32>>, AllocError>
     ensures some { IfOk result (λ o. IfSome o (λ v. (S T : TablesValue) → IsAfter view.now S T → IsPart view.now S T part.now
         → AreRanks view.now S T part.now v.items)) }
     ensures none { IfOk result (λ o. IfNone o (IsLow view.now part.now)) }

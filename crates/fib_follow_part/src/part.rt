@@ -61,12 +61,7 @@ fn kind_loops(loops: &Ends, e: Prefix, kind: PathKind) -> bool
     }
 }
 
-fn loops_of(
-    alloc: Global,
-    loops: &Ends,
-    e: Prefix,
-    paths: &[Path],
-) -> Result<Vec<bool>, AllocError>
+fn loops_of(alloc: Global, loops: &Ends, e: Prefix, paths: &[Path]) -> Result<Vec<bool>, AllocError>
     ensures { IfOk result (λ v. v.items ≡ map (λ q. kind_loops loops.now.keys e q.kind) paths.now) }
 {
     paths
@@ -126,12 +121,7 @@ impl Part {
     }
 
     /// For each path of a member's chosen list, whether it is looped after the change.
-    pub fn looped(
-        &self,
-        alloc: Global,
-        view: &View<'_>,
-        e: Prefix,
-    ) -> Result<Vec<bool>, AllocError>
+    pub fn looped(&self, alloc: Global, view: &View<'_>, e: Prefix) -> Result<Vec<bool>, AllocError>
         ensures value { IfOk result (λ v. v.items ≡ map (λ q. kind_loops self.now.loops e q.kind) (chosen_in view.now e)) }
         ensures after { IfOk result (λ v. (S T : TablesValue) → IsAfter view.now S T → IsPart view.now S T self.now
             → in_part self.now e ≡ true → v.items ≡ map (λ q. looped_kind T e q.kind) (chosen T e)) }

@@ -1,18 +1,16 @@
 -- What the entries tell of the tables after a change.
-use Rattle.std.proofs.Common.{arith, ◌≡◌, ℕ, ◌<◌, ◌≤◌, Bool, true, false, not, List, [], ◌∷◌, map, Option, Some, None, inl, inr, refl, sym, ◌∙◌, ap, subst, ◌↔◌}
+use Rattle.std.proofs.Common.{arith, ◌≡◌, ℕ, ◌<◌, true, false, not, List, [], ◌∷◌, map, Option, Some, None, inl, inr, refl, sym, ◌∙◌, ap, subst}
 use Rattle.std.specs.Prelude.{Contains}
-use Rattle.std.specs.Set.{is_member}
 use Rattle.std.proofs.lemmas.Bool.{false≢true}
 use Rattle.std.proofs.lemmas.List.Elements.{All-contains, All-from_recursion}
-use Rattle.std.proofs.lemmas.Map.Made.{is_member-Decides}
 use Rattle.fib_base_list.proofs.Lists.{either, Contains-nil}
 use Rattle.fib_addr.specs.Prefixes.{Prefix, host, same_prefix}
 use Rattle.fib_addr.proofs.PrefixLaws.{same_prefix-Decides}
-use Rattle.fib_resolve.specs.Keys.{source_rank, is_derived_source}
+use Rattle.fib_resolve.specs.Keys.{source_rank}
 use Rattle.fib_resolve.specs.Forwarding.{is_met, is_attached_list}
 use Rattle.fib_resolve.specs.Loops.{targets}
 use Rattle.fib_resolve.specs.Tables.{IsSound}
-use Rattle.fib_resolve.specs.Pairs.{pairs, chosen, cover, entries, is_derived}
+use Rattle.fib_resolve.specs.Pairs.{pairs, chosen, cover, is_derived}
 use Rattle.fib_resolve.specs.declared.pairs.Pair.{Pair}
 use Rattle.fib_resolve.specs.declared.types.Need.{Need}
 use Rattle.fib_resolve.specs.declared.types.Need.TheVariants as needs
@@ -25,11 +23,11 @@ use Rattle.fib_resolve.proofs.Touching.{IsBest}
 use Rattle.fib_resolve_changes.specs.Ranks.{has_entry}
 use Rattle.fib_resolve_changes.specs.Sources.{SameEntry, SamePairs}
 use Rattle.fib_resolve_changes.proofs.CauseLaws.{any_from}
-use Rattle.fib_resolve_changes.proofs.Edits.{any_in, in_cases, in_front, in_rest}
-use Rattle.fib_resolve_changes.proofs.SamePairs.{map_from, map_in, same_chosen, same_derived}
+use Rattle.fib_resolve_changes.proofs.Edits.{any_in, in_cases, in_front}
+use Rattle.fib_resolve_changes.proofs.SamePairs.{map_in, same_chosen, same_derived}
 use Rattle.fib_resolve_changes.proofs.Targets.{pair_entry}
 use Rattle.fib_resolve_pairs.specs.Numbers.{goal_of}
-use Rattle.fib_base_interned.proofs.Finding.{find_place, contains_at, none_some, some_is}
+use Rattle.fib_base_interned.proofs.Finding.{find_place, contains_at, none_some}
 use Rattle.fib_follow_view.specs.Views.{AreBetterFirst, Seen, IsAfter, IsMade, anew_prefix, is_changed, made_of}
 use Rattle.fib_follow_view.specs.declared.view.Anew.{Anew}
 use Rattle.fib_follow_view.specs.inner.Told.{are_some, chosen_by, chosen_in, cover_by, derived_by, derived_in, derived_pairs, entry_by, entry_in, first_paths, goals_by, goals_in, kind_goal, met_in, next_before, next_in}

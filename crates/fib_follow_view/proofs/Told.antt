@@ -1,19 +1,15 @@
 -- What rows tell of the entries before a change.
-use Rattle.std.proofs.Common.{arith, ◌≡◌, ℕ, ◌<◌, ◌≤◌, Bool, true, false, ◌==◌, List, [], ◌∷◌, ◌++◌, map, flat_map, Option, Some, None, cond, nat_lt, ◌⊎◌, inl, inr, refl, sym, ◌∙◌, ap, ap₂, subst, ◌↔◌}
+use Rattle.std.proofs.Common.{arith, ◌≡◌, ℕ, ◌<◌, false, ◌==◌, List, [], ◌∷◌, ◌++◌, map, flat_map, Option, Some, None, cond, ◌⊎◌, inl, inr, refl, sym, ◌∙◌, ap, ap₂, subst}
 use Rattle.std.specs.Prelude.{Contains, option_to_list}
-use Rattle.std.specs.List.{AllByRecursion, list_any}
 use Rattle.std.proofs.lemmas.Bool.{false≢true, lt-ltb}
-use Rattle.std.proofs.lemmas.Bool.Decides.{nat_tests}
 use Rattle.std.proofs.lemmas.List.Elements.{All-contains, All-from_recursion}
-use Rattle.fib_base_list.proofs.Lists.{either, Contains-nil}
-use Rattle.fib_addr.specs.Prefixes.{Prefix, host, same_prefix}
-use Rattle.fib_addr.proofs.PrefixLaws.{same_prefix-Decides}
+use Rattle.fib_base_list.proofs.Lists.{Contains-nil}
+use Rattle.fib_addr.specs.Prefixes.{Prefix}
 use Rattle.fib_resolve.specs.Aims.{kind_aim, marked, marked_list}
 use Rattle.fib_resolve.specs.Keys.{source_rank, is_derived_source}
 use Rattle.fib_resolve.specs.Loops.{kind_targets, targets}
 use Rattle.fib_resolve.specs.Pairs.{pairs, best_pair, chosen, cover, is_derived, is_derived_pair}
 use Rattle.fib_resolve.specs.Tables.{IsSound}
-use Rattle.fib_resolve.specs.declared.aims.Marked.{Marked}
 use Rattle.fib_resolve.specs.declared.pairs.Pair.{Pair}
 use Rattle.fib_resolve.specs.declared.types.FibSource.{FibSource}
 use Rattle.fib_resolve.specs.declared.types.Path.{Path}
@@ -22,14 +18,13 @@ use Rattle.fib_resolve.specs.declared.types.PathKind.TheVariants as kinds
 use Rattle.fib_resolve.specs.declared.types.Tables.{Tables}
 use Rattle.fib_resolve.proofs.Entries.{chosen-no_entry}
 use Rattle.fib_resolve.proofs.OneList.{one_list}
-use Rattle.fib_resolve.proofs.PairLaws.{cover_at_host, cover_short}
+use Rattle.fib_resolve.proofs.PairLaws.{cover_short}
 use Rattle.fib_resolve.proofs.Touching.{best_of, best_paths_same, BestOf, IsBest}
 use Rattle.fib_resolve_changes.specs.Ranks.{has_entry}
 use Rattle.fib_resolve_changes.proofs.Edits.{in_cases, in_front, in_rest}
 use Rattle.fib_resolve_changes.proofs.Targets.{pair_entry}
 use Rattle.fib_resolve_pairs.specs.Numbers.{goal_of}
-use Rattle.fib_base_interned.proofs.Finding.{none_some}
-use Rattle.fib_entries_rows.specs.Known.{Known, StandsFor, ArePairs, AreBestFirst, IsHeld, row_of, content_of}
+use Rattle.fib_entries_rows.specs.Known.{Known, StandsFor, ArePairs, IsHeld, row_of}
 use Rattle.fib_entries_rows.specs.Rows.{Row}
 use Rattle.fib_entries_rows.proofs.Standing.{row_entry, no_entry, pairs_at, never_none, marked_at}
 use Rattle.fib_follow_view.specs.inner.Told.{aim_goal, chosen_row, cover_aim, cover_in, cover_row, derived_row, first_derived, first_of, goals_row, is_row, kind_goal, list_first, paths_in}

@@ -1,5 +1,5 @@
 -- The entries as they are after a change: those that were made anew, and beside them those of before.
-use Rattle.std.specs.Prelude.{◌≡◌, ◌↔◌, ◌<◌, ℕ, Bool, List, [], ◌∷◌, map, find, Contains, Option}
+use Rattle.std.specs.Prelude.{◌≡◌, ◌↔◌, ◌<◌, Bool, List, [], ◌∷◌, map, find, Contains, Option}
 use Rattle.std.specs.List.{AllByRecursion}
 use Rattle.std.specs.Set.{is_member}
 use Rattle.fib_addr.specs.Prefixes.{Prefix, same_prefix}
@@ -38,8 +38,8 @@ pub record IsMade (T : Tables) (x : Anew) : Type 0 where
   pub pairs : (y : Pair) → Contains x.pairs y ↔ Contains (pairs T) y × (x.prefix ≡ y.prefix)
   pub cover : x.prefix.len ≡ 32 → x.cover ≡ cover T x.prefix.bits
 
--- the tables before a change, for which the entries stand, and those after it: what was made anew is of these, and each entry beside it is the
--- same in both
+-- the tables before a change, for which the entries stand, and those after it: what was made anew is of these, and each entry beside it is
+-- the same in both
 pub record IsAfter (v : Seen) (S T : Tables) : Type 0 where
   pub stands : StandsFor v.before S
   pub sound : IsSound T

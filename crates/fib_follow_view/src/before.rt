@@ -21,8 +21,8 @@ use fib_resolve::Path;
 use std::alloc::{AllocError, Global};
 use std::marker::Model;
 
-/// The entries before a change: their rows, the path-lists that these name, their prefixes, and the size of the tables. Contracts see the rows,
-/// the lists and the size; `StandsFor` says of which tables they are.
+/// The entries before a change: their rows, the path-lists that these name, their prefixes, and the size of the tables. Contracts see the
+/// rows, the lists and the size; `StandsFor` says of which tables they are.
 pub struct Before<'a> {
     rows: &'a Blocks<Row>,
     lists: &'a PathLists,

@@ -2,7 +2,8 @@
 ghost use Rattle.std.specs.Prelude.{◌≡◌, map, IfOk};
 ghost use Rattle.fib_resolve.specs.Forwarding.{is_attached_list};
 ghost use Rattle.fib_entries_rows.specs.inner.Compare.{AreKept};
-ghost use Rattle.fib_follow_view.specs.inner.Told.{aim_goal, are_some, cover_aim, cover_in, derived_pairs, first_derived, first_paths, kind_goal, list_first};
+ghost use Rattle.fib_follow_view.specs.inner.Told.{aim_goal, are_some, cover_aim, cover_in, derived_pairs};
+ghost use Rattle.fib_follow_view.specs.inner.Told.{first_derived, first_paths, kind_goal, list_first};
 
 use fib_addr::Prefix;
 use fib_paths::{PathListId, PathLists};
@@ -96,7 +97,10 @@ pub fn kind_goals(
 ) -> Result<Vec<Option<Prefix>>, AllocError>
     ensures { IfOk result (λ v. v.items ≡ map (λ p. kind_goal cover p.kind) paths.now) }
 {
-    paths.iter().map(|p| kind_goal(cover, p.kind)).collect(alloc)
+    paths
+        .iter()
+        .map(|p| kind_goal(cover, p.kind))
+        .collect(alloc)
 }
 
 /// The entry at which packets go on, where it is a cover: all others are hosts.

@@ -1,5 +1,6 @@
 -- What rows and entries that were made anew tell of a prefix. No contract of a public call rests on this.
-use Rattle.std.specs.Prelude.{◌≡◌, ◌==◌, ℕ, nat_lt, Bool, true, false, not, List, [], ◌∷◌, map, flat_map, option_to_list, Option, Some, None, if◌then◌else◌}
+use Rattle.std.specs.Prelude.{◌≡◌, ℕ, nat_lt, Bool, true, false, not, List, [], ◌∷◌, map, flat_map}
+use Rattle.std.specs.Prelude.{option_to_list, Option, Some, None, if◌then◌else◌}
 use Rattle.fib_addr.specs.Prefixes.{Prefix, host}
 use Rattle.fib_cover.specs.Covers.{IsAscending}
 use Rattle.fib_resolve.specs.Forwarding.{is_attached_list}

@@ -1,8 +1,7 @@
-use Rattle.std.proofs.Common.{arith, ◌≡◌, ◌<◌, ℕ, Option, Some, None, length, map, ap, ap₂, subst, sym, ◌∙◌}
+use Rattle.std.proofs.Common.{arith, ◌<◌, ℕ, Option, Some, None, length, map, ap, ap₂, subst, sym, ◌∙◌}
 use Rattle.std.specs.Prelude.{Contains, IfNone, IfSome}
 use Rattle.std.specs.List.{list_all}
 use Rattle.std.proofs.lemmas.Result.{IfOk-weaker}
-use Rattle.fib_addr.specs.Prefixes.{Prefix}
 use Rattle.fib_resolve.specs.declared.types.Tables.{Tables}
 use Rattle.fib_resolve_changes.proofs.SamePairs.{map_from}
 use Rattle.fib_follow_view.specs.Views.{IsAfter}

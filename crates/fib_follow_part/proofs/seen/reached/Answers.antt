@@ -1,4 +1,4 @@
-use Rattle.std.proofs.Common.{map, ap, subst, sym}
+use Rattle.std.proofs.Common.{map, subst, sym}
 use Rattle.std.specs.Prelude.{Contains}
 use Rattle.fib_entries_rows.proofs.Seeing.{more_in}
 use Rattle.fib_follow_view.specs.Views.{anew_prefix}

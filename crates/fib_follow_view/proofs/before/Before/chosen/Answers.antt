@@ -1,4 +1,4 @@
-use Rattle.std.proofs.Common.{◌≡◌, map, ap, ap₂, refl, subst, sym, ◌∙◌}
+use Rattle.std.proofs.Common.{ap, ap₂, subst, sym, ◌∙◌}
 use Rattle.fib_entries_rows.specs.inner.Compare.{AreKept}
 use Rattle.fib_follow_view.specs.inner.Told.{chosen_row, list_first}
 use Rattle.fib_follow_view.proofs.Told.{row_chosen}

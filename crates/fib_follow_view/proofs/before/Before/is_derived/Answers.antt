@@ -1,4 +1,4 @@
-use Rattle.std.proofs.Common.{◌≡◌, map, ap, ap₂, refl, subst, sym, ◌∙◌}
+use Rattle.std.proofs.Common.{ap, ◌∙◌}
 use Rattle.fib_follow_view.specs.inner.Told.{derived_row, first_derived}
 use Rattle.fib_follow_view.proofs.Told.{row_derived}
 use Rattle.fib_follow_view.proofs.before.Before.is_derived.Goals as goal

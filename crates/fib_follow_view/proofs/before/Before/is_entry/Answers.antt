@@ -1,4 +1,4 @@
-use Rattle.std.proofs.Common.{◌≡◌, map, ap, ap₂, refl, subst, sym, ◌∙◌}
+use Rattle.std.proofs.Common.{ap, ◌∙◌}
 use Rattle.fib_follow_view.specs.inner.Told.{is_row}
 use Rattle.fib_follow_view.proofs.Told.{row_is}
 use Rattle.fib_follow_view.proofs.before.Before.is_entry.Goals as goal

@@ -1,4 +1,4 @@
-use Rattle.std.proofs.Common.{◌≡◌, map, None, ap, ap₂, refl, subst, sym, ◌∙◌}
+use Rattle.std.proofs.Common.{None, ap, ◌∙◌}
 use Rattle.fib_follow_view.specs.inner.Told.{chosen_by, first_paths}
 use Rattle.fib_follow_view.proofs.After.{chosen_after}
 use Rattle.fib_follow_view.proofs.view.View.chosen.Goals as goal

@@ -1,4 +1,4 @@
-use Rattle.std.proofs.Common.{◌≡◌, map, None, ap, ap₂, refl, subst, sym, ◌∙◌}
+use Rattle.std.proofs.Common.{None, ap, ◌∙◌}
 use Rattle.fib_follow_view.specs.inner.Told.{derived_by, derived_pairs}
 use Rattle.fib_follow_view.proofs.After.{derived_after}
 use Rattle.fib_follow_view.proofs.view.View.is_derived.Goals as goal

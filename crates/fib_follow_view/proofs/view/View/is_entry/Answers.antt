@@ -1,4 +1,4 @@
-use Rattle.std.proofs.Common.{◌≡◌, map, None, ap, ap₂, refl, subst, sym, ◌∙◌}
+use Rattle.std.proofs.Common.{None, ap, ◌∙◌}
 use Rattle.fib_follow_view.specs.inner.Told.{are_some, entry_by}
 use Rattle.fib_follow_view.proofs.After.{entry_after}
 use Rattle.fib_follow_view.proofs.view.View.is_entry.Goals as goal
