@@ -5,21 +5,22 @@ use std::alloc::Global;
 use std::test::Fail;
 
 /// The keys from 0 on, each twice its place.
-fn evens(alloc: Global, count: u32) -> Option<Keyed<u32>> {
+fn evens(alloc: Global, count: u16) -> Option<Keyed<u32>> {
     let mut keys = Keyed::new(alloc);
     for number in 0..count {
-        keys = keys.with_last(2 * number)?;
+        keys = keys.with_last(2 * u32::from(number))?;
     }
     Some(keys)
 }
 
-fn goes_and_comes_back(keys: Keyed<u32>, place: usize) -> Option<Keyed<u32>> {
+fn goes_and_comes_back(keys: Keyed<u32>, number: u16) -> Option<Keyed<u32>> {
     let mut left = keys;
+    let place = usize::from(number);
     if place >= left.len() {
         return None;
     }
     let gone = left.take_out(place);
-    let key = 2 * place as u32;
+    let key = 2 * u32::from(number);
     let is_gone = left.place_of(key) == left.len();
     let back = left.with_again(place, key, gone)?;
     if is_gone && back.place_of(key) == place {
@@ -55,8 +56,8 @@ fn keys_come_back(rt: HostRuntime) -> Result<(), Fail> {
     let Some(mut keys) = evens(rt.alloc(), 600) else {
         return Err("no keys".into());
     };
-    for place in 0..600 {
-        let Some(back) = goes_and_comes_back(keys, place) else {
+    for number in 0..600 {
+        let Some(back) = goes_and_comes_back(keys, number) else {
             return Err("a key is elsewhere".into());
         };
         keys = back;
