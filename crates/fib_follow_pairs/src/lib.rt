@@ -1,0 +1,4 @@
+//! The pairs of one prefix, made anew from tables.
+#![tactic(auto)]
+
+mod base;
