@@ -1,11 +1,11 @@
 -- The base pairs of a prefix, source by source.
 use Rattle.std.proofs.Common.{arith, ◌≡◌, ◌≢◌, ℕ, suc, ◌+◌, ◌-◌, ◌<◌, ◌≤◌, ◌==◌, ◌&&◌, Bool, true, false, cond, List, [], ◌∷◌, ◌++◌, map, filter, length, Option, Some, None, ◌⊎◌, inl, inr, refl, sym, ◌∙◌, ap, subst, ◌↔◌}
 use Rattle.std.specs.Prelude.{Contains, flat_map, find, nat_lt, nat_le}
-use Rattle.std.specs.List.{AllByRecursion, list_any}
+use Rattle.std.specs.List.{All, AllByRecursion, list_any}
 use Rattle.std.proofs.lemmas.Bool.{false≢true, ltb-true, ltb-false, lt-ltb}
 use Rattle.std.proofs.lemmas.Bool.Decides.{Decides-eqb}
-use Rattle.std.proofs.lemmas.List.Elements.{All-contains, All-from_recursion, Contains-append_left, Contains-append_right, Contains-append_cases}
-use Rattle.fib_base_list.proofs.Lists.{either, each-weaker, Contains-flat_map, Contains-nil}
+use Rattle.std.proofs.lemmas.List.Elements.{recursion_from_All, All-contains, All-from_recursion, Contains-append_left, Contains-append_right, Contains-append_cases}
+use Rattle.fib_base_list.proofs.Lists.{either, each-filter, each-weaker, Contains-flat_map, Contains-nil}
 use Rattle.fib_base_list.proofs.Booleans.{and_both}
 use Rattle.fib_base_interned.proofs.Finding.{contains_at, find_place, find_none}
 use Rattle.fib_addr.specs.Longest.{everything}
@@ -202,7 +202,7 @@ module _ (S : Tables) (sound : IsSound S) (p : Prefix) where
   ]
 
   -- a route of it
-  found_route : (s : FibSource) (rs : List Route) (q : Path) (qs : List Path) → paths_at p s rs ≡ q ∷ qs → (r : Route) × Contains rs r × (r.prefix ≡ p) × (r.source ≡ s) × (r.paths ≡ q ∷ qs)
+  pub found_route : (s : FibSource) (rs : List Route) (q : Path) (qs : List Path) → paths_at p s rs ≡ q ∷ qs → (r : Route) × Contains rs r × (r.prefix ≡ p) × (r.source ≡ s) × (r.paths ≡ q ∷ qs)
   found_route s [] q qs h = absurd (cc)
   found_route s (r ∷ rs) q qs h = elim (either (is_route p s r)) [
     | inl is ↦ (let both = and_both (same_prefix r.prefix p) (source_rank r.source == source_rank s) is in
@@ -210,7 +210,7 @@ module _ (S : Tables) (sound : IsSound S) (p : Prefix) where
     | inr isnt ↦ (let f = found_route s rs q qs (rw isnt at h) in (f.0, in_rest r f.0 rs f.1, f.2, f.3, f.4))
   ]
 
-  no_route : (s : FibSource) (rs : List Route) → AllByRecursion (λ r. 0 < length r.paths) rs → paths_at p s rs ≡ [] → (r : Route) → Contains rs r → r.prefix ≡ p → r.source ≡ s → ⊥
+  pub no_route : (s : FibSource) (rs : List Route) → AllByRecursion (λ r. 0 < length r.paths) rs → paths_at p s rs ≡ [] → (r : Route) → Contains rs r → r.prefix ≡ p → r.source ≡ s → ⊥
   no_route s [] some none r c on of = Contains-nil r c
   no_route s (x ∷ xs) some none r c on of = elim (either (is_route p s x)) [
     | inl is ↦ (let few : length x.paths ≡ 0 = ap length (rw is at none) in let more = some.0 in omega (arith, few, more))
@@ -374,3 +374,6 @@ module _ (S : Tables) (sound : IsSound S) (p : Prefix) where
       let four_done = skipped (base_pairs S) p sources.Adjacency 4 (special_at p ++ own ++ api ++ cli) three_done (no_late sources.Adjacency (omega arith) (omega arith)) refl in
       let five_done = skipped (base_pairs S) p sources.RecursiveResolution 5 (special_at p ++ own ++ api ++ cli) four_done (no_late sources.RecursiveResolution (omega arith) (omega arith)) refl in
       finished (base_pairs S) p (special_at p ++ own ++ api ++ cli ++ default_at p) (joined (base_pairs S) p sources.DefaultRoute 6 (special_at p ++ own ++ api ++ cli) (default_at p) five_done default_part refl)
+
+pub each_short : (xs : List Address) (test : Address → Bool) → All (λ a. a.len ≤ 32) xs → AllByRecursion (λ a. a.len ≤ 32) (filter test xs)
+each_short xs test h = each-weaker (λ a. (a.len ≤ 32) × (test a ≡ true)) (λ a. a.len ≤ 32) (λ a k. k.0) (filter test xs) (each-filter (λ a. a.len ≤ 32) test xs (recursion_from_All (λ a. a.len ≤ 32) xs h))

@@ -12,9 +12,9 @@ use Rattle.fib_addr.specs.Prefixes.{Prefix, same_prefix, host}
 use Rattle.fib_addr.proofs.PrefixLaws.{same_fields, same_prefix-Decides}
 use Rattle.fib_resolve.specs.Edits.{paths_at}
 use Rattle.fib_resolve.specs.Keys.{source_rank}
-use Rattle.fib_resolve.specs.Pairs.{base_pairs, pairs, one, attached_by, attached_of, best_pair, cover, derived_kind, derived_pair, is_interface, neighbor_pairs, paths_of, recursive_hops, recursive_of}
+use Rattle.fib_resolve.specs.Pairs.{base_pairs, pairs, one, attached_by, attached_of, best_pair, cover, derived_kind, derived_pair, is_interface, neighbor_pairs, paths_of, recursive_hops, recursive_of, route_pair}
 use Rattle.fib_resolve.specs.Resolution.{is_neighbor, mac_of}
-use Rattle.fib_resolve.specs.Tables.{IsSound, is_route}
+use Rattle.fib_resolve.specs.Tables.{IsSound, IsSoundRoute, is_route}
 use Rattle.fib_resolve.specs.declared.pairs.Pair.{Pair}
 use Rattle.fib_resolve.specs.declared.types.FibSource.{FibSource}
 use Rattle.fib_resolve.specs.declared.types.FibSource.TheVariants as sources
@@ -32,7 +32,7 @@ use Rattle.fib_resolve_changes.proofs.Edits.{in_cases, in_front, in_rest, any_in
 use Rattle.fib_resolve_changes.proofs.SamePairs.{Origin, origin, from_origin, base, neighbor, derived, near_from, near_host, near_is, near_pair, derived_host, flat_map_from}
 use Rattle.fib_follow_pairs.specs.Fresh.{AreByRank, ArePairsAt}
 use Rattle.fib_follow_pairs.specs.inner.Parts.{IsPart, AreFirst, near_with, near_at, hop_at, leads_to, is_way, paths_in}
-use Rattle.fib_follow_pairs.proofs.BaseParts.{base_origin, base_rank, one_pair, one_base_pair, sound_route}
+use Rattle.fib_follow_pairs.proofs.BaseParts.{base_origin, base_rank, one_pair, one_base_pair, sound_route, from_base_origin, route, no_route, found_route}
 use Rattle.fib_follow_pairs.proofs.Joining.{there, nowhere, joined, skipped, finished}
 
 -- a neighbor is there where it has a MAC
@@ -210,3 +210,82 @@ module _ (S : Tables) (sound : IsSound S) where
 pub attached_through : (S : Tables) (a : ℕ) → attached_at S (cover S a) ≡ attached_by S a
 unfolding attached_by
 attached_through S a = refl
+
+-- a route's own list
+own_paths : (S : Tables) → IsSound S → (r : Route) → Contains S.routes r → paths_at r.prefix r.source S.routes ≡ r.paths
+own_paths S sound r c = by (paths_at r.prefix r.source S.routes) refl
+  where
+    some : AllByRecursion (λ q. 0 < length q.paths) S.routes
+    some = each-weaker (IsSoundRoute (length S.interfaces)) (λ q. 0 < length q.paths) (λ q h. h.some) S.routes sound.routes
+
+    by : (ps : List Path) → paths_at r.prefix r.source S.routes ≡ ps → ps ≡ r.paths
+    by [] e = absurd (no_route S sound r.prefix r.source S.routes some e r c refl refl)
+    by (q ∷ qs) e =
+        let f = found_route S sound r.prefix r.source S.routes q qs e in
+        let own = from_base_origin S (route_pair r) (route r c refl) in
+        let other = from_base_origin S (route_pair f.0) (route f.0 f.1 refl) in
+        sym f.4 ∙ ap (λ z. z.paths) (one_base_pair S sound (route_pair f.0) (route_pair r) other own f.2 f.3)
+
+to_hop : (o : Option ℕ) (a : ℕ) → is_interface o a ≡ true → o ≡ Some a
+to_hop None a h = absurd (false≢true h)
+to_hop (Some b) a h = ap Some (sym ((Decides-eqb a b).0 h))
+
+from_hop : (o : Option ℕ) (a : ℕ) → o ≡ Some a → is_interface o a ≡ true
+from_hop o a e = ap (λ z. is_interface z a) e ∙ (Decides-eqb a a).1 refl
+
+hop_in : (ps : List Path) (p : Path) (a : ℕ) → Contains ps p → recursive_of p ≡ Some a → Contains (filter_map recursive_of ps) a
+hop_in [] p a c e = absurd (Contains-nil p c)
+hop_in (q ∷ qs) p a c e = by (recursive_of q) refl (λ later. hop_in qs p a later e)
+  where
+    by : (o : Option ℕ) → recursive_of q ≡ o → (Contains qs p → Contains (filter_map recursive_of qs) a) → Contains (filter_map recursive_of (q ∷ qs)) a
+    by None f rest = elim (in_cases q p qs c) [ inl is ↦ absurd (let bad : Some a ≡ None = sym e ∙ ap recursive_of (sym is) ∙ f in cc) | inr later ↦ rw f (rest later) ]
+    by (Some b) f rest = elim (in_cases q p qs c) [
+      | inl is ↦ rw f (in_front b a (filter_map recursive_of qs) (let both : Some b ≡ Some a = sym f ∙ ap recursive_of is ∙ e in cc))
+      | inr later ↦ rw f (in_rest b a (filter_map recursive_of qs) (rest later))
+    ]
+
+abbrev HasHop : List Path → ℕ → Type 0
+HasHop ps a = (p : Path) × Contains ps p × (recursive_of p ≡ Some a)
+
+hop_from : (ps : List Path) (a : ℕ) → Contains (filter_map recursive_of ps) a → HasHop ps a
+hop_from [] a c = absurd (Contains-nil a c)
+hop_from (q ∷ qs) a c = by (recursive_of q) refl (λ d. (let r = hop_from qs a d in (r.0, in_rest q r.0 qs r.1, r.2)))
+  where
+    by : (o : Option ℕ) → recursive_of q ≡ o → (Contains (filter_map recursive_of qs) a → HasHop (q ∷ qs) a) → HasHop (q ∷ qs) a
+    by None f rest = rest (rw f at c)
+    by (Some b) f rest = elim (in_cases b a (filter_map recursive_of qs) (rw f at c)) [ inl is ↦ (q, in_front q q qs refl, f ∙ ap Some is) | inr later ↦ rest later ]
+
+module _ (S : Tables) (sound : IsSound S) (a : ℕ) where
+  led : (q : Prefix) (s : FibSource) → list_any (leads_to a) (paths_at q s S.routes) ≡ true → Contains (all_hops S) a
+  led q s h = by (paths_at q s S.routes) refl (any_from (leads_to a) (paths_at q s S.routes) h)
+    where
+      by : (ps : List Path) → paths_at q s S.routes ≡ ps → (p : Path) × Contains (paths_at q s S.routes) p × (leads_to a p ≡ true) → Contains (all_hops S) a
+      by [] e w = absurd (Contains-nil w.0 (subst (λ l. Contains l w.0) e w.1))
+      by (p ∷ ps) e w =
+          let f = found_route S sound q s S.routes p ps e in
+          let there_too = subst (λ l. Contains l w.0) (e ∙ sym f.4) w.1 in
+          Contains-flat_map recursive_hops S.routes f.0 a f.1 (hop_in f.0.paths w.0 a there_too (to_hop (recursive_of w.0) a w.2))
+
+  leads : (r : Route) (s : FibSource) → r.source ≡ s → Contains S.routes r → Contains (recursive_hops r) a → list_any (leads_to a) (paths_at r.prefix s S.routes) ≡ true
+  leads r s is c h =
+      let w = hop_from r.paths a h in
+      let own : paths_at r.prefix s S.routes ≡ r.paths = ap (λ z. paths_at r.prefix z S.routes) (sym is) ∙ own_paths S sound r c in
+      any_in (leads_to a) (paths_at r.prefix s S.routes) w.0 (subst (λ l. Contains l w.0) (sym own) w.1) (from_hop (recursive_of w.0) a w.2)
+
+  way_of : (r : Route) → Contains S.routes r → Contains (recursive_hops r) a → is_way S a r.prefix ≡ true
+  way_of r c h = elim (sound_route S sound r c).written [
+    | inl api ↦ or_left (list_any (leads_to a) (paths_at r.prefix sources.Api S.routes)) _ (leads r sources.Api api c h)
+    | inr cli ↦ or_right (list_any (leads_to a) (paths_at r.prefix sources.Api S.routes)) (list_any (leads_to a) (paths_at r.prefix sources.Cli S.routes)) (leads r sources.Cli cli c h)
+  ]
+
+  -- an address is a next hop exactly where one of the routes' prefixes has it
+  pub ways_are : (among : List Prefix) → ((r : Route) → Contains S.routes r → Contains (recursive_hops r) a → Contains among r.prefix)
+      → IsTrue (list_any (is_way S a) among) ↔ Contains (all_hops S) a
+  ways_are among known = (
+    λ h. (let w = any_from (is_way S a) among h in
+        elim (or_cases (list_any (leads_to a) (paths_at w.0 sources.Api S.routes)) (list_any (leads_to a) (paths_at w.0 sources.Cli S.routes)) w.2) [
+          | inl api ↦ led w.0 sources.Api api
+          | inr cli ↦ led w.0 sources.Cli cli
+        ]),
+    λ c. (let r = flat_map_from recursive_hops S.routes a c in any_in (is_way S a) among r.0.prefix (known r.0 r.1 r.2) (way_of r.0 r.1 r.2)),
+  )

@@ -1,11 +1,15 @@
 // The base pairs of one prefix.
-ghost use Rattle.std.specs.Prelude.{◌≡◌, ◌∷◌, ◌++◌, ◌≤◌, [], Contains, IfOk, OnOk, find, option_copied};
+ghost use Rattle.std.specs.Prelude.{◌≡◌, ◌∷◌, ◌++◌, ◌≤◌, [], IfOk, OnOk, find, option_copied};
 ghost use Rattle.std.specs.List.{AllByRecursion, list_any};
-ghost use Rattle.fib_resolve.specs.Pairs.{is_address, one, plain};
-ghost use Rattle.fib_follow_pairs.specs.inner.Parts.{is_special, special_at, is_connected, is_edge, connected_at, host_at, own_at, written_at, default_at};
+ghost use Rattle.fib_resolve.specs.Pairs.{base_pairs, is_address, one, plain};
+ghost use Rattle.fib_resolve_changes.specs.Looked.{attached_at};
+ghost use Rattle.fib_follow_pairs.specs.Fresh.{ArePairsAt};
+ghost use Rattle.fib_follow_pairs.specs.inner.Parts.{is_special, special_at, is_connected, is_edge, connected_at, host_at, own_at, written_at, default_at, base_at, paths_in};
 
 use fib_addr::{Addr, Prefix};
+use fib_config::Config;
 use fib_resolve::{Address, FibSource, List, Need, Pair, Path, PathKind};
+use fib_resolve_pairs::attached_of;
 use std::alloc::{AllocError, Global};
 
 /// Appends the prefix's pair of one plain path.
@@ -189,4 +193,60 @@ fn add_default(out: &mut Vec<Pair>, alloc: Global, prefix: Prefix) -> Result<(),
         add(out, alloc, prefix, FibSource::DefaultRoute, PathKind::Drop)?;
     }
     Ok(())
+}
+
+/// All of them by look-ups, in the order of sources.
+#[tactic(auto, unfolding(crate::specs::inner::Parts::base_at))]
+fn looked_up(alloc: Global, config: &Config, prefix: Prefix) -> Result<Vec<Pair>, AllocError>
+    ensures { IfOk result (λ v. v.items ≡ base_at config.now.tables prefix) }
+{
+    // Read so that the proof knows that the tables are sound.
+    let _tables = config.tables();
+    let addresses = config.addresses_at(prefix)?;
+    let mut out = Vec::new(alloc);
+    add_special(&mut out, alloc, prefix)?;
+    add_own(&mut out, alloc, prefix, addresses.as_slice())?;
+    let api = config.paths_of(prefix, FibSource::Api);
+    add_written(&mut out, alloc, prefix, FibSource::Api, api)?;
+    let cli = config.paths_of(prefix, FibSource::Cli);
+    add_written(&mut out, alloc, prefix, FibSource::Cli, cli)?;
+    add_default(&mut out, alloc, prefix)?;
+    Ok(out)
+}
+
+/// The prefix's pairs that depend on no cover: of every table, of interfaces' addresses, and of its routes. Each source once, the best
+/// first. It takes a few look-ups by key. An error means that memory ran out.
+#[tactic(auto, using(crate::proofs::BaseParts::base_is))]
+pub fn base_pairs(alloc: Global, config: &Config, prefix: Prefix) -> Result<Vec<Pair>, AllocError>
+    ensures { IfOk result (λ v. ArePairsAt (base_pairs config.now.tables) prefix v.items) }
+{
+    // Read so that the proof knows that the tables are sound and how long a prefix is.
+    let _tables = config.tables();
+    let _len = prefix.len();
+    looked_up(alloc, config, prefix)
+}
+
+/// The paths of the first pair.
+fn first_paths(pairs: &[Pair]) -> &[Path]
+    ensures { result.now ≡ paths_in pairs.now }
+{
+    match pairs {
+        [x, ..] => x.paths.as_slice(),
+        [] => &[],
+    }
+}
+
+/// The interface to which the prefix's best base pair attaches the addresses that it covers, if it does. An error means that memory ran out.
+#[tactic(auto, using(crate::proofs::Hosted::attached_first))]
+pub fn attached_at(
+    alloc: Global,
+    config: &Config,
+    prefix: Prefix,
+) -> Result<Option<u32>, AllocError>
+    ensures { IfOk result (λ o. o ≡ attached_at config.now.tables prefix) }
+{
+    // Read so that the proof knows that the tables are sound.
+    let _tables = config.tables();
+    let pairs = base_pairs(alloc, config, prefix)?;
+    Ok(attached_of(first_paths(pairs.as_slice())))
 }

@@ -2,3 +2,7 @@
 #![tactic(auto)]
 
 mod base;
+mod host;
+
+pub use base::{attached_at, base_pairs};
+pub use host::{Host, host_pairs, host_under, is_next_hop};
