@@ -289,3 +289,7 @@ module _ (S : Tables) (sound : IsSound S) (a : ℕ) where
         ]),
     λ c. (let r = flat_map_from recursive_hops S.routes a c in any_in (is_way S a) among r.0.prefix (known r.0 r.1 r.2) (way_of r.0 r.1 r.2)),
   )
+
+-- a prefix of length 32 is that of its address
+pub host_again : (S : Tables) (p : Prefix) (xs : List Pair) → p.len ≡ 32 → ArePairsAt (pairs S) (host p.bits) xs → ArePairsAt (pairs S) p xs
+host_again S p xs long h = subst (λ q. ArePairsAt (pairs S) q xs) (same_fields (host p.bits) p (refl, sym long)) h

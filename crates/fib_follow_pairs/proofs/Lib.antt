@@ -1,3 +1,4 @@
 pub mod Joining
 pub mod BaseParts
 pub mod Hosted
+pub mod Made

@@ -2,7 +2,9 @@
 #![tactic(auto)]
 
 mod base;
+mod fresh;
 mod host;
 
 pub use base::{attached_at, base_pairs};
+pub use fresh::{Fresh, FreshEntry, made_anew, pairs};
 pub use host::{Host, host_pairs, host_under, is_next_hop};

@@ -17,6 +17,7 @@ use Rattle.fib_resolve.specs.declared.types.Route.{Route}
 use Rattle.fib_resolve.specs.declared.types.Tables.{Tables}
 use Rattle.fib_resolve_changes.specs.Affected.{is_own}
 use Rattle.fib_follow_pairs.specs.Fresh.{AreByRank}
+use Rattle.fib_follow_pairs.specs.declared.host.Host.{Host}
 
 -- the prefix's pair of that source among all these, if there is one
 pub record IsPart (all : List Pair) (e : Prefix) (s : FibSource) (xs : List Pair) : Type 0 where
@@ -96,3 +97,7 @@ is_way S a q = list_any (leads_to a) (paths_at q sources.Api S.routes) || list_a
 abbrev pub paths_in : List Pair → List Path
 paths_in [] = []
 paths_in (x ∷ xs) = x.paths
+
+abbrev pub cover_in : Option Host → Option Prefix
+cover_in None = None
+cover_in (Some h) = Some h.cover
