@@ -1,15 +1,15 @@
 -- The base pairs of a prefix, source by source.
-use Rattle.std.proofs.Common.{arith, ◌≡◌, ◌≢◌, ℕ, suc, ◌+◌, ◌-◌, ◌<◌, ◌≤◌, ◌==◌, ◌&&◌, Bool, true, false, cond, List, [], ◌∷◌, ◌++◌, map, filter, length, Option, Some, None, ◌⊎◌, inl, inr, refl, sym, ◌∙◌, ap, subst, ◌↔◌}
-use Rattle.std.specs.Prelude.{Contains, flat_map, find, nat_lt, nat_le}
+use Rattle.std.proofs.Common.{arith, ◌≡◌, ◌≢◌, ℕ, ◌<◌, ◌≤◌, ◌==◌, Bool, true, false, cond, List, [], ◌∷◌, ◌++◌, map, filter, length, Option, Some, None, ◌⊎◌, inl, inr, refl, sym, ◌∙◌, ap, subst, ◌↔◌}
+use Rattle.std.specs.Prelude.{Contains, flat_map, find, nat_lt}
 use Rattle.std.specs.List.{All, AllByRecursion, list_any}
-use Rattle.std.proofs.lemmas.Bool.{false≢true, ltb-true, ltb-false, lt-ltb}
+use Rattle.std.proofs.lemmas.Bool.{false≢true, ltb-true, ltb-false}
 use Rattle.std.proofs.lemmas.Bool.Decides.{Decides-eqb}
 use Rattle.std.proofs.lemmas.List.Elements.{recursion_from_All, All-contains, All-from_recursion, Contains-append_left, Contains-append_right, Contains-append_cases}
 use Rattle.fib_base_list.proofs.Lists.{either, each-filter, each-weaker, Contains-flat_map, Contains-nil}
 use Rattle.fib_base_list.proofs.Booleans.{and_both}
-use Rattle.fib_base_interned.proofs.Finding.{contains_at, find_place, find_none}
+use Rattle.fib_base_interned.proofs.Finding.{contains_at, find_place}
 use Rattle.fib_addr.specs.Longest.{everything}
-use Rattle.fib_addr.specs.Prefixes.{Prefix, IsPrefix, same_prefix, masked, host, size_of}
+use Rattle.fib_addr.specs.Prefixes.{Prefix, same_prefix, masked, host}
 use Rattle.fib_addr.proofs.PrefixLaws.{same_fields, same_prefix-Decides}
 use Rattle.fib_resolve.specs.Edits.{paths_at}
 use Rattle.fib_resolve.specs.Keys.{source_rank}
@@ -25,13 +25,13 @@ use Rattle.fib_resolve.specs.declared.types.Route.{Route}
 use Rattle.fib_resolve.specs.declared.types.Tables.{Tables}
 use Rattle.fib_resolve.proofs.Covering.{filter_in, filter_from}
 use Rattle.fib_resolve.proofs.OneList.{one_list, source_by_rank}
-use Rattle.fib_resolve_changes.specs.Affected.{own_prefixes, is_own}
+use Rattle.fib_resolve_changes.specs.Affected.{is_own}
 use Rattle.fib_resolve_changes.proofs.Addresses.{single, its_own, edge_of, edge_in, edges_own}
 use Rattle.fib_resolve_changes.proofs.CauseLaws.{any_from}
 use Rattle.fib_resolve_changes.proofs.Edits.{in_cases, in_front, in_rest, any_in, clash}
 use Rattle.fib_resolve_changes.proofs.SamePairs.{map_in, map_from, flat_map_from, from_origin, base}
 use Rattle.fib_follow_pairs.specs.Fresh.{ArePairsAt}
-use Rattle.fib_follow_pairs.specs.inner.Parts.{IsPart, AreFirst, special_prefixes, is_special, special_at, is_connected, is_edge, connected_at, host_at, own_at, written_at, default_at, base_at}
+use Rattle.fib_follow_pairs.specs.inner.Parts.{IsPart, special_prefixes, is_special, special_at, is_connected, is_edge, connected_at, host_at, own_at, written_at, default_at, base_at}
 use Rattle.fib_follow_pairs.proofs.Joining.{there, nowhere, none_first, joined, skipped, finished}
 
 -- where a base pair comes from

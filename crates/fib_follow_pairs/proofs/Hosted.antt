@@ -1,20 +1,19 @@
 -- The pairs of a prefix, those of a neighbor and of a next hop among them.
-use Rattle.std.proofs.Common.{arith, ◌≡◌, ◌≢◌, ℕ, suc, ◌+◌, ◌<◌, ◌≤◌, ◌==◌, ◌&&◌, ◌||◌, Bool, true, false, cond, List, [], ◌∷◌, ◌++◌, map, length, Option, Some, None, ◌⊎◌, inl, inr, refl, sym, ◌∙◌, ap, subst, ◌↔◌}
+use Rattle.std.proofs.Common.{arith, ◌≡◌, ℕ, ◌<◌, ◌≤◌, ◌==◌, Bool, true, false, List, [], ◌∷◌, ◌++◌, length, Option, Some, None, inl, inr, refl, sym, ◌∙◌, ap, subst, ◌↔◌}
 use Rattle.std.specs.Prelude.{Contains, find, option_map, filter_map, IsTrue}
 use Rattle.std.specs.List.{AllByRecursion, list_any}
-use Rattle.std.proofs.lemmas.Bool.{false≢true, cases_lt}
+use Rattle.std.proofs.lemmas.Bool.{false≢true}
 use Rattle.std.proofs.lemmas.Bool.Decides.{Decides-eqb}
 use Rattle.fib_base_list.proofs.Lists.{either, each-weaker, Contains-flat_map, Contains-nil}
 use Rattle.fib_base_list.proofs.Booleans.{and_both, or_cases, or_left, or_right}
 use Rattle.fib_base_interned.proofs.Finding.{contains_at, find_place}
-use Rattle.fib_addr.specs.Longest.{everything}
-use Rattle.fib_addr.specs.Prefixes.{Prefix, same_prefix, host}
-use Rattle.fib_addr.proofs.PrefixLaws.{same_fields, same_prefix-Decides}
+use Rattle.fib_addr.specs.Prefixes.{Prefix, host}
+use Rattle.fib_addr.proofs.PrefixLaws.{same_fields}
 use Rattle.fib_resolve.specs.Edits.{paths_at}
 use Rattle.fib_resolve.specs.Keys.{source_rank}
 use Rattle.fib_resolve.specs.Pairs.{base_pairs, pairs, one, attached_by, attached_of, best_pair, cover, derived_kind, derived_pair, is_interface, neighbor_pairs, paths_of, recursive_hops, recursive_of, route_pair}
 use Rattle.fib_resolve.specs.Resolution.{is_neighbor, mac_of}
-use Rattle.fib_resolve.specs.Tables.{IsSound, IsSoundRoute, is_route}
+use Rattle.fib_resolve.specs.Tables.{IsSound, IsSoundRoute}
 use Rattle.fib_resolve.specs.declared.pairs.Pair.{Pair}
 use Rattle.fib_resolve.specs.declared.types.FibSource.{FibSource}
 use Rattle.fib_resolve.specs.declared.types.FibSource.TheVariants as sources
@@ -29,7 +28,7 @@ use Rattle.fib_resolve_changes.specs.Looked.{attached_at}
 use Rattle.fib_resolve_changes.specs.Sources.{HasNeighbor, all_hops}
 use Rattle.fib_resolve_changes.proofs.CauseLaws.{any_from}
 use Rattle.fib_resolve_changes.proofs.Edits.{in_cases, in_front, in_rest, any_in, clash}
-use Rattle.fib_resolve_changes.proofs.SamePairs.{Origin, origin, from_origin, base, neighbor, derived, near_from, near_host, near_is, near_pair, derived_host, flat_map_from}
+use Rattle.fib_resolve_changes.proofs.SamePairs.{Origin, origin, from_origin, base, neighbor, derived, near_from, near_is, flat_map_from}
 use Rattle.fib_follow_pairs.specs.Fresh.{AreByRank, ArePairsAt}
 use Rattle.fib_follow_pairs.specs.inner.Parts.{IsPart, AreFirst, near_with, near_at, hop_at, leads_to, is_way, paths_in}
 use Rattle.fib_follow_pairs.proofs.BaseParts.{base_origin, base_rank, one_pair, one_base_pair, sound_route, from_base_origin, route, no_route, found_route}

@@ -1,5 +1,5 @@
 -- The pairs of a prefix, joined source by source.
-use Rattle.std.proofs.Common.{arith, ◌≡◌, ℕ, suc, ◌+◌, ◌<◌, ◌≤◌, List, [], ◌∷◌, ◌++◌, length, append-nil, inl, inr, refl, sym, ◌∙◌, ap, subst}
+use Rattle.std.proofs.Common.{arith, ◌≡◌, ℕ, ◌+◌, ◌<◌, ◌≤◌, List, [], ◌∷◌, ◌++◌, length, append-nil, inl, inr, sym, ◌∙◌, ap, subst}
 use Rattle.std.specs.Prelude.{Contains}
 use Rattle.std.specs.List.{AllByRecursion}
 use Rattle.std.proofs.lemmas.Bool.{cases_lt}
@@ -70,7 +70,7 @@ pub joined : (all : List Pair) (e : Prefix) (s : FibSource) (d : ℕ) (xs ys : L
 joined all e s d xs ys h k rank = record {
   by_rank = append_by_rank xs ys d h.by_rank h.below (single_by_rank ys k.single) (each-weaker (λ y. s ≡ y.source) (λ y. d ≤ source_rank y.source) (λ y is. (let r = ap source_rank is in omega (arith, r, rank))) ys k.sources);
   below = each-append (λ y. source_rank y.source < d + 1) xs ys (each-weaker (λ y. source_rank y.source < d) (λ y. source_rank y.source < d + 1) (λ y lt. omega (arith, lt)) xs h.below)
-    (each-weaker (λ y. s ≡ y.source) (λ y. source_rank y.source < d + 1) (λ y is. (let r = ap source_rank is in omega (arith, r, rank))) ys k.sources);
+      (each-weaker (λ y. s ≡ y.source) (λ y. source_rank y.source < d + 1) (λ y is. (let r = ap source_rank is in omega (arith, r, rank))) ys k.sources);
   are = λ x. (
     λ c. elim (Contains-append_cases xs ys x c) [
       | inl old ↦ (let r = (h.are x).0 old in (r.0, r.1, omega (arith, r.2)))

@@ -1,11 +1,9 @@
 -- What is made anew of a prefix is what tables have of it.
-use Rattle.std.proofs.Common.{arith, length, ◌≡◌, ◌≢◌, ◌<◌, ℕ, Bool, true, false, List, [], ◌∷◌, Option, Some, None, inl, inr, refl, sym, ◌∙◌, ap}
-use Rattle.std.specs.Prelude.{Contains}
-use Rattle.std.specs.List.{list_any}
+use Rattle.std.proofs.Common.{arith, length, ◌≡◌, ◌≢◌, true, false, List, [], ◌∷◌, Option, Some, None, inl, inr, refl, sym, ◌∙◌}
 use Rattle.fib_base_list.proofs.Lists.{either, Contains-nil}
 use Rattle.fib_addr.specs.Prefixes.{Prefix, same_prefix}
 use Rattle.fib_addr.proofs.PrefixLaws.{same_prefix-Decides}
-use Rattle.fib_resolve.specs.Pairs.{pairs, cover}
+use Rattle.fib_resolve.specs.Pairs.{pairs}
 use Rattle.fib_resolve.specs.declared.pairs.Pair.{Pair}
 use Rattle.fib_resolve.specs.declared.types.Tables.{Tables}
 use Rattle.fib_resolve.proofs.Entries.{is_entry}
@@ -13,7 +11,7 @@ use Rattle.fib_resolve_changes.specs.Ranks.{has_entry}
 use Rattle.fib_resolve_changes.proofs.CauseLaws.{any_from}
 use Rattle.fib_resolve_changes.proofs.Edits.{in_front}
 use Rattle.fib_resolve_changes.proofs.Targets.{pair_entry}
-use Rattle.fib_follow_pairs.specs.Fresh.{ArePairsAt, IsAround, IsCover, IsHost}
+use Rattle.fib_follow_pairs.specs.Fresh.{ArePairsAt, IsAround, IsCover}
 use Rattle.fib_follow_pairs.specs.inner.Parts.{cover_in}
 use Rattle.fib_follow_pairs.specs.declared.host.Host.{Host}
 

@@ -45,9 +45,7 @@ fn has_way(config: &Config, addr: Addr, among: &[Prefix]) -> bool
     ensures { result ≡ list_any (is_way config.now.tables addr) among.now }
 {
     match among {
-        [prefix, others @ ..] => {
-            is_way(config, addr, *prefix) || has_way(config, addr, others)
-        }
+        [prefix, others @ ..] => { is_way(config, addr, *prefix) || has_way(config, addr, others) }
         [] => false,
     }
 }

@@ -1,4 +1,4 @@
-use Rattle.std.proofs.Common.{◌≡◌, ◌∙◌, [], length, sym, ap}
+use Rattle.std.proofs.Common.{◌∙◌, length, sym}
 use Rattle.std.proofs.lemmas.Bool.Decides.{Decides-eqb}
 use Rattle.fib_follow_pairs.proofs.Made.{none_left, nil_of}
 use Rattle.fib_follow_pairs.proofs.fresh.made_anew.Goals as goal
