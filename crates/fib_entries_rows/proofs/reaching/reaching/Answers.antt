@@ -45,18 +45,18 @@ returns c =
         content = c.content-old.ensures;
         prefix = m.prefix;
         written = m.written;
-        far = subst (λ (l : List Neighbor). list_all (λ n. nat_lt n.addr (2 ^ 32)) l ≡ true) c.as_slice.ensures (sym c.are_small.ensures ∙ c.if-not-are_small.false);
+        far = sym c.are_small.ensures ∙ c.if-not-are_small.false;
         loose = subst (λ (l : List Path). (c.args.to.now.prefix.len ≡ 32) ⊎ ((attached_of c.content-old.result.now ≡ None) × (attached_of l ≡ None))) list quiet.0;
         needs = λ long. quiet.1 long ∙ ap is_attached_list list;
         some = λ none. false≢true (sym c.if-is_none.false ∙ c.is_none.ensures.1 (list ∙ none));
         plain_before = suited.0;
         beside_before = suited.1;
         hops_before = subst (λ (l : List Path). shared_gone c.args.rows.now c.args.lists.now c.args.order.now c.args.to.now.prefix c.in-Some-gone_of.gone (but_hops l c.content-old.result.now)) list
-            (subst (λ (l : List Path). shared_gone c.args.rows.now c.args.lists.now c.args.order.now c.args.to.now.prefix c.in-Some-gone_of.gone l) (c.as_slice-3.ensures.value ∙ c.in_ok-stale.ensures) c.in-Some-gone_of.ensures);
+            (subst (λ (l : List Path). shared_gone c.args.rows.now c.args.lists.now c.args.order.now c.args.to.now.prefix c.in-Some-gone_of.gone l) (c.as_slice-2.ensures.value ∙ c.in_ok-stale.ensures) c.in-Some-gone_of.ensures);
         unhidden = λ g q paths is there content. c.is_in_rest.ensures c.if-is_in_rest.false g (c.args.to.now.source, c.in-Some.at.1) m.rest q paths is (ap (λ (z : Row). z.pairs) here ∙ m.pairs) there content;
         plain = subst (λ (l : List Path). list_all is_plain l ≡ true) list fit.0;
         beside = subst (λ (l : List Path). list_all (path_beside c.args.to.now.prefix) l ≡ true) list fit.1;
         hops = subst (λ (l : List Path). shared_late c.args.rows.now c.args.lists.now c.args.order.now c.args.to.now.prefix c.in-Some-late_of.late (but_hops c.content-old.result.now l)) list
-            (subst (λ (l : List Path). shared_late c.args.rows.now c.args.lists.now c.args.order.now c.args.to.now.prefix c.in-Some-late_of.late l) (c.as_slice-2.ensures.value ∙ c.in_ok-fresh.ensures) c.in-Some-late_of.ensures);
+            (subst (λ (l : List Path). shared_late c.args.rows.now c.args.lists.now c.args.order.now c.args.to.now.prefix c.in-Some-late_of.late l) (c.as_slice.ensures.value ∙ c.in_ok-fresh.ensures) c.in-Some-late_of.ensures);
       },
     )

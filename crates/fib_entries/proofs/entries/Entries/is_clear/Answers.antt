@@ -22,9 +22,9 @@ returns c =
       hosts = λ r there long. elim (either (contains c.args.prefix r.prefix.bits)) [
         | inr out ↦ inl out
         | inl within ↦ subst (λ (l : List Prefix). IsApart l c.args.prefix r.prefix.bits) same (c.hosts_apart.ensures is r.prefix
-            (subst (λ (l : List Prefix). Contains l r.prefix) (sym (c.as_slice-2.ensures.value ∙ c.in_ok-hosts.ensures))
+            (subst (λ (l : List Prefix). Contains l r.prefix) (sym (c.as_slice.ensures.value ∙ c.in_ok-hosts.ensures))
             (filter_in (is_inside c.args.prefix) c.self.inside.index.hosts r.prefix (c.self.invariant.indexed.hosts r there ((Decides-eqb r.prefix.len 32).1 long))
             (inside_of c.args.prefix r.prefix within (subst (λ n. n ≤ 32) c.len-len.ensures.value c.len-len.ensures.bound) long))))
       ];
-      far = λ n d. subst (λ (l : List Prefix). (n.addr < 2 ^ 32) × IsApart l c.args.prefix n.addr) same (c.neighbors_apart.ensures c.if-not-neighbors_apart.false n (subst (λ (l : List Neighbor). Contains l n) (sym c.as_slice.ensures) d));
+      far = λ n d. subst (λ (l : List Prefix). (n.addr < 2 ^ 32) × IsApart l c.args.prefix n.addr) same (c.neighbors_apart.ensures c.if-not-neighbors_apart.false n d);
     })
