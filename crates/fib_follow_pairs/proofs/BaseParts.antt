@@ -30,6 +30,7 @@ use Rattle.fib_resolve_changes.proofs.Addresses.{single, its_own, edge_of, edge_
 use Rattle.fib_resolve_changes.proofs.CauseLaws.{any_from}
 use Rattle.fib_resolve_changes.proofs.Edits.{in_cases, in_front, in_rest, any_in, clash}
 use Rattle.fib_resolve_changes.proofs.SamePairs.{map_in, map_from, flat_map_from, from_origin, base}
+use Rattle.fib_entries_rows.proofs.Telling.{from_pair}
 use Rattle.fib_follow_pairs.specs.Fresh.{ArePairsAt}
 use Rattle.fib_follow_pairs.specs.inner.Parts.{IsPart, special_prefixes, is_special, special_at, is_connected, is_edge, connected_at, host_at, own_at, written_at, default_at, base_at}
 use Rattle.fib_follow_pairs.proofs.Joining.{there, nowhere, none_first, joined, skipped, finished}
@@ -124,14 +125,6 @@ from_base_origin S x (local a c is) =
 from_base_origin S x (edge a y c e none is) =
     in_edges S x a c (Contains-flat_map (edge_pair S.addresses) (edge_addresses a) y x e (edge_in S.addresses y x none is))
 from_base_origin S x (route r c is) = in_routes S x r c is
-
-pair_with : Prefix → FibSource → List Path → Pair
-pair_with prefix source paths = record { prefix = prefix; source = source; paths = paths }
-
-from_pair : (x y : Pair) → x.prefix ≡ y.prefix → x.source ≡ y.source → x.paths ≡ y.paths → x ≡ y
-unfolding pair_with
-from_pair x y p s l =
-    ap (λ q. pair_with q x.source x.paths) p ∙ (ap (λ t. pair_with y.prefix t x.paths) s ∙ ap (λ ps. pair_with y.prefix y.source ps) l)
 
 pub one_pair : (S : Tables) → IsSound S → (x y : Pair) → Contains (pairs S) x → Contains (pairs S) y → x.prefix ≡ y.prefix → x.source ≡ y.source → x ≡ y
 one_pair S sound x y c d p s = from_pair x y p s (one_list S sound x y c d p s)

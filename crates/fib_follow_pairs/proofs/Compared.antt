@@ -1,14 +1,13 @@
 -- A row is as before exactly where what is made anew of its prefix is the same entry.
-use Rattle.std.proofs.Common.{arith, ◌≡◌, ◌<◌, ℕ, Bool, true, false, not, ◌&&◌, ◌||◌, ◌==◌, List, [], ◌∷◌, map, Option, Some, None, inl, inr, refl, sym, ◌∙◌, ap, subst, ◌↔◌}
-use Rattle.std.specs.Prelude.{Contains, IsTrue, IsSome, nat_lt}
+use Rattle.std.proofs.Common.{arith, ◌≡◌, ◌<◌, ℕ, Bool, true, false, ◌&&◌, ◌==◌, List, [], ◌∷◌, map, Option, Some, None, inl, inr, refl, sym, ◌∙◌, ap, subst, ◌↔◌}
+use Rattle.std.specs.Prelude.{Contains, IfSome, IsTrue}
 use Rattle.std.specs.List.{AllByRecursion, AllZip, list_all}
 use Rattle.std.proofs.lemmas.Bool.{false≢true, lt-ltb}
 use Rattle.std.proofs.lemmas.Bool.Decides.{Decides-eqb}
-use Rattle.fib_base_list.proofs.Lists.{either, Contains-nil}
+use Rattle.fib_base_list.proofs.Lists.{Contains-nil}
 use Rattle.fib_base_list.proofs.Booleans.{and_both}
-use Rattle.fib_base_interned.specs.Interned.{kept_of}
 use Rattle.fib_base_interned.proofs.Finding.{some_is}
-use Rattle.fib_addr.specs.Prefixes.{Prefix, host, same_prefix}
+use Rattle.fib_addr.specs.Prefixes.{Prefix, same_prefix}
 use Rattle.fib_addr.proofs.PrefixLaws.{same_prefix-Decides}
 use Rattle.fib_resolve.specs.Aims.{kind_aim, marked, marked_list}
 use Rattle.fib_resolve.specs.Keys.{source_rank}
@@ -45,8 +44,12 @@ use Rattle.fib_follow_pairs.specs.declared.fresh.Fresh.TheVariants as made
 use Rattle.fib_follow_pairs.specs.declared.fresh.FreshEntry.{FreshEntry}
 
 -- a row that is found names kept lists
-pub held_row : (rows : List Row) (lists : List PathKept) (e : Prefix) (r : Row) → AreHeld rows lists → row_of rows e ≡ Some r → AreKept lists r.pairs
+held_row : (rows : List Row) (lists : List PathKept) (e : Prefix) (r : Row) → AreHeld rows lists → row_of rows e ≡ Some r → AreKept lists r.pairs
 held_row rows lists e r h at p c = h r p (row_there rows e r at).0 c
+
+pub held_found : (rows : List Row) (lists : List PathKept) (e : Prefix) (o : Option Row) → AreHeld rows lists → o ≡ row_of rows e → IfSome o (λ r. AreKept lists r.pairs)
+held_found rows lists e None h at = tt
+held_found rows lists e (Some r) h at = held_row rows lists e r h (sym at)
 
 module _ (lists : List PathKept) where
   from_that : (x : Pair) (p : FibSource × ℕ) → is_that lists x.source x.paths p ≡ true → IsHeld lists p x
@@ -243,5 +246,7 @@ module _ (v : Known) (S T : Tables) (k : StandsFor v S) where
       by (Some r) (made.Gone e) at h = (λ t. absurd (false≢true t), λ same. absurd (not_same S T e (row_entry v S k e r at) h same.pairs))
       by (Some r) (made.Entry g) at h = (let known = known_row g.prefix r at in entry_same v.lists S T k.sound r g known.0 known.1 h)
 
-  pub unchanged_is : (f : Fresh) (b : Bool) → b ≡ row_stays v.lists (row_of v.rows (prefix_in f)) f → IsFresh T f → IsTrue b ↔ SameEntry S T (prefix_in f)
-  unchanged_is f b is h = (λ t. (row_same f h).0 (sym is ∙ t), λ same. is ∙ (row_same f h).1 same)
+  pub unchanged_is : (f : Fresh) (o : Option Row) (b : Bool) → b ≡ row_stays v.lists o f → o ≡ row_of v.rows (prefix_in f) → IsFresh T f → IsTrue b ↔ SameEntry S T (prefix_in f)
+  unchanged_is f o b is at h =
+      let told : b ≡ row_stays v.lists (row_of v.rows (prefix_in f)) f = is ∙ ap (λ z. row_stays v.lists z f) at in
+      (λ t. (row_same f h).0 (sym told ∙ t), λ same. told ∙ (row_same f h).1 same)

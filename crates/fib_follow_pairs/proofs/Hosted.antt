@@ -11,7 +11,7 @@ use Rattle.fib_addr.specs.Prefixes.{Prefix, host}
 use Rattle.fib_addr.proofs.PrefixLaws.{same_fields}
 use Rattle.fib_resolve.specs.Edits.{paths_at}
 use Rattle.fib_resolve.specs.Keys.{source_rank}
-use Rattle.fib_resolve.specs.Pairs.{base_pairs, pairs, one, attached_by, attached_of, best_pair, cover, derived_kind, derived_pair, is_interface, neighbor_pairs, paths_of, recursive_hops, recursive_of, route_pair}
+use Rattle.fib_resolve.specs.Pairs.{base_pairs, pairs, one, attached_by, attached_of, best_pair, chosen, cover, derived_kind, derived_pair, is_interface, neighbor_pairs, paths_of, recursive_hops, recursive_of, route_pair}
 use Rattle.fib_resolve.specs.Resolution.{is_neighbor, mac_of}
 use Rattle.fib_resolve.specs.Tables.{IsSound, IsSoundRoute}
 use Rattle.fib_resolve.specs.declared.pairs.Pair.{Pair}
@@ -23,7 +23,7 @@ use Rattle.fib_resolve.specs.declared.types.PathKind.TheVariants as kinds
 use Rattle.fib_resolve.specs.declared.types.Route.{Route}
 use Rattle.fib_resolve.specs.declared.types.Tables.{Tables}
 use Rattle.fib_resolve.proofs.OneList.{each-itself, source_by_rank}
-use Rattle.fib_resolve.proofs.Touching.{best_of, BestOf}
+use Rattle.fib_resolve.proofs.Touching.{best_of, best_paths_same, BestOf}
 use Rattle.fib_resolve_changes.specs.Looked.{attached_at}
 use Rattle.fib_resolve_changes.specs.Sources.{HasNeighbor, all_hops}
 use Rattle.fib_resolve_changes.proofs.CauseLaws.{any_from}
@@ -164,36 +164,40 @@ module _ (S : Tables) (sound : IsSound S) where
         let six = joined (pairs S) (host a) sources.RecursiveResolution 5 (xs ++ near) hops five (hop_part b hop) refl in
         finished (pairs S) (host a) (xs ++ near ++ hops) (skipped (pairs S) (host a) sources.DefaultRoute 6 (xs ++ near ++ hops) six no_default refl)
 
-  -- those of a shorter prefix
+  -- those of a shorter prefix depend on no cover
+  short_base : (q : Prefix) (x : Pair) → q.len < 32 → q ≡ x.prefix → Contains (pairs S) x → Contains (base_pairs S) x
+  short_base q x short on c = by (origin S x c)
+    where
+      by : Origin S x → Contains (base_pairs S) x
+      by (base own) = own
+      by (neighbor n d near) = absurd (let l = ap (λ z. z.len) (on ∙ (near_rank S n x near).1) in omega (arith, l, short))
+      by (derived b d is) = absurd (let l = ap (λ z. z.len) (on ∙ (derived_rank S b x is).1) in omega (arith, l, short))
+
   pub short_is : (p : Prefix) (xs : List Pair) → p.len < 32 → ArePairsAt (base_pairs S) p xs → ArePairsAt (pairs S) p xs
   short_is p xs short h = record {
     by_rank = h.by_rank;
     are = λ x. (
       λ c. (let r = (h.are x).0 c in (from_origin S x (base r.0), r.1)),
-      λ f. (h.are x).1 (by x f.1 (origin S x f.0), f.1),
+      λ f. (h.are x).1 (short_base p x short f.1 f.0, f.1),
     );
   }
-    where
-      by : (x : Pair) → p ≡ x.prefix → Origin S x → Contains (base_pairs S) x
-      by x on (base own) = own
-      by x on (neighbor n c near) = absurd (let l = ap (λ z. z.len) (on ∙ (near_rank S n x near).1) in omega (arith, l, short))
-      by x on (derived b c is) = absurd (let l = ap (λ z. z.len) (on ∙ (derived_rank S b x is).1) in omega (arith, l, short))
 
   -- the first is the best
-  pub first_paths : (q : Prefix) (xs : List Pair) → ArePairsAt (base_pairs S) q xs → paths_in xs ≡ paths_of (best_pair q (base_pairs S))
-  first_paths q xs h = by xs h (best_pair q (base_pairs S)) (best_of q (base_pairs S))
+  first_paths : (all : List Pair) (q : Prefix) (xs : List Pair) → ((x y : Pair) → Contains all x → Contains all y → x.prefix ≡ y.prefix → x.source ≡ y.source → x ≡ y)
+      → ArePairsAt all q xs → paths_in xs ≡ paths_of (best_pair q all)
+  first_paths all q xs unique h = by xs h (best_pair q all) (best_of q all)
     where
+      after : (y x : Pair) (zs : List Pair) → Contains zs x → AllByRecursion (λ z. source_rank y.source < source_rank z.source) zs → source_rank y.source < source_rank x.source
+      after y x [] d low = absurd (Contains-nil x d)
+      after y x (z ∷ zs) d low = elim (in_cases z x zs d) [ inl is ↦ subst (λ w. source_rank y.source < source_rank w.source) is low.0 | inr on ↦ after y x zs on low.1 ]
+
       least : (y x : Pair) (ys : List Pair) → AreByRank (y ∷ ys) → Contains (y ∷ ys) x → source_rank y.source ≤ source_rank x.source
       least y x ys k c = elim (in_cases y x ys c) [
         | inl is ↦ (let r = ap (λ z. source_rank z.source) is in omega (arith, r))
-        | inr later ↦ (let lt = after ys later k.0 in omega (arith, lt))
+        | inr later ↦ (let lt = after y x ys later k.0 in omega (arith, lt))
       ]
-        where
-          after : (zs : List Pair) → Contains zs x → AllByRecursion (λ z. source_rank y.source < source_rank z.source) zs → source_rank y.source < source_rank x.source
-          after [] d all = absurd (Contains-nil x d)
-          after (z ∷ zs) d all = elim (in_cases z x zs d) [ inl is ↦ subst (λ w. source_rank y.source < source_rank w.source) is all.0 | inr on ↦ after zs on all.1 ]
 
-      by : (ys : List Pair) → ArePairsAt (base_pairs S) q ys → (o : Option Pair) → BestOf q (base_pairs S) o → paths_in ys ≡ paths_of o
+      by : (ys : List Pair) → ArePairsAt all q ys → (o : Option Pair) → BestOf q all o → paths_in ys ≡ paths_of o
       by [] k None b = refl
       by [] k (Some x) b = absurd (Contains-nil x ((k.are x).1 (b.member, b.own)))
       by (y ∷ ys) k None b = (let r = (k.are y).0 (in_front y y ys refl) in absurd (b y r.0 r.1))
@@ -201,10 +205,20 @@ module _ (S : Tables) (sound : IsSound S) where
           let r = (k.are y).0 (in_front y y ys refl) in
           let up = least y x ys k.by_rank ((k.are x).1 (b.member, b.own)) in
           let down = b.least y r.0 r.1 in
-          ap (λ z. z.paths) (one_base_pair S sound y x r.0 b.member (sym r.1 ∙ b.own) (source_by_rank y.source x.source (omega (arith, up, down))))
+          ap (λ z. z.paths) (unique y x r.0 b.member (sym r.1 ∙ b.own) (source_by_rank y.source x.source (omega (arith, up, down))))
 
   pub attached_first : (q : Prefix) (xs : List Pair) → ArePairsAt (base_pairs S) q xs → attached_of (paths_in xs) ≡ attached_at S q
-  attached_first q xs h = ap attached_of (first_paths q xs h)
+  attached_first q xs h = ap attached_of (first_paths (base_pairs S) q xs (one_base_pair S sound) h)
+
+  pub first_is_chosen : (q : Prefix) (xs : List Pair) → ArePairsAt (pairs S) q xs → paths_in xs ≡ chosen S q
+  unfolding chosen
+  first_is_chosen q xs h = first_paths (pairs S) q xs (one_pair S sound) h
+
+  -- a prefix that can cover attaches as its chosen list says
+  pub attached_chosen : (q : Prefix) → q.len < 32 → attached_of (chosen S q) ≡ attached_at S q
+  unfolding chosen
+  attached_chosen q short = ap attached_of (best_paths_same q (pairs S) (base_pairs S) (λ x y c d own is. ap (λ z. z.paths) (one_base_pair S sound x y c d own is))
+      (λ x own. (λ c. short_base q x short own c, λ c. from_origin S x (base c))) (best_pair q (pairs S)) (best_pair q (base_pairs S)) (best_of q (pairs S)) (best_of q (base_pairs S)))
 
 pub attached_through : (S : Tables) (a : ℕ) → attached_at S (cover S a) ≡ attached_by S a
 unfolding attached_by

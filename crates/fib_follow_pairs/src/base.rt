@@ -227,7 +227,7 @@ pub fn base_pairs(alloc: Global, config: &Config, prefix: Prefix) -> Result<Vec<
 }
 
 /// The paths of the first pair.
-fn first_paths(pairs: &[Pair]) -> &[Path]
+pub fn first_paths(pairs: &[Pair]) -> &[Path]
     ensures { result.now ≡ paths_in pairs.now }
 {
     match pairs {

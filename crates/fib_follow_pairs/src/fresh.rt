@@ -1,14 +1,19 @@
 // The entry of one prefix, made anew.
 ghost use Rattle.std.specs.Prelude.{◌≡◌, ◌<◌, IfOk};
 ghost use Rattle.fib_resolve.specs.Pairs.{pairs};
+ghost use Rattle.fib_resolve.specs.Tables.{IsSound};
+ghost use Rattle.fib_resolve.specs.declared.types.Tables.{Tables as TablesValue};
+ghost use Rattle.fib_resolve_changes.specs.Looked.{attached_at};
 ghost use Rattle.fib_follow_pairs.specs.Fresh.{ArePairsAt, IsAround, IsFresh, prefix_in};
+ghost use Rattle.fib_follow_pairs.specs.inner.Compared.{paths_made};
 ghost use Rattle.fib_follow_pairs.specs.inner.Parts.{cover_in};
 
-use crate::base::base_pairs;
+use crate::base::{base_pairs, first_paths};
 use crate::host::{Host, host_pairs};
 use fib_addr::Prefix;
 use fib_config::Config;
-use fib_resolve::{List, Pair};
+use fib_resolve::{List, Pair, Path};
+use fib_resolve_pairs::attached_of;
 use std::alloc::{AllocError, Global};
 
 /// What tables have of an entry by itself.
@@ -37,6 +42,24 @@ impl Fresh {
             Fresh::Entry(entry) => entry.prefix,
             Fresh::Gone(prefix) => *prefix,
         }
+    }
+
+    /// The chosen list; empty where the prefix is no entry.
+    fn paths(&self) -> &[Path]
+        ensures { result.now ≡ paths_made self.now }
+    {
+        match self {
+            Fresh::Entry(entry) => first_paths(entry.pairs.as_slice()),
+            Fresh::Gone(_) => &[],
+        }
+    }
+
+    /// The interface to which a prefix that is shorter than 32 attaches the addresses that it covers, if it does.
+    #[tactic(auto, using(crate::proofs::Made::attached_made))]
+    pub fn attached(&self) -> Option<u32>
+        ensures { (S : TablesValue) → IsSound S → IsFresh S self.now → (prefix_in self.now).len < 32 → result ≡ attached_at S (prefix_in self.now) }
+    {
+        attached_of(self.paths())
     }
 }
 

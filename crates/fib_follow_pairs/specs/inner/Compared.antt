@@ -6,9 +6,11 @@ use Rattle.fib_resolve.specs.declared.aims.Aim.{Aim}
 use Rattle.fib_resolve.specs.declared.aims.Aim.TheVariants as aims
 use Rattle.fib_resolve.specs.declared.pairs.Pair.{Pair}
 use Rattle.fib_resolve.specs.declared.types.FibSource.{FibSource}
-use Rattle.fib_entries_rows.specs.Known.{PathKept, row_of}
+use Rattle.fib_resolve.specs.declared.types.Path.{Path}
+use Rattle.fib_entries_rows.specs.Known.{PathKept, content_of}
 use Rattle.fib_entries_rows.specs.Rows.{Row}
 use Rattle.fib_entries_rows.specs.inner.Compare.{is_that}
+use Rattle.fib_follow_pairs.specs.inner.Parts.{paths_in}
 use Rattle.fib_follow_pairs.specs.declared.fresh.Fresh.{Fresh}
 use Rattle.fib_follow_pairs.specs.declared.fresh.Fresh.TheVariants as made
 use Rattle.fib_follow_pairs.specs.declared.fresh.FreshEntry.{FreshEntry}
@@ -37,3 +39,16 @@ row_stays lists None (made.Gone e) = true
 row_stays lists None (made.Entry f) = false
 row_stays lists (Some r) (made.Gone e) = false
 row_stays lists (Some r) (made.Entry f) = entry_stays lists r f
+
+-- the chosen list
+abbrev pub paths_made : Fresh → List Path
+paths_made (made.Entry f) = paths_in f.pairs
+paths_made (made.Gone e) = []
+
+abbrev pub content_or : Option (List Path) → List Path
+content_or None = []
+content_or (Some paths) = paths
+
+abbrev pub paths_held : List PathKept → List (FibSource × ℕ) → List Path
+paths_held lists [] = []
+paths_held lists (p ∷ ps) = content_or (content_of lists p.1)
