@@ -29,7 +29,7 @@ use Rattle.fib_resolve_changes.specs.Sources.{HasNeighbor, all_hops}
 use Rattle.fib_resolve_changes.proofs.CauseLaws.{any_from}
 use Rattle.fib_resolve_changes.proofs.Edits.{in_cases, in_front, in_rest, any_in, clash}
 use Rattle.fib_resolve_changes.proofs.SamePairs.{Origin, origin, from_origin, base, neighbor, derived, near_from, near_is, flat_map_from}
-use Rattle.fib_follow_pairs.specs.Fresh.{AreByRank, ArePairsAt}
+use Rattle.fib_follow_pairs.specs.Fresh.{AreByRank, ArePairsAt, HoldsWays}
 use Rattle.fib_follow_pairs.specs.inner.Parts.{IsPart, AreFirst, near_with, near_at, hop_at, leads_to, is_way, paths_in}
 use Rattle.fib_follow_pairs.proofs.BaseParts.{base_origin, base_rank, one_pair, one_base_pair, sound_route, from_base_origin, route, no_route, found_route}
 use Rattle.fib_follow_pairs.proofs.Joining.{there, nowhere, joined, skipped, finished}
@@ -292,8 +292,7 @@ module _ (S : Tables) (sound : IsSound S) (a : ℕ) where
   ]
 
   -- an address is a next hop exactly where one of the routes' prefixes has it
-  pub ways_are : (among : List Prefix) → ((r : Route) → Contains S.routes r → Contains (recursive_hops r) a → Contains among r.prefix)
-      → IsTrue (list_any (is_way S a) among) ↔ Contains (all_hops S) a
+  pub ways_are : (among : List Prefix) → HoldsWays S a among → IsTrue (list_any (is_way S a) among) ↔ Contains (all_hops S) a
   ways_are among known = (
     λ h. (let w = any_from (is_way S a) among h in
         elim (or_cases (list_any (leads_to a) (paths_at w.0 sources.Api S.routes)) (list_any (leads_to a) (paths_at w.0 sources.Cli S.routes)) w.2) [

@@ -3,8 +3,9 @@ use Rattle.std.specs.Prelude.{◌≡◌, ◌↔◌, ◌<◌, ℕ, true, false, I
 use Rattle.std.specs.List.{AllByRecursion}
 use Rattle.fib_addr.specs.Prefixes.{Prefix}
 use Rattle.fib_resolve.specs.Keys.{source_rank}
-use Rattle.fib_resolve.specs.Pairs.{attached_by, cover, pairs}
+use Rattle.fib_resolve.specs.Pairs.{attached_by, cover, pairs, recursive_hops}
 use Rattle.fib_resolve.specs.declared.pairs.Pair.{Pair}
+use Rattle.fib_resolve.specs.declared.types.Route.{Route}
 use Rattle.fib_resolve.specs.declared.types.Tables.{Tables}
 use Rattle.fib_resolve_changes.specs.Sources.{all_hops}
 use Rattle.fib_resolve_changes.specs.Ranks.{has_entry}
@@ -28,6 +29,10 @@ pub record IsHost (S : Tables) (a : ℕ) (h : Host) : Type 0 where
   pub cover : h.cover ≡ cover S a
   pub attached : h.attached ≡ attached_by S a
   pub hop : IsTrue h.is_hop ↔ Contains (all_hops S) a
+
+-- the prefixes of all routes that have the address as next hop are among these
+abbrev pub HoldsWays : Tables → ℕ → List Prefix → Type 0
+HoldsWays S a among = (r : Route) → Contains S.routes r → Contains (recursive_hops r) a → Contains among r.prefix
 
 -- what is known of a host is given, and of a shorter prefix nothing need be
 abbrev pub IsAround : Tables → Prefix → Option Host → Type 0

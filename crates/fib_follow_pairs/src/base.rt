@@ -236,7 +236,8 @@ pub fn first_paths(pairs: &[Pair]) -> &[Path]
     }
 }
 
-/// The interface to which the prefix's best base pair attaches the addresses that it covers, if it does. An error means that memory ran out.
+/// The interface to which the prefix's best base pair attaches the addresses that it covers, if it does. An error means that memory ran
+/// out.
 #[tactic(auto, using(crate::proofs::Hosted::attached_first))]
 pub fn attached_at(
     alloc: Global,

@@ -57,7 +57,8 @@ impl Fresh {
     /// The interface to which a prefix that is shorter than 32 attaches the addresses that it covers, if it does.
     #[tactic(auto, using(crate::proofs::Made::attached_made))]
     pub fn attached(&self) -> Option<u32>
-        ensures { (S : TablesValue) → IsSound S → IsFresh S self.now → (prefix_in self.now).len < 32 → result ≡ attached_at S (prefix_in self.now) }
+        ensures { (S : TablesValue) → IsSound S → IsFresh S self.now → (prefix_in self.now).len < 32
+            → result ≡ attached_at S (prefix_in self.now) }
     {
         attached_of(self.paths())
     }

@@ -3,10 +3,9 @@ ghost use Rattle.std.specs.Prelude.{◌≡◌, ◌↔◌, ◌∷◌, ◌++◌, �
 ghost use Rattle.std.specs.List.{list_any};
 ghost use Rattle.fib_addr.specs.Prefixes.{host};
 ghost use Rattle.fib_resolve.specs.Edits.{paths_at};
-ghost use Rattle.fib_resolve.specs.Pairs.{attached_by, base_pairs, cover, derived_kind, one, pairs, recursive_hops};
-ghost use Rattle.fib_resolve.specs.declared.types.Route.{Route as RouteValue};
+ghost use Rattle.fib_resolve.specs.Pairs.{attached_by, base_pairs, cover, derived_kind, one, pairs};
 ghost use Rattle.fib_resolve_changes.specs.Sources.{all_hops};
-ghost use Rattle.fib_follow_pairs.specs.Fresh.{ArePairsAt, IsHost};
+ghost use Rattle.fib_follow_pairs.specs.Fresh.{ArePairsAt, HoldsWays, IsHost};
 ghost use Rattle.fib_follow_pairs.specs.inner.Parts.{near_at, near_with, hop_at, leads_to, is_way};
 
 use crate::base::{add, attached_at, base_pairs};
@@ -53,7 +52,7 @@ fn has_way(config: &Config, addr: Addr, among: &[Prefix]) -> bool
 /// Whether the address is a next hop of a route, chosen or hidden, where that route's prefix is among those given, which may be more.
 #[tactic(auto, using(crate::proofs::Hosted::ways_are))]
 pub fn is_next_hop(config: &Config, addr: Addr, among: &[Prefix]) -> bool
-    requires { (r : RouteValue) → Contains config.now.tables.routes r → Contains (recursive_hops r) addr → Contains among.now r.prefix }
+    requires { HoldsWays config.now.tables addr among.now }
     ensures { IsTrue result ↔ Contains (all_hops config.now.tables) addr }
 {
     // Read so that the proof knows that the tables are sound.
@@ -72,7 +71,7 @@ pub fn host_under(
     among: &[Prefix],
 ) -> Result<Host, AllocError>
     requires cover { over ≡ cover config.now.tables addr }
-    requires among { (r : RouteValue) → Contains config.now.tables.routes r → Contains (recursive_hops r) addr → Contains among.now r.prefix }
+    requires among { HoldsWays config.now.tables addr among.now }
     ensures { IfOk result (λ h. IsHost config.now.tables addr h) }
 {
     Ok(Host {

@@ -1,4 +1,8 @@
-//! The pairs of one prefix, made anew from tables.
+//! What tables have of one prefix, made anew by look-ups, and compared with what rows have of it.
+//!
+//! `base_pairs` are the pairs that depend on no cover; `pairs` are all, where for a host its cover, how that attaches it, and whether it
+//! is a next hop are known beside. `made_anew` makes a prefix's entry, or says that there is none; `is_unchanged` says whether the rows
+//! have the same. `specs/Fresh.antt` says what that is; `specs/inner` only carries proofs.
 #![tactic(auto)]
 
 mod base;

@@ -58,7 +58,10 @@ host_at p false false = []
 
 -- what the interfaces' addresses make of the prefix
 unfoldable pub own_at : Prefix → List Address → List Pair
-own_at p xs = if nat_lt p.len 32 then connected_at p (find (is_connected p) xs) else host_at p (is_address xs p.bits) (list_any (is_edge p.bits) xs)
+own_at p xs =
+    if nat_lt p.len 32
+    then connected_at p (find (is_connected p) xs)
+    else host_at p (is_address xs p.bits) (list_any (is_edge p.bits) xs)
 
 abbrev pub written_at : Prefix → FibSource → List Path → List Pair
 written_at p s [] = []
