@@ -1,0 +1,5 @@
+pub mod Joining
+pub mod BaseParts
+pub mod Hosted
+pub mod Made
+pub mod Compared
