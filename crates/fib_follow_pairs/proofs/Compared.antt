@@ -37,7 +37,8 @@ use Rattle.fib_entries_rows.proofs.Comparing.{all_pass}
 use Rattle.fib_entries_rows.proofs.Standing.{row_there, row_entry, no_entry, pairs_at}
 use Rattle.fib_entries_rows.proofs.Taking.{list_is, list_self}
 use Rattle.fib_entries_rows.proofs.Telling.{from_pair}
-use Rattle.fib_follow_pairs.specs.Fresh.{AreByRank, ArePairsAt, IsCover, IsEntry, IsFresh, prefix_in}
+use Rattle.fib_follow_view.specs.Views.{AreBetterFirst}
+use Rattle.fib_follow_pairs.specs.Fresh.{ArePairsAt, IsCover, IsEntry, IsFresh, prefix_in}
 use Rattle.fib_follow_pairs.specs.inner.Compared.{all_held, aim_stays, entry_stays, is_that_cover, row_stays}
 use Rattle.fib_follow_pairs.specs.declared.fresh.Fresh.{Fresh}
 use Rattle.fib_follow_pairs.specs.declared.fresh.Fresh.TheVariants as made
@@ -103,7 +104,7 @@ module _ (lists : List PathKept) where
   held_rank p x h = ap source_rank h.0
 
   -- lists in the order of sources that have the same members have them in the same order
-  zip_of : (ps : List (FibSource × ℕ)) (xs : List Pair) → AreBestFirst ps → AreByRank xs
+  zip_of : (ps : List (FibSource × ℕ)) (xs : List Pair) → AreBestFirst ps → AreBetterFirst xs
       → ((p : FibSource × ℕ) → Contains ps p → (x : Pair) × Contains xs x × IsHeld lists p x)
       → ((x : Pair) → Contains xs x → (p : FibSource × ℕ) × Contains ps p × IsHeld lists p x) → AllZip (IsHeld lists) ps xs
   zip_of [] [] b r f g = tt

@@ -29,7 +29,8 @@ use Rattle.fib_resolve_changes.specs.Sources.{HasNeighbor, all_hops}
 use Rattle.fib_resolve_changes.proofs.CauseLaws.{any_from}
 use Rattle.fib_resolve_changes.proofs.Edits.{in_cases, in_front, in_rest, any_in, clash}
 use Rattle.fib_resolve_changes.proofs.SamePairs.{Origin, origin, from_origin, base, neighbor, derived, near_from, near_is, flat_map_from}
-use Rattle.fib_follow_pairs.specs.Fresh.{AreByRank, ArePairsAt, HoldsWays}
+use Rattle.fib_follow_view.specs.Views.{AreBetterFirst}
+use Rattle.fib_follow_pairs.specs.Fresh.{ArePairsAt, HoldsWays}
 use Rattle.fib_follow_pairs.specs.inner.Parts.{IsPart, AreFirst, near_with, near_at, hop_at, leads_to, is_way, paths_in}
 use Rattle.fib_follow_pairs.proofs.BaseParts.{base_origin, base_rank, one_pair, one_base_pair, sound_route, from_base_origin, route, no_route, found_route}
 use Rattle.fib_follow_pairs.proofs.Joining.{there, nowhere, joined, skipped, finished}
@@ -191,7 +192,7 @@ module _ (S : Tables) (sound : IsSound S) where
       after y x [] d low = absurd (Contains-nil x d)
       after y x (z ∷ zs) d low = elim (in_cases z x zs d) [ inl is ↦ subst (λ w. source_rank y.source < source_rank w.source) is low.0 | inr on ↦ after y x zs on low.1 ]
 
-      least : (y x : Pair) (ys : List Pair) → AreByRank (y ∷ ys) → Contains (y ∷ ys) x → source_rank y.source ≤ source_rank x.source
+      least : (y x : Pair) (ys : List Pair) → AreBetterFirst (y ∷ ys) → Contains (y ∷ ys) x → source_rank y.source ≤ source_rank x.source
       least y x ys k c = elim (in_cases y x ys c) [
         | inl is ↦ (let r = ap (λ z. source_rank z.source) is in omega (arith, r))
         | inr later ↦ (let lt = after y x ys later k.0 in omega (arith, lt))

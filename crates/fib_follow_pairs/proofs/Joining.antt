@@ -13,7 +13,8 @@ use Rattle.fib_resolve.specs.declared.types.FibSource.TheVariants as sources
 use Rattle.fib_resolve.proofs.OneList.{source_by_rank}
 use Rattle.fib_resolve_changes.proofs.Addresses.{single}
 use Rattle.fib_resolve_changes.proofs.Edits.{in_front}
-use Rattle.fib_follow_pairs.specs.Fresh.{AreByRank, ArePairsAt}
+use Rattle.fib_follow_view.specs.Views.{AreBetterFirst}
+use Rattle.fib_follow_pairs.specs.Fresh.{ArePairsAt}
 use Rattle.fib_follow_pairs.specs.inner.Parts.{IsPart, AreFirst}
 
 rank_low : (s : FibSource) → source_rank s < 7
@@ -53,12 +54,12 @@ none_first all e = record {
   are = λ x. (λ c. absurd (Contains-nil x c), λ h. absurd (omega (arith, h.2)));
 }
 
-single_by_rank : (ys : List Pair) → length ys ≤ 1 → AreByRank ys
+single_by_rank : (ys : List Pair) → length ys ≤ 1 → AreBetterFirst ys
 single_by_rank [] h = tt
 single_by_rank (y ∷ []) h = (tt, tt)
 single_by_rank (y ∷ z ∷ zs) h = absurd (omega (arith, h))
 
-append_by_rank : (xs ys : List Pair) (d : ℕ) → AreByRank xs → AllByRecursion (λ x. source_rank x.source < d) xs → AreByRank ys → AllByRecursion (λ y. d ≤ source_rank y.source) ys → AreByRank (xs ++ ys)
+append_by_rank : (xs ys : List Pair) (d : ℕ) → AreBetterFirst xs → AllByRecursion (λ x. source_rank x.source < d) xs → AreBetterFirst ys → AllByRecursion (λ y. d ≤ source_rank y.source) ys → AreBetterFirst (xs ++ ys)
 append_by_rank [] ys d h b k a = k
 append_by_rank (x ∷ xs) ys d h b k a = (
   each-append (λ y. source_rank x.source < source_rank y.source) xs ys h.0 (each-weaker (λ y. d ≤ source_rank y.source) (λ y. source_rank x.source < source_rank y.source) (λ y le. (let lt = b.0 in omega (arith, lt, le))) ys a),

@@ -9,19 +9,15 @@ use Rattle.fib_resolve.specs.declared.types.Route.{Route}
 use Rattle.fib_resolve.specs.declared.types.Tables.{Tables}
 use Rattle.fib_resolve_changes.specs.Sources.{all_hops}
 use Rattle.fib_resolve_changes.specs.Ranks.{has_entry}
+use Rattle.fib_follow_view.specs.Views.{AreBetterFirst}
 use Rattle.fib_follow_pairs.specs.declared.host.Host.{Host}
 use Rattle.fib_follow_pairs.specs.declared.fresh.Fresh.{Fresh}
 use Rattle.fib_follow_pairs.specs.declared.fresh.Fresh.TheVariants as made
 use Rattle.fib_follow_pairs.specs.declared.fresh.FreshEntry.{FreshEntry}
 
--- each source is better than all behind it
-abbrev pub AreByRank : List Pair → Type 0
-AreByRank [] = Unit {0}
-AreByRank (x ∷ xs) = AllByRecursion (λ y. source_rank x.source < source_rank y.source) xs × AreByRank xs
-
 -- the prefix's pairs among all these: exactly they, one a source, the best first
 pub record ArePairsAt (all : List Pair) (e : Prefix) (xs : List Pair) : Type 0 where
-  pub by_rank : AreByRank xs
+  pub by_rank : AreBetterFirst xs
   pub are : (x : Pair) → Contains xs x ↔ Contains all x × (e ≡ x.prefix)
 
 -- what tables say of an address beside its own base pairs: its cover, how that attaches it, and whether it is a next hop

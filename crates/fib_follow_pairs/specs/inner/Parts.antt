@@ -15,7 +15,7 @@ use Rattle.fib_resolve.specs.declared.types.Path.{Path}
 use Rattle.fib_resolve.specs.declared.types.PathKind.TheVariants as kinds
 use Rattle.fib_resolve.specs.declared.types.Tables.{Tables}
 use Rattle.fib_resolve_changes.specs.Affected.{is_own}
-use Rattle.fib_follow_pairs.specs.Fresh.{AreByRank}
+use Rattle.fib_follow_view.specs.Views.{AreBetterFirst}
 use Rattle.fib_follow_pairs.specs.declared.host.Host.{Host}
 
 -- the prefix's pair of that source among all these, if there is one
@@ -26,7 +26,7 @@ pub record IsPart (all : List Pair) (e : Prefix) (s : FibSource) (xs : List Pair
 
 -- its pairs of the first sources, the best first
 pub record AreFirst (all : List Pair) (e : Prefix) (done : ℕ) (xs : List Pair) : Type 0 where
-  pub by_rank : AreByRank xs
+  pub by_rank : AreBetterFirst xs
   pub below : AllByRecursion (λ x. source_rank x.source < done) xs
   pub are : (x : Pair) → Contains xs x ↔ Contains all x × (e ≡ x.prefix) × (source_rank x.source < done)
 
