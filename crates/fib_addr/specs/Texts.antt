@@ -1,5 +1,6 @@
 -- The texts of numbers, addresses, prefixes and MACs, as lists of bytes: the usual dotted and colon notations.
-use Rattle.std.specs.Prelude.{ℕ, ◌+◌, ◌*◌, ◌/◌, ◌%◌, ◌^◌, ◌-◌, ◌<◌, ◌≤◌, ◌≡◌, ◌==◌, ◌++◌, ◌∷◌, [], ◌&&◌, List, Option, Some, None, Result, Ok, Err, option_and_then, nat_lt, nat_le, if◌then◌else◌, length, take, drop, decimal, fold}
+use Rattle.std.specs.Prelude.{ℕ, ◌+◌, ◌*◌, ◌/◌, ◌%◌, ◌^◌, ◌-◌, ◌<◌, ◌≤◌, ◌≡◌, ◌==◌, ◌++◌, ◌∷◌, [], ◌&&◌, List, Option, Some, None, Result}
+use Rattle.std.specs.Prelude.{Ok, Err, option_and_then, nat_lt, nat_le, if◌then◌else◌, length, take, drop, decimal, fold}
 use Rattle.std.specs.Str.{all_ascii_digits}
 use Rattle.std.specs.Str.Parse.{digits_value}
 use Rattle.std.specs.List.{position}

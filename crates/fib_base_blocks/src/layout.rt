@@ -1,5 +1,6 @@
 // Where the elements lie in blocks, and how elements and blocks come and go.
-ghost use Rattle.std.specs.Prelude.{◌≡◌, ℕ, ◌+◌, ◌-◌, ◌<◌, ◌≤◌, ◌^◌, ◌∷◌, [], IfOk, OnErr, OnOk, flat_map, length, map, slice_get, slice_index, slice_index_or, take};
+ghost use Rattle.std.specs.Prelude.{◌≡◌, ℕ, ◌+◌, ◌-◌, ◌<◌, ◌≤◌, ◌^◌, ◌∷◌, [], IfOk, OnErr, OnOk, flat_map, length, map, slice_get};
+ghost use Rattle.std.specs.Prelude.{slice_index, slice_index_or, take};
 ghost use Rattle.std.specs.List.{AllByRecursion, insert, remove};
 ghost use Rattle.fib_base_ordered.specs.inner.Blocks.{row};
 ghost use Rattle.fib_base_blocks.specs.inner.Layout.{AreBlocks, HasRoom, IsPlace, IsSlot, IsSplit, items_of, lowered, raised};

@@ -1,5 +1,6 @@
 // A list in blocks.
-ghost use Rattle.std.specs.Prelude.{◌≡◌, ◌<◌, ◌≤◌, ◌-◌, ◌++◌, ◌∷◌, ◌↔◌, [], IfOk, IsTrue, OnErr, OnOk, length, slice_get, slice_index_or, slice_set, take, option_copied};
+ghost use Rattle.std.specs.Prelude.{◌≡◌, ◌<◌, ◌≤◌, ◌-◌, ◌++◌, ◌∷◌, ◌↔◌, [], IfOk, IsTrue, OnErr, OnOk, length, slice_get, slice_index_or};
+ghost use Rattle.std.specs.Prelude.{slice_set, take, option_copied};
 ghost use Rattle.std.specs.List.{insert, remove};
 ghost use Rattle.std.specs.List.Sorted.{IsBinarySearchResult, IsSearchInRange};
 ghost use Rattle.std.specs.Borrow.{sem};
@@ -13,8 +14,9 @@ use std::marker::Model;
 use std::mem;
 use std::ops::{Index, IndexMut};
 
-/// A list that lies in blocks, which are halved where they would have more than 256 elements. An element that comes or goes moves those of its block alone, and one is found by
-/// its place with a binary search over the blocks. Contracts see the list.
+/// A list that lies in blocks, which are halved where they would have more than 256 elements. An element that comes or
+/// goes moves those of its block alone, and one is found by its place with a binary search over the blocks. Contracts see
+/// the list.
 pub struct Blocks<T> {
     /// None of them is empty.
     blocks: Vec<Vec<T>>,

@@ -1,5 +1,6 @@
 // A store whose numbers the caller gives.
-ghost use Rattle.std.specs.Prelude.{◌≡◌, ◌<◌, ◌-◌, ◌+◌, ◌^◌, ◌↔◌, ℕ, [], length, map, Some, None, true, IsSome, IsTrue, IfOk, IfSome, IfNone, OnOk, OnErr, slice_get, option_map};
+ghost use Rattle.std.specs.Prelude.{◌≡◌, ◌<◌, ◌-◌, ◌+◌, ◌^◌, ◌↔◌, ℕ, [], length, map, Some, None, true, IsSome, IsTrue, IfOk, IfSome};
+ghost use Rattle.std.specs.Prelude.{IfNone, OnOk, OnErr, slice_get, option_map};
 ghost use Rattle.fib_base_interned.specs.Interned.{Kept, kept_of, users_of, AreInterned, IsFound, IsAbsent, IsLastToGo, Takes, TakesBack, Gives, untaken};
 
 use indexmap::{Equivalent, IndexMap};

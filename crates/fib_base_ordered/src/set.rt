@@ -1,5 +1,6 @@
 // A set in the order of its members' keys.
-ghost use Rattle.std.specs.Prelude.{◌≡◌, ◌<◌, ◌≤◌, ◌⊎◌, ◌+◌, ◌/◌, ◌++◌, ◌∷◌, ◌==◌, ◌↔◌, ℕ, [], None, Some, if◌then◌else◌, IfOk, IsSome, IsTrue, OnErr, OnOk, flat_map, length, vec_capacity};
+ghost use Rattle.std.specs.Prelude.{◌≡◌, ◌<◌, ◌≤◌, ◌⊎◌, ◌+◌, ◌/◌, ◌++◌, ◌∷◌, ◌==◌, ◌↔◌, ℕ, [], None, Some, if◌then◌else◌, IfOk, IsSome};
+ghost use Rattle.std.specs.Prelude.{IsTrue, OnErr, OnOk, flat_map, length, vec_capacity};
 ghost use Rattle.std.specs.List.{AllByRecursion};
 ghost use Rattle.fib_base_ordered.specs.Sets.{IsAscending, above, below, first_of, found, from, last_of};
 ghost use Rattle.fib_base_ordered.specs.inner.Blocks.{AreRoomy, Covers, IsFilled, IsIdle, cost, items_of};

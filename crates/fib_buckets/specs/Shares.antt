@@ -1,5 +1,6 @@
 -- How sixteen buckets are shared among weighted paths.
-use Rattle.std.specs.Prelude.{◌≡◌, ℕ, Bool, ◌+◌, ◌-◌, ◌*◌, ◌/◌, ◌%◌, ◌<◌, ◌≤◌, ◌==◌, ◌&&◌, ◌||◌, ◌⊎◌, List, flat_map, length, sum, sum_by, count_by, replicate, slice_get, Some, nat_lt, if◌then◌else◌, All}
+use Rattle.std.specs.Prelude.{◌≡◌, ℕ, Bool, ◌+◌, ◌-◌, ◌*◌, ◌/◌, ◌%◌, ◌<◌, ◌≤◌, ◌==◌, ◌&&◌, ◌||◌, ◌⊎◌, List, flat_map, length, sum, sum_by}
+use Rattle.std.specs.Prelude.{count_by, replicate, slice_get, Some, nat_lt, if◌then◌else◌, All}
 use Rattle.std.specs.List.{enumerate_from}
 use Rattle.std.specs.List.Sorted.{IsNonDecreasing}
 

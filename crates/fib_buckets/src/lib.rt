@@ -3,7 +3,8 @@
 //! No memory is taken.
 #![tactic(auto)]
 
-ghost use Rattle.std.specs.Prelude.{◌≡◌, ℕ, ◌+◌, ◌-◌, ◌*◌, ◌/◌, ◌%◌, ◌<◌, ◌≤◌, ◌++◌, ◌∷◌, length, sum, sum_by, count_by, take, drop, replicate, slice_index, All};
+ghost use Rattle.std.specs.Prelude.{◌≡◌, ℕ, ◌+◌, ◌-◌, ◌*◌, ◌/◌, ◌%◌, ◌<◌, ◌≤◌, ◌++◌, ◌∷◌, length, sum, sum_by, count_by, take, drop};
+ghost use Rattle.std.specs.Prelude.{replicate, slice_index, All};
 ghost use Rattle.std.specs.List.{enumerate_from};
 ghost use Rattle.fib_buckets.specs.Shares.{floor_of, rest_of, extra, stands_before, count_before, share_of, buckets, IsFair};
 

@@ -1,5 +1,6 @@
 -- The grammar of capture files (libpcap's classic format), and what a packet is.
-use Rattle.std.specs.Prelude.{◌≡◌, ℕ, ◌+◌, ◌*◌, ◌/◌, ◌%◌, ◌==◌, ◌&&◌, ◌||◌, zero, suc, Bool, List, [], ◌∷◌, Option, Some, None, Result, Ok, Err, length, take, drop, map, slice_index, nat_lt, nat_le, if◌then◌else◌}
+use Rattle.std.specs.Prelude.{◌≡◌, ℕ, ◌+◌, ◌*◌, ◌/◌, ◌%◌, ◌==◌, ◌&&◌, ◌||◌, zero, suc, Bool, List, [], ◌∷◌, Option, Some, None, Result, Ok}
+use Rattle.std.specs.Prelude.{Err, length, take, drop, map, slice_index, nat_lt, nat_le, if◌then◌else◌}
 use Rattle.fib_capture.specs.FlowHash.{flow_hash}
 use Rattle.fib_capture.specs.declared.packet.Packet.{Packet}
 use Rattle.fib_capture.specs.declared.packet.Packet.TheVariants as packets

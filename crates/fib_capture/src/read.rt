@@ -1,6 +1,7 @@
 // One forward reader of captures.
 ghost use Rattle.std.specs.Prelude.{◌≡◌, ◌+◌, ◌≤◌, ◌<◌, length, IfOk, IfSome, IsTrue, ◌↔◌, Result, Ok, Err};
-ghost use Rattle.fib_capture.specs.Captures.{big_16, big_32, number_at, order_of, link_of, header_of, record_of, records_of, header_length, has_ports, ports_of, is_header, ipv4_packet_of, packet_of, capture_of, Gives};
+ghost use Rattle.fib_capture.specs.Captures.{big_16, big_32, number_at, order_of, link_of, header_of, record_of, records_of, header_length};
+ghost use Rattle.fib_capture.specs.Captures.{has_ports, ports_of, is_header, ipv4_packet_of, packet_of, capture_of, Gives};
 ghost use Rattle.std.specs.Option.{option_map};
 
 use crate::capture::Capture;

@@ -1,5 +1,6 @@
 -- The grammar of paths.
-use Rattle.std.specs.Prelude.{ℕ, ◌||◌, ◌&&◌, ◌∷◌, [], List, Bool, true, false, not, Option, Some, None, zero, suc, is_none, IfSome, ◌<◌, unwrap_or, nat_lt, if◌then◌else◌, slice_index, codes}
+use Rattle.std.specs.Prelude.{ℕ, ◌||◌, ◌&&◌, ◌∷◌, [], List, Bool, true, false, not, Option, Some, None, zero, suc, is_none, IfSome, ◌<◌}
+use Rattle.std.specs.Prelude.{unwrap_or, nat_lt, if◌then◌else◌, slice_index, codes}
 use Rattle.std.specs.Str.{bytes_eq}
 use Rattle.fib_addr.specs.Texts.{◌>>=◌, address_of, number_of}
 use Rattle.fib_base_lines.specs.LineWords.{has_word, next_is}

@@ -2,7 +2,9 @@
 ghost use Rattle.std.specs.Prelude.{◌≡◌, ◌≤◌, IfOk};
 ghost use Rattle.fib_addr.specs.Texts.{Reads};
 ghost use Rattle.fib_commands.specs.Names.{Gives};
-ghost use Rattle.fib_commands.specs.Lines.{IsWrittenLine, create_of, flag_of, state_of, own_address_of, address_words, add_address_of, del_address_of, neighbor_words, set_neighbor_of, last_mac_of, del_neighbor_of, lookup_of, show_fib_of, show_lists_of, show_adj_of, forward_of, begin_of, commit_of};
+ghost use Rattle.fib_commands.specs.Lines.{IsWrittenLine, create_of, flag_of, state_of, own_address_of, address_words, add_address_of};
+ghost use Rattle.fib_commands.specs.Lines.{del_address_of, neighbor_words, set_neighbor_of, last_mac_of, del_neighbor_of, lookup_of};
+ghost use Rattle.fib_commands.specs.Lines.{show_fib_of, show_lists_of, show_adj_of, forward_of, begin_of, commit_of};
 
 use crate::names::{finished, keyword, name, word};
 use crate::{Line, LineError};

@@ -4,7 +4,8 @@ ghost use Rattle.fib_addr.specs.Texts.{Reads};
 ghost use Rattle.std.specs.List.{AllByRecursion};
 ghost use Rattle.fib_resolve.specs.Reachable.{IsWrittenPath};
 ghost use Rattle.fib_commands.specs.Names.{Gives};
-ghost use Rattle.fib_commands.specs.Paths.{IsWeighted, is_path_word, hop_of, via_of, attached_of, addressed_of, led_by, target_of, is_recursive, written_of, path_of, paths_of};
+ghost use Rattle.fib_commands.specs.Paths.{IsWeighted, is_path_word, hop_of, via_of, attached_of, addressed_of, led_by, target_of};
+ghost use Rattle.fib_commands.specs.Paths.{is_recursive, written_of, path_of, paths_of};
 
 use crate::LineError;
 use crate::names::{keyword, name, word};

@@ -1,5 +1,6 @@
 // An upper bound on the size of tables, for which no cover is sought, and by how much an edit raises it.
-ghost use Rattle.std.specs.Prelude.{◌≡◌, ℕ, ◌≤◌, ◌<◌, ◌+◌, ◌-◌, ◌^◌, ◌/◌, ◌++◌, ◌∷◌, [], true, OnOk, IfOk, map, flat_map, filter_map, length, count_by, sum_by, Contains, not};
+ghost use Rattle.std.specs.Prelude.{◌≡◌, ℕ, ◌≤◌, ◌<◌, ◌+◌, ◌-◌, ◌^◌, ◌/◌, ◌++◌, ◌∷◌, [], true, OnOk, IfOk, map, flat_map, filter_map};
+ghost use Rattle.std.specs.Prelude.{length, count_by, sum_by, Contains, not};
 ghost use Rattle.std.specs.List.{AllByRecursion, All, range_with_len};
 ghost use Rattle.fib_addr.specs.Longest.{everything};
 ghost use Rattle.fib_addr.specs.Prefixes.{host};
@@ -9,7 +10,8 @@ ghost use Rattle.std.specs.Set.{unique_keys};
 ghost use Rattle.std.specs.List.Sorted.{IsPermutation};
 ghost use Rattle.fib_resolve_changes.specs.Sources.{all_hops};
 ghost use Rattle.fib_resolve.specs.Tables.{IsSound};
-ghost use Rattle.fib_config.specs.inner.Bounds.{own_prefixes, prefix_of_route, host_of, candidates, depth_of, is_shared, left_behind, steps, route_ends, neighbor_end, ends, same_number, allowance, growth, IsBoundFor};
+ghost use Rattle.fib_config.specs.inner.Bounds.{own_prefixes, prefix_of_route, host_of, candidates, depth_of, is_shared, left_behind};
+ghost use Rattle.fib_config.specs.inner.Bounds.{steps, route_ends, neighbor_end, ends, same_number, allowance, growth, IsBoundFor};
 
 use fib_addr::{Addr, Prefix};
 use fib_resolve::{Address, Adjacency, Blocks, Edit, Neighbor, Route, Tables};

@@ -1,12 +1,15 @@
 // The parts of edited tables, made anew.
 
-ghost use Rattle.std.specs.Prelude.{◌≡◌, List as ListValue, ℕ, ◌+◌, ◌≤◌, ◌<◌, ◌++◌, [], ◌∷◌, ◌-◌, None, false, true, vec_len, vec_capacity, OnOk, OnErr, IfOk, map, filter, not, position, length, unwrap_or, All, take, slice_set, slice_index_or};
+ghost use Rattle.std.specs.Prelude.{◌≡◌, List as ListValue, ℕ, ◌+◌, ◌≤◌, ◌<◌, ◌++◌, [], ◌∷◌, ◌-◌, None, false, true, vec_len, vec_capacity};
+ghost use Rattle.std.specs.Prelude.{OnOk, OnErr, IfOk, map, filter, not, position, length, unwrap_or, All, take, slice_set, slice_index_or};
 ghost use Rattle.std.specs.List.{list_any, insert, remove};
 ghost use Rattle.fib_config.specs.Undone.{place_of, put_back, undone, undone_all, IsBackOf, IsNeighborBackOf};
 ghost use Rattle.fib_config.specs.inner.Digest.{AreKeys, Follows, HasKeys, is_neighbor, route_key, neighbor_key};
 ghost use Rattle.fib_resolve.specs.Keys.{key_of, key_lt, same_key};
 ghost use Rattle.fib_resolve.specs.Tables.{has_name, interface_named, same_address, same_neighbor, is_route};
-ghost use Rattle.fib_resolve.specs.Edits.{edited, number_of, with_state, set_neighbor, set_path, set_paths, kind_of, path_of, source_of, paths_at, set_route, without_route, lacks_key, without_paths, route_left, routes_without, with_neighbors, with_routes};
+ghost use Rattle.fib_resolve.specs.Edits.{edited, number_of, with_state, set_neighbor, set_path, set_paths, kind_of, path_of, source_of};
+ghost use Rattle.fib_resolve.specs.Edits.{paths_at, set_route, without_route, lacks_key, without_paths, route_left, routes_without};
+ghost use Rattle.fib_resolve.specs.Edits.{with_neighbors, with_routes};
 ghost use Rattle.fib_resolve.specs.declared.types.Tables.{Tables as TablesValue};
 ghost use Rattle.fib_resolve.specs.declared.types.Route.{Route as RouteValue};
 ghost use Rattle.fib_config.specs.declared.undo.Back.TheVariants.{Reserved};

@@ -9,7 +9,8 @@ ghost use Rattle.fib_resolve.specs.declared.types.Tables.{Tables as TablesValue}
 ghost use Rattle.fib_resolve.specs.Refusals.{refused, edited_in_turn, reasons, first_reason};
 ghost use Rattle.fib_resolve.specs.Reachable.{IsWritten};
 ghost use Rattle.fib_config.specs.Config.{TellsRefusal, TellsFirstRefused};
-ghost use Rattle.fib_resolve.specs.Edits.{edited, with_routes, route_left, routes_without, without_paths, paths_at, path_of, paths_with, source_of, set_route, without_route};
+ghost use Rattle.fib_resolve.specs.Edits.{edited, with_routes, route_left, routes_without, without_paths, paths_at, path_of, paths_with};
+ghost use Rattle.fib_resolve.specs.Edits.{source_of, set_route, without_route};
 
 use crate::digest::{self, Digest};
 use crate::errors::{BatchError, EditError};

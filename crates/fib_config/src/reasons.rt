@@ -6,7 +6,8 @@ ghost use Rattle.fib_resolve.specs.Tables.{IsSound, same_address, same_neighbor,
 ghost use Rattle.fib_resolve.specs.Edits.{source_of, set_paths, path_of};
 ghost use Rattle.fib_config.specs.inner.Digest.{HasKeys};
 ghost use Rattle.fib_config.specs.inner.Lists.{list_reasons, writes_drop_or_local};
-ghost use Rattle.fib_resolve.specs.Refusals.{unknown, names_unknown, some_unknown, has_address, connected_elsewhere, has_neighbor, has_route, lacks_a_key, when, reasons, first_reason};
+ghost use Rattle.fib_resolve.specs.Refusals.{unknown, names_unknown, some_unknown, has_address, connected_elsewhere, has_neighbor};
+ghost use Rattle.fib_resolve.specs.Refusals.{has_route, lacks_a_key, when, reasons, first_reason};
 ghost use Rattle.fib_resolve.specs.Reachable.{IsWritten};
 
 use crate::changes;

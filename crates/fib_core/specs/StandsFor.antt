@@ -1,6 +1,7 @@
 -- When cells stand for tables: the objects that the tables' size counts have numbers, and each of their cells says
 -- where resolution goes.
-use Rattle.std.specs.Prelude.{◌≡◌, ℕ, zero, suc, ◌+◌, ◌*◌, ◌/◌, ◌<◌, ◌⊎◌, ◌==◌, List, [], length, filter, slice_get, Contains, Option, Some, None, nat_le, if◌then◌else◌}
+use Rattle.std.specs.Prelude.{◌≡◌, ℕ, zero, suc, ◌+◌, ◌*◌, ◌/◌, ◌<◌, ◌⊎◌, ◌==◌, List, [], length, filter, slice_get, Contains, Option}
+use Rattle.std.specs.Prelude.{Some, None, nat_le, if◌then◌else◌}
 use Rattle.std.specs.Set.{is_member}
 use Rattle.fib_addr.specs.Prefixes.{Prefix, IsPrefix, size_of, host, same_prefix}
 use Rattle.fib_addr.specs.Longest.{everything, longest}

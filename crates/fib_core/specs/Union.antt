@@ -1,5 +1,6 @@
 -- The union of current and retired edges, and what a store and a scan make of it.
-use Rattle.std.specs.Prelude.{◌≡◌, ℕ, zero, suc, ◌+◌, ◌^◌, ◌⊎◌, ◌<◌, ◌≤◌, Bool, true, false, ◌&&◌, if◌then◌else◌, List, [], ◌∷◌, Option, Some, None, map, slice_index, slice_set}
+use Rattle.std.specs.Prelude.{◌≡◌, ℕ, zero, suc, ◌+◌, ◌^◌, ◌⊎◌, ◌<◌, ◌≤◌, Bool, true, false, ◌&&◌, if◌then◌else◌, List, [], ◌∷◌, Option}
+use Rattle.std.specs.Prelude.{Some, None, map, slice_index, slice_set}
 use Rattle.fib_reach.specs.Walks.{Walk}
 use Rattle.fib_union.specs.Marks.{Mark, unseen, first, passed, mark_at, looked, all_passed}
 use Rattle.fib_union.specs.Unions as edges

@@ -1,6 +1,7 @@
 -- What the seats of the counters know, and the rule of their words: 770, of which 0 counts drops, 1 what is received, 2 + i gleans of interface i,
 -- 258 + i hops over it with a MAC, and 514 + i those without.
-use Rattle.std.specs.Prelude.{◌≡◌, ℕ, suc, ◌+◌, ◌<◌, Bool, true, false, List, [], ◌∷◌, ◌++◌, Option, Some, None, length, slice_index, slice_index_or, slice_set, eqb}
+use Rattle.std.specs.Prelude.{◌≡◌, ℕ, suc, ◌+◌, ◌<◌, Bool, true, false, List, [], ◌∷◌, ◌++◌, Option, Some, None, length, slice_index}
+use Rattle.std.specs.Prelude.{slice_index_or, slice_set, eqb}
 use Rattle.fib_resolve.specs.declared.types.End.{End}
 use Rattle.fib_resolve.specs.declared.types.End.TheVariants as ends
 use Rattle.fib_core_lawful.specs.Claims.{times}

@@ -100,7 +100,7 @@ same_map f g (y ∷ ys) e x c = let both = front_same (f y) (g y) (map f ys) (ma
     elim (in_cases y x ys c) [ inl is ↦ subst (λ z. f z ≡ g z) is both.0 | inr later ↦ same_map f g ys both.1 x later ]
 
 -- pairs
-that_is : (lists : List PathKept) (source : FibSource) (paths : List Path) (p : FibSource × ℕ) → is_that lists source paths p ≡ true → (p.0 ≡ source) × (content_of lists p.1 ≡ Some paths)
+pub that_is : (lists : List PathKept) (source : FibSource) (paths : List Path) (p : FibSource × ℕ) → is_that lists source paths p ≡ true → (p.0 ≡ source) × (content_of lists p.1 ≡ Some paths)
 that_is lists source paths p h =
     let both = and_both (same_source p.0 source) (is_content (content_of lists p.1) paths) h in
     (source_by_rank p.0 source ((Decides-eqb (source_rank p.0) (source_rank source)).0 both.0), by (content_of lists p.1) refl both.1)
@@ -109,7 +109,7 @@ that_is lists source paths p h =
     by None e k = absurd (false≢true k)
     by (Some ps) e k = e ∙ ap Some (list_is ps paths k)
 
-is_that_one : (lists : List PathKept) (source : FibSource) (paths : List Path) (p : FibSource × ℕ) → p.0 ≡ source → content_of lists p.1 ≡ Some paths → is_that lists source paths p ≡ true
+pub is_that_one : (lists : List PathKept) (source : FibSource) (paths : List Path) (p : FibSource × ℕ) → p.0 ≡ source → content_of lists p.1 ≡ Some paths → is_that lists source paths p ≡ true
 is_that_one lists source paths p s is =
     rw ((Decides-eqb (source_rank p.0) (source_rank source)).1 (ap source_rank s)) (ap (λ o. is_content o paths) is ∙ list_self paths)
 
@@ -207,7 +207,7 @@ module _ (S T : Tables) (e : Prefix) where
   keeps_met need kinds.Cover h = refl
 
   -- and one that is marked alike means the same
-  kept : (p : Path) (kind : PathKind) → looped_kind S e kind ≡ looped_kind T e kind → kind_met S p.need kind ≡ kind_met T p.need kind → mark_with (kind_aim S e kind) (kind_counts S e p.need kind) p ≡ mark_with (kind_aim T e kind) (kind_counts T e p.need kind) p
+  pub kept : (p : Path) (kind : PathKind) → looped_kind S e kind ≡ looped_kind T e kind → kind_met S p.need kind ≡ kind_met T p.need kind → mark_with (kind_aim S e kind) (kind_counts S e p.need kind) p ≡ mark_with (kind_aim T e kind) (kind_counts T e p.need kind) p
       → kind_changes S T e p.need kind ≡ false
   unfolding mark_with
   kept p kinds.Drop l m h = refl

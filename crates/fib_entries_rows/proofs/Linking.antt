@@ -201,7 +201,7 @@ set_back [] k r s at = absurd (none_some r at)
 set_back (q ∷ qs) zero r s at = ap (λ z. z ∷ qs) (some_is r q (sym at))
 set_back (q ∷ qs) (suc k) r s at = ap (λ l. q ∷ l) (set_back qs k r s at)
 
-pop_push : (xs : List Prefix) (p : Prefix) → take (length (xs ++ p ∷ []) - 1) (xs ++ p ∷ []) ≡ xs
+pub pop_push : (xs : List Prefix) (p : Prefix) → take (length (xs ++ p ∷ []) - 1) (xs ++ p ∷ []) ≡ xs
 pop_push xs p = ap (λ n. take n (xs ++ p ∷ [])) (less xs) ∙ front xs
   where
     len : (xs : List Prefix) → length (xs ++ p ∷ []) ≡ length xs + 1

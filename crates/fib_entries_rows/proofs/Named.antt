@@ -67,7 +67,7 @@ count_pairs lists paths e (q ∷ qs) kept =
     ∙ (ap (λ n. unit_of (has_list paths (pair_at lists e q)) + n) (count_pairs lists paths e qs (λ z c. kept z (in_rest q z qs c)))
     ∙ sym (count_by-cons (has_list paths) (pair_at lists e q) (map (pair_at lists e) qs))))
 
-count_append : {X : Type 0} (f : X → Bool) (xs ys : List X) → count_by f (xs ++ ys) ≡ count_by f xs + count_by f ys
+pub count_append : {X : Type 0} (f : X → Bool) (xs ys : List X) → count_by f (xs ++ ys) ≡ count_by f xs + count_by f ys
 count_append f xs ys = sum_by-append (λ y. unit_of (f y)) xs ys
 
 count_rows : (lists : List PathKept) (paths : List Path) (rows : List Row) → AreHeld rows lists → named_count lists rows paths ≡ count_by (has_list paths) (flat_map (row_pairs lists) rows)

@@ -95,7 +95,7 @@ module _ {X : Type 0} where
   each_by P [] f = tt
   each_by P (x ∷ xs) f = (f 0 x refl, each_by P xs (λ j y at. f (suc j) y at))
 
-  each_in : (P : X → Type 0) (xs : List X) (x : X) → AllByRecursion P xs → Contains xs x → P x
+  pub each_in : (P : X → Type 0) (xs : List X) (x : X) → AllByRecursion P xs → Contains xs x → P x
   each_in P [] x all c = absurd (Contains-nil x c)
   each_in P (y ∷ ys) x all c = elim (in_cases y x ys c) [ inl is ↦ subst P is all.0 | inr later ↦ each_in P ys x all.1 later ]
 

@@ -55,7 +55,7 @@ pub fn push_at(rows: &mut Blocks<Row>, place: usize, p: Prefix) -> Result<(), Al
 }
 
 /// The last dependant of the row at that place goes.
-fn pop_at(rows: &mut Blocks<Row>, place: usize)
+pub fn pop_at(rows: &mut Blocks<Row>, place: usize)
     requires { place < length rows.old }
     ensures { (r : RowValue) → slice_get rows.old place ≡ Some r → rows.new ≡ slice_set rows.old place (popped r) }
 {

@@ -1,10 +1,12 @@
 -- The base pairs of a prefix, source by source.
-use Rattle.std.proofs.Common.{arith, ◌≡◌, ◌≢◌, ℕ, ◌<◌, ◌≤◌, ◌==◌, Bool, true, false, cond, List, [], ◌∷◌, ◌++◌, map, filter, length, Option, Some, None, ◌⊎◌, inl, inr, refl, sym, ◌∙◌, ap, subst, ◌↔◌}
+use Rattle.std.proofs.Common.{arith, ◌≡◌, ◌≢◌, ℕ, ◌<◌, ◌≤◌, ◌==◌, Bool, true, false, cond, List, [], ◌∷◌, ◌++◌, map, filter, length}
+use Rattle.std.proofs.Common.{Option, Some, None, ◌⊎◌, inl, inr, refl, sym, ◌∙◌, ap, subst, ◌↔◌}
 use Rattle.std.specs.Prelude.{Contains, flat_map, find, nat_lt}
 use Rattle.std.specs.List.{All, AllByRecursion, list_any}
 use Rattle.std.proofs.lemmas.Bool.{false≢true, ltb-true, ltb-false}
 use Rattle.std.proofs.lemmas.Bool.Decides.{Decides-eqb}
-use Rattle.std.proofs.lemmas.List.Elements.{recursion_from_All, All-contains, All-from_recursion, Contains-append_left, Contains-append_right, Contains-append_cases}
+use Rattle.std.proofs.lemmas.List.Elements.{recursion_from_All, All-contains, All-from_recursion, Contains-append_left}
+use Rattle.std.proofs.lemmas.List.Elements.{Contains-append_right, Contains-append_cases}
 use Rattle.fib_base_list.proofs.Lists.{either, each-filter, each-weaker, Contains-flat_map, Contains-nil}
 use Rattle.fib_base_list.proofs.Booleans.{and_both}
 use Rattle.fib_base_interned.proofs.Finding.{contains_at, find_place}
@@ -32,16 +34,19 @@ use Rattle.fib_resolve_changes.proofs.Edits.{in_cases, in_front, in_rest, any_in
 use Rattle.fib_resolve_changes.proofs.SamePairs.{map_in, map_from, flat_map_from, from_origin, base}
 use Rattle.fib_entries_rows.proofs.Telling.{from_pair}
 use Rattle.fib_follow_pairs.specs.Fresh.{ArePairsAt}
-use Rattle.fib_follow_pairs.specs.inner.Parts.{IsPart, special_prefixes, is_special, special_at, is_connected, is_edge, connected_at, host_at, own_at, written_at, default_at, base_at}
+use Rattle.fib_follow_pairs.specs.inner.Parts.{IsPart, special_prefixes, is_special, special_at, is_connected, is_edge, connected_at}
+use Rattle.fib_follow_pairs.specs.inner.Parts.{host_at, own_at, written_at, default_at, base_at}
 use Rattle.fib_follow_pairs.proofs.Joining.{there, nowhere, none_first, joined, skipped, finished}
 
 -- where a base pair comes from
 pub data BaseOrigin (S : Tables) (x : Pair) : Type 0 where
   everywhere : one everything sources.DefaultRoute kinds.Drop ≡ x → BaseOrigin S x
   special : (q : Prefix) → Contains special_prefixes q → one q sources.Special kinds.Drop ≡ x → BaseOrigin S x
-  connected : (a : Address) → Contains S.addresses a → nat_lt a.len 32 ≡ true → one (masked a.addr a.len) sources.Interface (kinds.Attached a.interface) ≡ x → BaseOrigin S x
+  connected : (a : Address) → Contains S.addresses a → nat_lt a.len 32 ≡ true
+      → one (masked a.addr a.len) sources.Interface (kinds.Attached a.interface) ≡ x → BaseOrigin S x
   local : (a : Address) → Contains S.addresses a → one (host a.addr) sources.Interface kinds.Local ≡ x → BaseOrigin S x
-  edge : (a : Address) (y : ℕ) → Contains S.addresses a → Contains (edge_addresses a) y → is_address S.addresses y ≡ false → one (host y) sources.Interface kinds.Drop ≡ x → BaseOrigin S x
+  edge : (a : Address) (y : ℕ) → Contains S.addresses a → Contains (edge_addresses a) y → is_address S.addresses y ≡ false
+      → one (host y) sources.Interface kinds.Drop ≡ x → BaseOrigin S x
   route : (r : Route) → Contains S.routes r → route_pair r ≡ x → BaseOrigin S x
 
 when_in : (b : Bool) (y x : Pair) → Contains (cond b (y ∷ []) []) x → (b ≡ true) × (y ≡ x)
@@ -55,7 +60,8 @@ when_there false y h = absurd (false≢true h)
 pub base_origin : (S : Tables) (x : Pair) → Contains (base_pairs S) x → BaseOrigin S x
 unfolding base_pairs
 base_origin S x c =
-    elim (Contains-append_cases (fixed_pairs ++ flat_map connected_pairs S.addresses ++ flat_map (edge_pairs S.addresses) S.addresses) (map route_pair S.routes) x c) [
+    elim (Contains-append_cases (fixed_pairs ++ flat_map connected_pairs S.addresses ++ flat_map (edge_pairs S.addresses) S.addresses)
+    (map route_pair S.routes) x c) [
       | inr written ↦ (let r = map_from route_pair S.routes x written in route r.0 r.1 r.2)
       | inl early ↦ elim (Contains-append_cases (fixed_pairs ++ flat_map connected_pairs S.addresses) (flat_map (edge_pairs S.addresses) S.addresses) x early) [
         | inr edges ↦ (let r = flat_map_from (edge_pairs S.addresses) S.addresses x edges in
@@ -63,10 +69,11 @@ base_origin S x c =
             let p = edge_of S.addresses e.0 x e.2 in
             edge r.0 e.0 r.1 e.1 p.0 p.1)
         | inl first ↦ elim (Contains-append_cases fixed_pairs (flat_map connected_pairs S.addresses) x first) [
-          | inl fixed ↦ elim (in_cases (one everything sources.DefaultRoute kinds.Drop) x (map (λ q. one q sources.Special kinds.Drop) special_prefixes) fixed) [
-            | inl is ↦ everywhere is
-            | inr rest ↦ (let r = map_from (λ q. one q sources.Special kinds.Drop) special_prefixes x rest in special r.0 r.1 r.2)
-          ]
+          | inl fixed ↦ elim (in_cases (one everything sources.DefaultRoute kinds.Drop) x
+              (map (λ q. one q sources.Special kinds.Drop) special_prefixes) fixed) [
+                | inl is ↦ everywhere is
+                | inr rest ↦ (let r = map_from (λ q. one q sources.Special kinds.Drop) special_prefixes x rest in special r.0 r.1 r.2)
+              ]
           | inr near ↦ (let r = flat_map_from connected_pairs S.addresses x near in
               elim (Contains-append_cases (cond (nat_lt r.0.len 32) (one (masked r.0.addr r.0.len) sources.Interface (kinds.Attached r.0.interface) ∷ []) []) (one (host r.0.addr) sources.Interface kinds.Local ∷ []) x r.2) [
                 | inl wide ↦ (let w = when_in (nat_lt r.0.len 32) _ x wide in connected r.0 r.1 w.0 w.1)
@@ -129,7 +136,8 @@ from_base_origin S x (route r c is) = in_routes S x r c is
 pub one_pair : (S : Tables) → IsSound S → (x y : Pair) → Contains (pairs S) x → Contains (pairs S) y → x.prefix ≡ y.prefix → x.source ≡ y.source → x ≡ y
 one_pair S sound x y c d p s = from_pair x y p s (one_list S sound x y c d p s)
 
-pub one_base_pair : (S : Tables) → IsSound S → (x y : Pair) → Contains (base_pairs S) x → Contains (base_pairs S) y → x.prefix ≡ y.prefix → x.source ≡ y.source → x ≡ y
+pub one_base_pair : (S : Tables) → IsSound S → (x y : Pair) → Contains (base_pairs S) x → Contains (base_pairs S) y → x.prefix ≡ y.prefix
+    → x.source ≡ y.source → x ≡ y
 one_base_pair S sound x y c d p s = one_pair S sound x y (from_origin S x (base c)) (from_origin S y (base d)) p s
 
 pub sound_route : (S : Tables) → IsSound S → (r : Route) → Contains S.routes r → IsSoundRoute (length S.interfaces) r
@@ -153,7 +161,8 @@ base_rank S sound x (special q c is) = inl (let r = rank_of _ x 0 is refl in ome
 base_rank S sound x (connected a c wide is) = inl (let r = rank_of _ x 1 is refl in omega (arith, r))
 base_rank S sound x (local a c is) = inl (let r = rank_of _ x 1 is refl in omega (arith, r))
 base_rank S sound x (edge a y c e none is) = inl (let r = rank_of _ x 1 is refl in omega (arith, r))
-base_rank S sound x (route r c is) = elim (route_rank r x (sound_route S sound r c).written is) [ inl api ↦ inl (omega (arith, api)) | inr cli ↦ inl (omega (arith, cli)) ]
+base_rank S sound x (route r c is) = elim
+    (route_rank r x (sound_route S sound r c).written is) [ inl api ↦ inl (omega (arith, api)) | inr cli ↦ inl (omega (arith, cli)) ]
 
 apart : (x : Pair) (s : FibSource) (m n : ℕ) → s ≡ x.source → source_rank s ≡ m → RankIs x n → m ≢ n → ⊥
 apart x s m n is at r other = other (sym at ∙ ap source_rank is ∙ r)
@@ -162,7 +171,8 @@ module _ (S : Tables) (sound : IsSound S) (p : Prefix) where
   -- the prefixes that every table has dropped
   special_none : is_special p ≡ false → (x : Pair) → BaseOrigin S x → p ≡ x.prefix → sources.Special ≡ x.source → ⊥
   special_none none x (everywhere is) own at = apart x sources.Special 0 6 at refl (rank_of _ x 6 is refl) (omega arith)
-  special_none none x (special q c is) own at = clash (is_special p) (any_in (same_prefix p) special_prefixes q c ((same_prefix-Decides p q).1 (own ∙ sym (ap (λ z. z.prefix) is)))) none
+  special_none none x (special q c is) own at = clash (is_special p)
+      (any_in (same_prefix p) special_prefixes q c ((same_prefix-Decides p q).1 (own ∙ sym (ap (λ z. z.prefix) is)))) none
   special_none none x (connected a c wide is) own at = apart x sources.Special 0 1 at refl (rank_of _ x 1 is refl) (omega arith)
   special_none none x (local a c is) own at = apart x sources.Special 0 1 at refl (rank_of _ x 1 is refl) (omega arith)
   special_none none x (edge a y c e free is) own at = apart x sources.Special 0 1 at refl (rank_of _ x 1 is refl) (omega arith)
@@ -190,25 +200,38 @@ module _ (S : Tables) (sound : IsSound S) (p : Prefix) where
   pub default_part : IsPart (base_pairs S) p sources.DefaultRoute (default_at p)
   default_part = elim (either (same_prefix p everything)) [
     | inl is ↦ rw is (there (base_pairs S) p sources.DefaultRoute (one p sources.DefaultRoute kinds.Drop) (one_base_pair S sound)
-        (from_base_origin S (one p sources.DefaultRoute kinds.Drop) (everywhere (ap (λ z. one z sources.DefaultRoute kinds.Drop) (sym ((same_prefix-Decides p everything).0 is))))) refl refl)
+        (from_base_origin S (one p sources.DefaultRoute kinds.Drop)
+        (everywhere (ap (λ z. one z sources.DefaultRoute kinds.Drop) (sym ((same_prefix-Decides p everything).0 is))))) refl refl)
     | inr isnt ↦ rw isnt (nowhere (base_pairs S) p sources.DefaultRoute (default_none isnt))
   ]
 
   -- a route of it
-  pub found_route : (s : FibSource) (rs : List Route) (q : Path) (qs : List Path) → paths_at p s rs ≡ q ∷ qs → (r : Route) × Contains rs r × (r.prefix ≡ p) × (r.source ≡ s) × (r.paths ≡ q ∷ qs)
+  pub found_route : (s : FibSource) (rs : List Route) (q : Path) (qs : List Path) → paths_at p s rs ≡ q ∷ qs
+      → (r : Route) × Contains rs r × (r.prefix ≡ p) × (r.source ≡ s) × (r.paths ≡ q ∷ qs)
   found_route s [] q qs h = absurd (cc)
   found_route s (r ∷ rs) q qs h = elim (either (is_route p s r)) [
-    | inl is ↦ (let both = and_both (same_prefix r.prefix p) (source_rank r.source == source_rank s) is in
-        (r, in_front r r rs refl, (same_prefix-Decides r.prefix p).0 both.0, source_by_rank r.source s ((Decides-eqb (source_rank r.source) (source_rank s)).0 both.1), rw is at h))
+    | inl is ↦ (let both = and_both (same_prefix r.prefix p) (source_rank r.source == source_rank s) is in (
+      r,
+      in_front r r rs refl,
+      (same_prefix-Decides r.prefix p).0 both.0,
+      source_by_rank r.source s ((Decides-eqb (source_rank r.source) (source_rank s)).0 both.1),
+      rw is at h,
+    ))
     | inr isnt ↦ (let f = found_route s rs q qs (rw isnt at h) in (f.0, in_rest r f.0 rs f.1, f.2, f.3, f.4))
   ]
 
-  pub no_route : (s : FibSource) (rs : List Route) → AllByRecursion (λ r. 0 < length r.paths) rs → paths_at p s rs ≡ [] → (r : Route) → Contains rs r → r.prefix ≡ p → r.source ≡ s → ⊥
+  pub no_route : (s : FibSource) (rs : List Route) → AllByRecursion (λ r. 0 < length r.paths) rs → paths_at p s rs ≡ [] → (r : Route)
+      → Contains rs r → r.prefix ≡ p → r.source ≡ s → ⊥
   no_route s [] some none r c on of = Contains-nil r c
   no_route s (x ∷ xs) some none r c on of = elim (either (is_route p s x)) [
     | inl is ↦ (let few : length x.paths ≡ 0 = ap length (rw is at none) in let more = some.0 in omega (arith, few, more))
     | inr isnt ↦ elim (in_cases x r xs c) [
-      | inl same ↦ clash (is_route p s x) (rw ((same_prefix-Decides x.prefix p).1 (ap (λ z. z.prefix) same ∙ on), (Decides-eqb (source_rank x.source) (source_rank s)).1 (ap (λ z. source_rank z.source) same ∙ ap source_rank of)) refl) isnt
+      | inl same ↦ clash (is_route p s x)
+          (rw (
+            (same_prefix-Decides x.prefix p).1 (ap (λ z. z.prefix) same ∙ on),
+            (Decides-eqb (source_rank x.source) (source_rank s)).1
+                (ap (λ z. source_rank z.source) same ∙ ap source_rank of),
+          ) refl) isnt
       | inr later ↦ no_route s xs some.1 (rw isnt at none) r later on of
     ]
   ]
@@ -223,7 +246,8 @@ module _ (S : Tables) (sound : IsSound S) (p : Prefix) where
     | inr three ↦ elim far [ inl lt ↦ omega (arith, three, k, r, lt) | inr gt ↦ omega (arith, three, k, r, gt) ]
   ])
 
-  some_paths : (s : FibSource) → (s ≡ sources.Api) ⊎ (s ≡ sources.Cli) → (x : Pair) → BaseOrigin S x → p ≡ x.prefix → s ≡ x.source → paths_at p s S.routes ≡ [] → ⊥
+  some_paths : (s : FibSource) → (s ≡ sources.Api) ⊎ (s ≡ sources.Cli) → (x : Pair) → BaseOrigin S x → p ≡ x.prefix → s ≡ x.source
+      → paths_at p s S.routes ≡ [] → ⊥
   some_paths s w x (everywhere is) own at none = of_route s x 6 (written_rank s w) at (rank_of _ x 6 is refl) (inr (omega arith))
   some_paths s w x (special q c is) own at none = of_route s x 0 (written_rank s w) at (rank_of _ x 0 is refl) (inl (omega arith))
   some_paths s w x (connected a c wide is) own at none = of_route s x 1 (written_rank s w) at (rank_of _ x 1 is refl) (inl (omega arith))
@@ -241,7 +265,8 @@ module _ (S : Tables) (sound : IsSound S) (p : Prefix) where
       by (q ∷ qs) e =
           let f = found_route s S.routes q qs e in
           there (base_pairs S) p s (record { prefix = p; source = s; paths = q ∷ qs }) (one_base_pair S sound)
-          (from_base_origin S (record { prefix = p; source = s; paths = q ∷ qs }) (route f.0 f.1 (from_pair (route_pair f.0) (record { prefix = p; source = s; paths = q ∷ qs }) f.2 f.3 f.4))) refl refl
+          (from_base_origin S (record { prefix = p; source = s; paths = q ∷ qs })
+          (route f.0 f.1 (from_pair (route_pair f.0) (record { prefix = p; source = s; paths = q ∷ qs }) f.2 f.3 f.4))) refl refl
 
   -- what the interfaces' addresses make of it
   module _ (xs : List Address) (some : (a : Address) → Contains xs a ↔ Contains S.addresses a × (is_own a p ≡ true)) where
@@ -304,11 +329,14 @@ module _ (S : Tables) (sound : IsSound S) (p : Prefix) where
       | inl is ↦ (let r = any_from (λ z. z.addr == p.bits) S.addresses is in absurd (own_address long none r.0 r.1 r.2))
     ]
 
-    host_none : p.len ≡ 32 → is_address xs p.bits ≡ false → list_any (is_edge p.bits) xs ≡ false → (x : Pair) → BaseOrigin S x → p ≡ x.prefix → sources.Interface ≡ x.source → ⊥
+    host_none : p.len ≡ 32 → is_address xs p.bits ≡ false → list_any (is_edge p.bits) xs ≡ false → (x : Pair) → BaseOrigin S x
+        → p ≡ x.prefix → sources.Interface ≡ x.source → ⊥
     host_none long none edges x (everywhere is) own at = apart x sources.Interface 1 6 at refl (rank_of _ x 6 is refl) (omega arith)
     host_none long none edges x (special q c is) own at = apart x sources.Interface 1 0 at refl (rank_of _ x 0 is refl) (omega arith)
-    host_none long none edges x (connected a c wide is) own at = (let l = ap (λ z. z.len) (own ∙ sym (ap (λ z. z.prefix) is)) in let lt = ltb-true a.len 32 wide in omega (arith, l, lt, long))
-    host_none long none edges x (local a c is) own at = own_address long none a c ((Decides-eqb a.addr p.bits).1 (sym (ap (λ z. z.bits) (own ∙ sym (ap (λ z. z.prefix) is)))))
+    host_none long none edges x (connected a c wide is) own at =
+        (let l = ap (λ z. z.len) (own ∙ sym (ap (λ z. z.prefix) is)) in let lt = ltb-true a.len 32 wide in omega (arith, l, lt, long))
+    host_none long none edges x (local a c is) own at = own_address long none a c
+        ((Decides-eqb a.addr p.bits).1 (sym (ap (λ z. z.bits) (own ∙ sym (ap (λ z. z.prefix) is)))))
     host_none long none edges x (edge a y c e free is) own at =
         let bits : p.bits ≡ y = ap (λ z. z.bits) (own ∙ sym (ap (λ z. z.prefix) is)) in
         let mine : is_own a p ≡ true = subst (λ z. is_own a z ≡ true) (ap (λ z. z.prefix) is ∙ sym own) (edges_own a y e) in
@@ -327,14 +355,17 @@ module _ (S : Tables) (sound : IsSound S) (p : Prefix) where
             let r = any_from (λ z. z.addr == p.bits) xs e in
             let at : host r.0.addr ≡ p = ap host ((Decides-eqb r.0.addr p.bits).0 r.2) ∙ host_of long in
             there (base_pairs S) p sources.Interface (one p sources.Interface kinds.Local) (one_base_pair S sound)
-            (from_base_origin S (one p sources.Interface kinds.Local) (local r.0 ((some r.0).0 r.1).0 (ap (λ z. one z sources.Interface kinds.Local) at))) refl refl
+            (from_base_origin S (one p sources.Interface kinds.Local)
+            (local r.0 ((some r.0).0 r.1).0 (ap (λ z. one z sources.Interface kinds.Local) at))) refl refl
         by false true e f =
             let r = any_from (is_edge p.bits) xs f in
             let y = any_from (λ z. z == p.bits) (edge_addresses r.0) r.2 in
             let is : y.0 ≡ p.bits = (Decides-eqb y.0 p.bits).0 y.2 in
             let free : is_address S.addresses y.0 ≡ false = subst (λ z. is_address S.addresses z ≡ false) (sym is) (no_address long e) in
             there (base_pairs S) p sources.Interface (one p sources.Interface kinds.Drop) (one_base_pair S sound)
-            (from_base_origin S (one p sources.Interface kinds.Drop) (edge r.0 y.0 ((some r.0).0 r.1).0 y.1 free (ap (λ z. one z sources.Interface kinds.Drop) (ap host is ∙ host_of long)))) refl refl
+            (from_base_origin S (one p sources.Interface kinds.Drop)
+            (edge r.0 y.0 ((some r.0).0 r.1).0 y.1 free
+            (ap (λ z. one z sources.Interface kinds.Drop) (ap host is ∙ host_of long)))) refl refl
         by false false e f = nowhere (base_pairs S) p sources.Interface (λ x c own at. host_none long e f x (base_origin S x c) own at)
 
     pub own_part : p.len ≤ 32 → IsPart (base_pairs S) p sources.Interface (own_at p xs)
@@ -361,12 +392,17 @@ module _ (S : Tables) (sound : IsSound S) (p : Prefix) where
       let api = written_at p sources.Api (paths_at p sources.Api S.routes) in
       let cli = written_at p sources.Cli (paths_at p sources.Cli S.routes) in
       let zero_done = joined (base_pairs S) p sources.Special 0 [] (special_at p) (none_first (base_pairs S) p) special_part refl in
-      let one_done = joined (base_pairs S) p sources.Interface 1 (special_at p) own zero_done (own_part (filter (λ a. is_own a p) S.addresses) filtered fits) refl in
+      let one_done = joined (base_pairs S) p sources.Interface 1 (special_at p) own zero_done
+      (own_part (filter (λ a. is_own a p) S.addresses) filtered fits) refl in
       let two_done = joined (base_pairs S) p sources.Api 2 (special_at p ++ own) api one_done (written_part sources.Api (inl refl)) refl in
       let three_done = joined (base_pairs S) p sources.Cli 3 (special_at p ++ own ++ api) cli two_done (written_part sources.Cli (inr refl)) refl in
-      let four_done = skipped (base_pairs S) p sources.Adjacency 4 (special_at p ++ own ++ api ++ cli) three_done (no_late sources.Adjacency (omega arith) (omega arith)) refl in
-      let five_done = skipped (base_pairs S) p sources.RecursiveResolution 5 (special_at p ++ own ++ api ++ cli) four_done (no_late sources.RecursiveResolution (omega arith) (omega arith)) refl in
-      finished (base_pairs S) p (special_at p ++ own ++ api ++ cli ++ default_at p) (joined (base_pairs S) p sources.DefaultRoute 6 (special_at p ++ own ++ api ++ cli) (default_at p) five_done default_part refl)
+      let four_done = skipped (base_pairs S) p sources.Adjacency 4 (special_at p ++ own ++ api ++ cli) three_done
+      (no_late sources.Adjacency (omega arith) (omega arith)) refl in
+      let five_done = skipped (base_pairs S) p sources.RecursiveResolution 5 (special_at p ++ own ++ api ++ cli) four_done
+      (no_late sources.RecursiveResolution (omega arith) (omega arith)) refl in
+      finished (base_pairs S) p (special_at p ++ own ++ api ++ cli ++ default_at p)
+      (joined (base_pairs S) p sources.DefaultRoute 6 (special_at p ++ own ++ api ++ cli) (default_at p) five_done default_part refl)
 
 pub each_short : (xs : List Address) (test : Address → Bool) → All (λ a. a.len ≤ 32) xs → AllByRecursion (λ a. a.len ≤ 32) (filter test xs)
-each_short xs test h = each-weaker (λ a. (a.len ≤ 32) × (test a ≡ true)) (λ a. a.len ≤ 32) (λ a k. k.0) (filter test xs) (each-filter (λ a. a.len ≤ 32) test xs (recursion_from_All (λ a. a.len ≤ 32) xs h))
+each_short xs test h = each-weaker (λ a. (a.len ≤ 32) × (test a ≡ true)) (λ a. a.len ≤ 32) (λ a k. k.0) (filter test xs)
+    (each-filter (λ a. a.len ≤ 32) test xs (recursion_from_All (λ a. a.len ≤ 32) xs h))

@@ -1,5 +1,6 @@
 -- A row is as before exactly where what is made anew of its prefix is the same entry.
-use Rattle.std.proofs.Common.{arith, ◌≡◌, ◌<◌, ℕ, Bool, true, false, ◌&&◌, ◌==◌, List, [], ◌∷◌, map, Option, Some, None, inl, inr, refl, sym, ◌∙◌, ap, subst, ◌↔◌}
+use Rattle.std.proofs.Common.{arith, ◌≡◌, ◌<◌, ℕ, Bool, true, false, ◌&&◌, ◌==◌, List, [], ◌∷◌, map, Option, Some, None, inl, inr, refl}
+use Rattle.std.proofs.Common.{sym, ◌∙◌, ap, subst, ◌↔◌}
 use Rattle.std.specs.Prelude.{Contains, IfSome, IsTrue}
 use Rattle.std.specs.List.{AllByRecursion, AllZip, list_all}
 use Rattle.std.proofs.lemmas.Bool.{false≢true, lt-ltb}
@@ -48,7 +49,8 @@ use Rattle.fib_follow_pairs.specs.declared.fresh.FreshEntry.{FreshEntry}
 held_row : (rows : List Row) (lists : List PathKept) (e : Prefix) (r : Row) → AreHeld rows lists → row_of rows e ≡ Some r → AreKept lists r.pairs
 held_row rows lists e r h at p c = h r p (row_there rows e r at).0 c
 
-pub held_found : (rows : List Row) (lists : List PathKept) (e : Prefix) (o : Option Row) → AreHeld rows lists → o ≡ row_of rows e → IfSome o (λ r. AreKept lists r.pairs)
+pub held_found : (rows : List Row) (lists : List PathKept) (e : Prefix) (o : Option Row) → AreHeld rows lists → o ≡ row_of rows e
+    → IfSome o (λ r. AreKept lists r.pairs)
 held_found rows lists e None h at = tt
 held_found rows lists e (Some r) h at = held_row rows lists e r h (sym at)
 
@@ -80,7 +82,8 @@ module _ (lists : List PathKept) where
   pub all_held_is : (ps : List (FibSource × ℕ)) (xs : List Pair) (b : Bool) → b ≡ all_held lists ps xs → IsTrue b ↔ AllZip (IsHeld lists) ps xs
   all_held_is ps xs b is = (λ t. zipped ps xs (sym is ∙ t), λ z. is ∙ unzipped ps xs z)
 
-  of_left : (ps : List (FibSource × ℕ)) (xs : List Pair) → AllZip (IsHeld lists) ps xs → (p : FibSource × ℕ) → Contains ps p → (x : Pair) × Contains xs x × IsHeld lists p x
+  of_left : (ps : List (FibSource × ℕ)) (xs : List Pair) → AllZip (IsHeld lists) ps xs → (p : FibSource × ℕ) → Contains ps p
+      → (x : Pair) × Contains xs x × IsHeld lists p x
   of_left [] xs h p c = absurd (Contains-nil p c)
   of_left (q ∷ ps) [] h p c = absurd h
   of_left (q ∷ ps) (x ∷ xs) h p c = elim (in_cases q p ps c) [
@@ -88,7 +91,8 @@ module _ (lists : List PathKept) where
     | inr later ↦ (let w = of_left ps xs h.1 p later in (w.0, in_rest x w.0 xs w.1, w.2))
   ]
 
-  of_right : (ps : List (FibSource × ℕ)) (xs : List Pair) → AllZip (IsHeld lists) ps xs → (x : Pair) → Contains xs x → (p : FibSource × ℕ) × Contains ps p × IsHeld lists p x
+  of_right : (ps : List (FibSource × ℕ)) (xs : List Pair) → AllZip (IsHeld lists) ps xs → (x : Pair) → Contains xs x
+      → (p : FibSource × ℕ) × Contains ps p × IsHeld lists p x
   of_right ps [] h x c = absurd (Contains-nil x c)
   of_right [] (y ∷ xs) h x c = absurd h
   of_right (p ∷ ps) (y ∷ xs) h x c = elim (in_cases y x xs c) [
@@ -126,19 +130,22 @@ module _ (lists : List PathKept) where
             | inl is ↦ subst (IsHeld lists p) (sym is) y.2
             | inr later ↦ elim (in_cases p q.0 ps q.1) [
               | inl is ↦ subst (λ z. IsHeld lists z x) (sym is) q.2
-              | inr after ↦ (let m = held_rank p y.0 y.2 in let n = held_rank q.0 x q.2 in let i = low_right y.0 later in let j = low_left q.0 after in absurd (omega (arith, m, n, i, j)))
+              | inr after ↦ (let m = held_rank p y.0 y.2 in let n = held_rank q.0 x q.2 in let i = low_right y.0 later
+                  in let j = low_left q.0 after in absurd (omega (arith, m, n, i, j)))
             ]
           ]
 
       left : (q : FibSource × ℕ) → Contains ps q → (y : Pair) × Contains (x ∷ xs) y × IsHeld lists q y → (y : Pair) × Contains xs y × IsHeld lists q y
       left q c w = elim (in_cases x w.0 xs w.1) [
-        | inl is ↦ (let m = held_rank q w.0 w.2 in let n = held_rank p x first in let i = low_left q c in let k = ap (λ z. source_rank z.source) is in absurd (omega (arith, m, n, i, k)))
+        | inl is ↦ (let m = held_rank q w.0 w.2 in let n = held_rank p x first in let i = low_left q c
+            in let k = ap (λ z. source_rank z.source) is in absurd (omega (arith, m, n, i, k)))
         | inr later ↦ (w.0, later, w.2)
       ]
 
       right : (y : Pair) → Contains xs y → (q : FibSource × ℕ) × Contains (p ∷ ps) q × IsHeld lists q y → (q : FibSource × ℕ) × Contains ps q × IsHeld lists q y
       right y c w = elim (in_cases p w.0 ps w.1) [
-        | inl is ↦ (let m = held_rank w.0 y w.2 in let n = held_rank p x first in let i = low_right y c in let k = ap (λ z. source_rank z.0) is in absurd (omega (arith, m, n, i, k)))
+        | inl is ↦ (let m = held_rank w.0 y w.2 in let n = held_rank p x first in let i = low_right y c
+            in let k = ap (λ z. source_rank z.0) is in absurd (omega (arith, m, n, i, k)))
         | inr later ↦ (w.0, later, w.2)
       ]
 
@@ -164,7 +171,8 @@ module _ (lists : List PathKept) where
         (λ x c. (let r = (after.are x).0 c in let f = before.found x ((same x r.1).1 r.0) r.1 in (f.0, f.1, f.2)))
 
 -- the marks of an entry's chosen list tell its cover, where a path leads there
-kind_stays : (S : Tables) (e : Prefix) (c : Option Prefix) (kind : PathKind) → (kind ≡ kinds.Cover → is_that_cover c (cover S e.bits) ≡ true) → aim_stays c (kind_aim S e kind) ≡ true
+kind_stays : (S : Tables) (e : Prefix) (c : Option Prefix) (kind : PathKind)
+    → (kind ≡ kinds.Cover → is_that_cover c (cover S e.bits) ≡ true) → aim_stays c (kind_aim S e kind) ≡ true
 kind_stays S e c kinds.Drop h = refl
 kind_stays S e c kinds.Local h = refl
 kind_stays S e c (kinds.Attached i) h = refl
@@ -172,7 +180,8 @@ kind_stays S e c (kinds.Hop a i) h = refl
 kind_stays S e c (kinds.Recursive a) h = refl
 kind_stays S e c kinds.Cover h = rw (lt-ltb (cover S e.bits).len 32 (cover_short S e.bits)) (h refl)
 
-kind_told : (S : Tables) (e : Prefix) (c : Option Prefix) (kind : PathKind) → aim_stays c (kind_aim S e kind) ≡ true → kind ≡ kinds.Cover → is_that_cover c (cover S e.bits) ≡ true
+kind_told : (S : Tables) (e : Prefix) (c : Option Prefix) (kind : PathKind) → aim_stays c (kind_aim S e kind) ≡ true → kind ≡ kinds.Cover
+    → is_that_cover c (cover S e.bits) ≡ true
 kind_told S e c kind h is = cover_told (subst (λ k. aim_stays c (kind_aim S e k) ≡ true) is h)
   where
     cover_told : aim_stays c (kind_aim S e kinds.Cover) ≡ true → is_that_cover c (cover S e.bits) ≡ true
@@ -216,7 +225,8 @@ not_same : (S T : Tables) (e : Prefix) → has_entry S e ≡ true → has_entry 
 not_same S T e there none same = (let x = some_pair S e there in false≢true (sym none ∙ pair_entry T x.0 e ((same x.0 x.2).0 x.1) (sym x.2)))
 
 module _ (lists : List PathKept) (S T : Tables) (sound : IsSound S) where
-  entry_same : (r : Row) (f : FreshEntry) → ArePairs lists S f.prefix r.pairs → r.marked ≡ marked_list S f.prefix → IsEntry T f → entry_stays lists r f ≡ true ↔ SameEntry S T f.prefix
+  entry_same : (r : Row) (f : FreshEntry) → ArePairs lists S f.prefix r.pairs → r.marked ≡ marked_list S f.prefix → IsEntry T f
+      → entry_stays lists r f ≡ true ↔ SameEntry S T f.prefix
   entry_same r f before marks h = (
     λ t. (let both = and_both (all_held lists r.pairs f.pairs) (list_all (λ m. aim_stays f.cover m.aim) r.marked) t in record {
       pairs = same_from_zip lists S T f.prefix r.pairs f.pairs before h.pairs (zipped lists r.pairs f.pairs both.0);
@@ -243,11 +253,13 @@ module _ (v : Known) (S T : Tables) (k : StandsFor v S) where
     where
       by : (o : Option Row) (g : Fresh) → row_of v.rows (prefix_in g) ≡ o → IsFresh T g → row_stays v.lists o g ≡ true ↔ SameEntry S T (prefix_in g)
       by None (made.Gone e) at h = (λ t. none_same e (no_entry v S k e at) h, λ same. refl)
-      by None (made.Entry g) at h = (λ t. absurd (false≢true t), λ same. absurd (not_same T S g.prefix h.effective (no_entry v S k g.prefix at) (λ x own. ((same.pairs x own).1, (same.pairs x own).0))))
+      by None (made.Entry g) at h =
+          (λ t. absurd (false≢true t), λ same. absurd (not_same T S g.prefix h.effective (no_entry v S k g.prefix at) (λ x own. ((same.pairs x own).1, (same.pairs x own).0))))
       by (Some r) (made.Gone e) at h = (λ t. absurd (false≢true t), λ same. absurd (not_same S T e (row_entry v S k e r at) h same.pairs))
       by (Some r) (made.Entry g) at h = (let known = known_row g.prefix r at in entry_same v.lists S T k.sound r g known.0 known.1 h)
 
-  pub unchanged_is : (f : Fresh) (o : Option Row) (b : Bool) → b ≡ row_stays v.lists o f → o ≡ row_of v.rows (prefix_in f) → IsFresh T f → IsTrue b ↔ SameEntry S T (prefix_in f)
+  pub unchanged_is : (f : Fresh) (o : Option Row) (b : Bool) → b ≡ row_stays v.lists o f → o ≡ row_of v.rows (prefix_in f) → IsFresh T f
+      → IsTrue b ↔ SameEntry S T (prefix_in f)
   unchanged_is f o b is at h =
       let told : b ≡ row_stays v.lists (row_of v.rows (prefix_in f)) f = is ∙ ap (λ z. row_stays v.lists z f) at in
       (λ t. (row_same f h).0 (sym told ∙ t), λ same. told ∙ (row_same f h).1 same)

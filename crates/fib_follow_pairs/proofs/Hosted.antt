@@ -1,5 +1,6 @@
 -- The pairs of a prefix, those of a neighbor and of a next hop among them.
-use Rattle.std.proofs.Common.{arith, ◌≡◌, ℕ, ◌<◌, ◌≤◌, ◌==◌, Bool, true, false, List, [], ◌∷◌, ◌++◌, length, Option, Some, None, inl, inr, refl, sym, ◌∙◌, ap, subst, ◌↔◌}
+use Rattle.std.proofs.Common.{arith, ◌≡◌, ℕ, ◌<◌, ◌≤◌, ◌==◌, Bool, true, false, List, [], ◌∷◌, ◌++◌, length, Option, Some, None, inl, inr}
+use Rattle.std.proofs.Common.{refl, sym, ◌∙◌, ap, subst, ◌↔◌}
 use Rattle.std.specs.Prelude.{Contains, find, option_map, filter_map, IsTrue}
 use Rattle.std.specs.List.{AllByRecursion, list_any}
 use Rattle.std.proofs.lemmas.Bool.{false≢true}
@@ -11,7 +12,8 @@ use Rattle.fib_addr.specs.Prefixes.{Prefix, host}
 use Rattle.fib_addr.proofs.PrefixLaws.{same_fields}
 use Rattle.fib_resolve.specs.Edits.{paths_at}
 use Rattle.fib_resolve.specs.Keys.{source_rank}
-use Rattle.fib_resolve.specs.Pairs.{base_pairs, pairs, one, attached_by, attached_of, best_pair, chosen, cover, derived_kind, derived_pair, is_interface, neighbor_pairs, paths_of, recursive_hops, recursive_of, route_pair}
+use Rattle.fib_resolve.specs.Pairs.{base_pairs, pairs, one, attached_by, attached_of, best_pair, chosen, cover, derived_kind, derived_pair}
+use Rattle.fib_resolve.specs.Pairs.{is_interface, neighbor_pairs, paths_of, recursive_hops, recursive_of, route_pair}
 use Rattle.fib_resolve.specs.Resolution.{is_neighbor, mac_of}
 use Rattle.fib_resolve.specs.Tables.{IsSound, IsSoundRoute}
 use Rattle.fib_resolve.specs.declared.pairs.Pair.{Pair}
@@ -58,14 +60,21 @@ near_nowhere S i a e (n, c, on, at) = by S.neighbors (found (find (is_neighbor i
     by (m ∷ ms) f k = elim (either (is_neighbor i a m)) [
       | inl is ↦ absurd (let bad : Some m ≡ None = rw is at f in cc)
       | inr isnt ↦ elim (in_cases m n ms k) [
-        | inl same ↦ clash (is_neighbor i a m) (rw ((Decides-eqb m.interface i).1 (ap (λ z. z.interface) same ∙ on), (Decides-eqb m.addr a).1 (ap (λ z. z.addr) same ∙ at)) refl) isnt
+        | inl same ↦ clash (is_neighbor i a m)
+            (rw (
+              (Decides-eqb m.interface i).1 (ap (λ z. z.interface) same ∙ on),
+              (Decides-eqb m.addr a).1
+                  (ap (λ z. z.addr) same ∙ at),
+            ) refl) isnt
         | inr later ↦ by ms (rw isnt at f) later
       ]
     ]
 
-near_in : (S : Tables) (n : Neighbor) → is_interface (attached_by S n.addr) n.interface ≡ true → Contains (neighbor_pairs S n) (one (host n.addr) sources.Adjacency (kinds.Hop n.addr n.interface))
+near_in : (S : Tables) (n : Neighbor) → is_interface (attached_by S n.addr) n.interface ≡ true
+    → Contains (neighbor_pairs S n) (one (host n.addr) sources.Adjacency (kinds.Hop n.addr n.interface))
 unfolding neighbor_pairs
-near_in S n h = rw h (in_front (one (host n.addr) sources.Adjacency (kinds.Hop n.addr n.interface)) (one (host n.addr) sources.Adjacency (kinds.Hop n.addr n.interface)) [] refl)
+near_in S n h = rw h (in_front (one (host n.addr) sources.Adjacency (kinds.Hop n.addr n.interface))
+    (one (host n.addr) sources.Adjacency (kinds.Hop n.addr n.interface)) [] refl)
 
 derived_is : (S : Tables) (a : ℕ) → derived_pair S a ≡ one (host a) sources.RecursiveResolution (derived_kind a (attached_by S a))
 unfolding derived_pair
@@ -73,7 +82,8 @@ derived_is S a = refl
 
 -- where a pair of late sources comes from
 near_rank : (S : Tables) (n : Neighbor) (x : Pair) → Contains (neighbor_pairs S n) x → (source_rank x.source ≡ 4) × (x.prefix ≡ host n.addr)
-near_rank S n x c = (let r = near_from S n x c in let is = sym (near_is n.addr n.interface) ∙ r.1 in (sym (ap (λ z. source_rank z.source) is), sym (ap (λ z. z.prefix) is)))
+near_rank S n x c = (let r = near_from S n x c in let is = sym (near_is n.addr n.interface) ∙ r.1
+    in (sym (ap (λ z. source_rank z.source) is), sym (ap (λ z. z.prefix) is)))
 
 derived_rank : (S : Tables) (a : ℕ) (x : Pair) → derived_pair S a ≡ x → (source_rank x.source ≡ 5) × (x.prefix ≡ host a)
 derived_rank S a x is = (let e = sym (derived_is S a) ∙ is in (sym (ap (λ z. source_rank z.source) e), sym (ap (λ z. z.prefix) e)))
@@ -87,8 +97,11 @@ module _ (S : Tables) (sound : IsSound S) where
     ]
     one_near x (derived b c is) on at = absurd (let k = ap source_rank at in let r = (derived_rank S b x is).0 in omega (arith, k, r))
     one_near x (neighbor n c near) on at =
-        let same : a ≡ n.addr = ap (λ z. z.bits) (on ∙ (near_rank S n x near).1) in
-        (n.interface, (n, c, refl, sym same), by (attached_by S a) (subst (λ z. is_interface (attached_by S z) n.interface ≡ true) (sym same) (near_from S n x near).0))
+        let same : a ≡ n.addr = ap (λ z. z.bits) (on ∙ (near_rank S n x near).1) in (
+          n.interface,
+          (n, c, refl, sym same),
+          by (attached_by S a) (subst (λ z. is_interface (attached_by S z) n.interface ≡ true) (sym same) (near_from S n x near).0),
+        )
       where
         by : (o : Option ℕ) → is_interface o n.interface ≡ true → o ≡ Some n.interface
         by None h = absurd (false≢true h)
@@ -103,14 +116,18 @@ module _ (S : Tables) (sound : IsSound S) where
             near_nowhere S i a e (subst (λ z. HasNeighbor S z a) (sym same) r.1)))
         with_mac i (Some mac) at e =
             let n = near_there S i a mac e in
-            let own : is_interface (attached_by S n.0.addr) n.0.interface ≡ true = ap (λ z. is_interface (attached_by S z) n.0.interface) n.3 ∙ ap (λ o. is_interface o n.0.interface) at ∙ (Decides-eqb n.0.interface i).1 n.2 in
+            let own : is_interface (attached_by S n.0.addr) n.0.interface ≡ true = ap
+            (λ z. is_interface (attached_by S z) n.0.interface) n.3 ∙ ap (λ o. is_interface o n.0.interface) at
+            ∙ (Decides-eqb n.0.interface i).1 n.2 in
             let is : one (host n.0.addr) sources.Adjacency (kinds.Hop n.0.addr n.0.interface) ≡ one (host a) sources.Adjacency (kinds.Hop a i) =
             ap (λ z. one (host z) sources.Adjacency (kinds.Hop z n.0.interface)) n.3 ∙ ap (λ z. one (host a) sources.Adjacency (kinds.Hop a z)) n.2 in
             there (pairs S) (host a) sources.Adjacency (one (host a) sources.Adjacency (kinds.Hop a i)) (one_pair S sound)
-            (from_origin S (one (host a) sources.Adjacency (kinds.Hop a i)) (neighbor n.0 n.1 (subst (Contains (neighbor_pairs S n.0)) is (near_in S n.0 own)))) refl refl
+            (from_origin S (one (host a) sources.Adjacency (kinds.Hop a i))
+            (neighbor n.0 n.1 (subst (Contains (neighbor_pairs S n.0)) is (near_in S n.0 own)))) refl refl
 
         by : (o : Option ℕ) → attached_by S a ≡ o → IsPart (pairs S) (host a) sources.Adjacency (near_at S a o)
-        by None at = nowhere (pairs S) (host a) sources.Adjacency (λ x c on is. (let r = one_near x (origin S x c) on is in let bad : Some r.0 ≡ None = sym r.2 ∙ at in absurd (cc)))
+        by None at = nowhere (pairs S) (host a) sources.Adjacency
+            (λ x c on is. (let r = one_near x (origin S x c) on is in let bad : Some r.0 ≡ None = sym r.2 ∙ at in absurd (cc)))
         by (Some i) at = with_mac i (mac_of S i a) at refl
 
     one_hop : (x : Pair) → Origin S x → host a ≡ x.prefix → sources.RecursiveResolution ≡ x.source → Contains (all_hops S) a
@@ -122,7 +139,8 @@ module _ (S : Tables) (sound : IsSound S) where
     one_hop x (derived b c is) on at = subst (Contains (all_hops S)) (ap (λ z. z.bits) (sym (derived_rank S b x is).1 ∙ sym on)) c
 
     pub hop_part : (b : Bool) → IsTrue b ↔ Contains (all_hops S) a → IsPart (pairs S) (host a) sources.RecursiveResolution (hop_at a (attached_by S a) b)
-    hop_part true h = there (pairs S) (host a) sources.RecursiveResolution (one (host a) sources.RecursiveResolution (derived_kind a (attached_by S a))) (one_pair S sound)
+    hop_part true h = there (pairs S) (host a) sources.RecursiveResolution
+        (one (host a) sources.RecursiveResolution (derived_kind a (attached_by S a))) (one_pair S sound)
         (from_origin S (one (host a) sources.RecursiveResolution (derived_kind a (attached_by S a))) (derived a (h.0 refl) (derived_is S a))) refl refl
     hop_part false h = nowhere (pairs S) (host a) sources.RecursiveResolution (λ x c on is. absurd (false≢true (h.1 (one_hop x (origin S x c) on is))))
 
@@ -184,13 +202,20 @@ module _ (S : Tables) (sound : IsSound S) where
   }
 
   -- the first is the best
-  first_paths : (all : List Pair) (q : Prefix) (xs : List Pair) → ((x y : Pair) → Contains all x → Contains all y → x.prefix ≡ y.prefix → x.source ≡ y.source → x ≡ y)
+  first_paths : (all : List Pair) (q : Prefix) (xs : List Pair)
+      → ((x y : Pair) → Contains all x → Contains all y → x.prefix ≡ y.prefix → x.source ≡ y.source → x ≡ y)
       → ArePairsAt all q xs → paths_in xs ≡ paths_of (best_pair q all)
   first_paths all q xs unique h = by xs h (best_pair q all) (best_of q all)
     where
-      after : (y x : Pair) (zs : List Pair) → Contains zs x → AllByRecursion (λ z. source_rank y.source < source_rank z.source) zs → source_rank y.source < source_rank x.source
+      after : (y x : Pair) (zs : List Pair) → Contains zs x → AllByRecursion (λ z. source_rank y.source < source_rank z.source) zs
+          → source_rank y.source < source_rank x.source
       after y x [] d low = absurd (Contains-nil x d)
-      after y x (z ∷ zs) d low = elim (in_cases z x zs d) [ inl is ↦ subst (λ w. source_rank y.source < source_rank w.source) is low.0 | inr on ↦ after y x zs on low.1 ]
+      after y x (z ∷ zs) d low = elim
+          (in_cases z x zs d) [
+            | inl is ↦ subst
+                (λ w. source_rank y.source < source_rank w.source) is low.0
+            | inr on ↦ after y x zs on low.1
+          ]
 
       least : (y x : Pair) (ys : List Pair) → AreBetterFirst (y ∷ ys) → Contains (y ∷ ys) x → source_rank y.source ≤ source_rank x.source
       least y x ys k c = elim (in_cases y x ys c) [
@@ -218,8 +243,10 @@ module _ (S : Tables) (sound : IsSound S) where
   -- a prefix that can cover attaches as its chosen list says
   pub attached_chosen : (q : Prefix) → q.len < 32 → attached_of (chosen S q) ≡ attached_at S q
   unfolding chosen
-  attached_chosen q short = ap attached_of (best_paths_same q (pairs S) (base_pairs S) (λ x y c d own is. ap (λ z. z.paths) (one_base_pair S sound x y c d own is))
-      (λ x own. (λ c. short_base q x short own c, λ c. from_origin S x (base c))) (best_pair q (pairs S)) (best_pair q (base_pairs S)) (best_of q (pairs S)) (best_of q (base_pairs S)))
+  attached_chosen q short = ap attached_of
+      (best_paths_same q (pairs S) (base_pairs S) (λ x y c d own is. ap (λ z. z.paths) (one_base_pair S sound x y c d own is))
+      (λ x own. (λ c. short_base q x short own c, λ c. from_origin S x (base c))) (best_pair q (pairs S)) (best_pair q (base_pairs S))
+      (best_of q (pairs S)) (best_of q (base_pairs S)))
 
 pub attached_through : (S : Tables) (a : ℕ) → attached_at S (cover S a) ≡ attached_by S a
 unfolding attached_by
@@ -280,7 +307,8 @@ module _ (S : Tables) (sound : IsSound S) (a : ℕ) where
           let there_too = subst (λ l. Contains l w.0) (e ∙ sym f.4) w.1 in
           Contains-flat_map recursive_hops S.routes f.0 a f.1 (hop_in f.0.paths w.0 a there_too (to_hop (recursive_of w.0) a w.2))
 
-  leads : (r : Route) (s : FibSource) → r.source ≡ s → Contains S.routes r → Contains (recursive_hops r) a → list_any (leads_to a) (paths_at r.prefix s S.routes) ≡ true
+  leads : (r : Route) (s : FibSource) → r.source ≡ s → Contains S.routes r → Contains (recursive_hops r) a
+      → list_any (leads_to a) (paths_at r.prefix s S.routes) ≡ true
   leads r s is c h =
       let w = hop_from r.paths a h in
       let own : paths_at r.prefix s S.routes ≡ r.paths = ap (λ z. paths_at r.prefix z S.routes) (sym is) ∙ own_paths S sound r c in
@@ -289,7 +317,8 @@ module _ (S : Tables) (sound : IsSound S) (a : ℕ) where
   way_of : (r : Route) → Contains S.routes r → Contains (recursive_hops r) a → is_way S a r.prefix ≡ true
   way_of r c h = elim (sound_route S sound r c).written [
     | inl api ↦ or_left (list_any (leads_to a) (paths_at r.prefix sources.Api S.routes)) _ (leads r sources.Api api c h)
-    | inr cli ↦ or_right (list_any (leads_to a) (paths_at r.prefix sources.Api S.routes)) (list_any (leads_to a) (paths_at r.prefix sources.Cli S.routes)) (leads r sources.Cli cli c h)
+    | inr cli ↦ or_right (list_any (leads_to a) (paths_at r.prefix sources.Api S.routes))
+        (list_any (leads_to a) (paths_at r.prefix sources.Cli S.routes)) (leads r sources.Cli cli c h)
   ]
 
   -- an address is a next hop exactly where one of the routes' prefixes has it

@@ -59,18 +59,25 @@ single_by_rank [] h = tt
 single_by_rank (y ∷ []) h = (tt, tt)
 single_by_rank (y ∷ z ∷ zs) h = absurd (omega (arith, h))
 
-append_by_rank : (xs ys : List Pair) (d : ℕ) → AreBetterFirst xs → AllByRecursion (λ x. source_rank x.source < d) xs → AreBetterFirst ys → AllByRecursion (λ y. d ≤ source_rank y.source) ys → AreBetterFirst (xs ++ ys)
+append_by_rank : (xs ys : List Pair) (d : ℕ) → AreBetterFirst xs → AllByRecursion (λ x. source_rank x.source < d) xs → AreBetterFirst ys
+    → AllByRecursion (λ y. d ≤ source_rank y.source) ys → AreBetterFirst (xs ++ ys)
 append_by_rank [] ys d h b k a = k
 append_by_rank (x ∷ xs) ys d h b k a = (
-  each-append (λ y. source_rank x.source < source_rank y.source) xs ys h.0 (each-weaker (λ y. d ≤ source_rank y.source) (λ y. source_rank x.source < source_rank y.source) (λ y le. (let lt = b.0 in omega (arith, lt, le))) ys a),
+  each-append (λ y. source_rank x.source < source_rank y.source) xs ys h.0
+      (each-weaker (λ y. d ≤ source_rank y.source) (λ y. source_rank x.source < source_rank y.source)
+      (λ y le. (let lt = b.0 in omega (arith, lt, le))) ys a),
   append_by_rank xs ys d h.1 b.1 k a,
 )
 
 -- the next source
-pub joined : (all : List Pair) (e : Prefix) (s : FibSource) (d : ℕ) (xs ys : List Pair) → AreFirst all e d xs → IsPart all e s ys → source_rank s ≡ d → AreFirst all e (d + 1) (xs ++ ys)
+pub joined : (all : List Pair) (e : Prefix) (s : FibSource) (d : ℕ) (xs ys : List Pair) → AreFirst all e d xs → IsPart all e s ys
+    → source_rank s ≡ d → AreFirst all e (d + 1) (xs ++ ys)
 joined all e s d xs ys h k rank = record {
-  by_rank = append_by_rank xs ys d h.by_rank h.below (single_by_rank ys k.single) (each-weaker (λ y. s ≡ y.source) (λ y. d ≤ source_rank y.source) (λ y is. (let r = ap source_rank is in omega (arith, r, rank))) ys k.sources);
-  below = each-append (λ y. source_rank y.source < d + 1) xs ys (each-weaker (λ y. source_rank y.source < d) (λ y. source_rank y.source < d + 1) (λ y lt. omega (arith, lt)) xs h.below)
+  by_rank = append_by_rank xs ys d h.by_rank h.below (single_by_rank ys k.single)
+      (each-weaker (λ y. s ≡ y.source) (λ y. d ≤ source_rank y.source)
+      (λ y is. (let r = ap source_rank is in omega (arith, r, rank))) ys k.sources);
+  below = each-append (λ y. source_rank y.source < d + 1) xs ys
+      (each-weaker (λ y. source_rank y.source < d) (λ y. source_rank y.source < d + 1) (λ y lt. omega (arith, lt)) xs h.below)
       (each-weaker (λ y. s ≡ y.source) (λ y. source_rank y.source < d + 1) (λ y is. (let r = ap source_rank is in omega (arith, r, rank))) ys k.sources);
   are = λ x. (
     λ c. elim (Contains-append_cases xs ys x c) [
@@ -85,7 +92,8 @@ joined all e s d xs ys h k rank = record {
 }
 
 -- a source of which there is none
-pub skipped : (all : List Pair) (e : Prefix) (s : FibSource) (d : ℕ) (xs : List Pair) → AreFirst all e d xs → ((x : Pair) → Contains all x → e ≡ x.prefix → s ≡ x.source → ⊥) → source_rank s ≡ d → AreFirst all e (d + 1) xs
+pub skipped : (all : List Pair) (e : Prefix) (s : FibSource) (d : ℕ) (xs : List Pair) → AreFirst all e d xs
+    → ((x : Pair) → Contains all x → e ≡ x.prefix → s ≡ x.source → ⊥) → source_rank s ≡ d → AreFirst all e (d + 1) xs
 skipped all e s d xs h none rank = subst (AreFirst all e (d + 1)) (append-nil xs) (joined all e s d xs [] h (nowhere all e s none) rank)
 
 -- all sources

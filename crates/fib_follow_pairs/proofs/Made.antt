@@ -50,7 +50,8 @@ attached_made S (made.Entry f) sound h short = ap attached_of (first_is_chosen S
 attached_made S (made.Gone e) sound h short = ap attached_of (sym (chosen-no_entry S e h)) ∙ attached_chosen S sound e short
 
 -- and by its row
-pub attached_row : (v : Known) (S : Tables) (r : Row) → StandsFor v S → Contains v.rows r → r.prefix.len < 32 → attached_of (paths_held v.lists r.pairs) ≡ attached_at S r.prefix
+pub attached_row : (v : Known) (S : Tables) (r : Row) → StandsFor v S → Contains v.rows r → r.prefix.len < 32
+    → attached_of (paths_held v.lists r.pairs) ≡ attached_at S r.prefix
 attached_row v S r k c short = by r.pairs ((k.rows r c).pairs)
   where
     none : ArePairs v.lists S r.prefix [] → has_entry S r.prefix ≡ false

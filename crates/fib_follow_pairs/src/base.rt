@@ -4,7 +4,8 @@ ghost use Rattle.std.specs.List.{AllByRecursion, list_any};
 ghost use Rattle.fib_resolve.specs.Pairs.{base_pairs, is_address, one, plain};
 ghost use Rattle.fib_resolve_changes.specs.Looked.{attached_at};
 ghost use Rattle.fib_follow_pairs.specs.Fresh.{ArePairsAt};
-ghost use Rattle.fib_follow_pairs.specs.inner.Parts.{is_special, special_at, is_connected, is_edge, connected_at, host_at, own_at, written_at, default_at, base_at, paths_in};
+ghost use Rattle.fib_follow_pairs.specs.inner.Parts.{is_special, special_at, is_connected, is_edge, connected_at, host_at, own_at};
+ghost use Rattle.fib_follow_pairs.specs.inner.Parts.{written_at, default_at, base_at, paths_in};
 
 use fib_addr::{Addr, Prefix};
 use fib_config::Config;

@@ -1,5 +1,6 @@
 -- Ranks of a part that fall there and raise no entry fall everywhere.
-use Rattle.std.proofs.Common.{arith, ◌≡◌, ℕ, zero, suc, ◌+◌, ◌<◌, ◌≤◌, true, false, List, [], ◌∷◌, map, length, Option, Some, None, inl, inr, refl, sym, ◌∙◌, ap, subst, slice_get}
+use Rattle.std.proofs.Common.{arith, ◌≡◌, ℕ, zero, suc, ◌+◌, ◌<◌, ◌≤◌, true, false, List, [], ◌∷◌, map, length, Option, Some, None, inl}
+use Rattle.std.proofs.Common.{inr, refl, sym, ◌∙◌, ap, subst, slice_get}
 use Rattle.std.specs.Prelude.{Contains, position, slice_index}
 use Rattle.std.specs.List.{list_all}
 use Rattle.std.proofs.lemmas.Bool.{false≢true, ltb-true}
@@ -53,7 +54,8 @@ module _ (v : Seen) (S T : Tables) (h : IsAfter v S T) (p : Part) (is : IsPart v
       by None none = refl
       by (Some j) some = absurd (false≢true (sym off ∙ member_of p.members e (contains_at p.members j e (place_found p.members e j (sym some)))))
 
-  inside : ((d : ℕ × ℕ) → Contains p.left d → slice_index ranks d.1 < slice_index ranks d.0) → (e t : Prefix) → in_part p e ≡ true → Kept T e t → rank_after v p ranks t < rank_after v p ranks e
+  inside : ((d : ℕ × ℕ) → Contains p.left d → slice_index ranks d.1 < slice_index ranks d.0) → (e t : Prefix) → in_part p e ≡ true
+      → Kept T e t → rank_after v p ranks t < rank_after v p ranks e
   inside falls e t there kept =
       let i = index_of p.members e (among p.members e there) in
       let j = index_of p.members t (among p.members t (is.reached.after e t there (kept_target T e t kept))) in
@@ -62,7 +64,8 @@ module _ (v : Seen) (S T : Tables) (h : IsAfter v S T) (p : Part) (is : IsPart v
       let b = at_place t j.0 j.1 in
       omega (arith, lt, a, b)
 
-  low_all : ((k : ℕ) (e : Prefix) → slice_get p.members k ≡ Some e → slice_index ranks k ≤ rank_before v e) → (e : Prefix) → Contains (entries S) e → rank_after v p ranks e ≤ rank_of v.before.rows e
+  low_all : ((k : ℕ) (e : Prefix) → slice_get p.members k ≡ Some e → slice_index ranks k ≤ rank_before v e) → (e : Prefix)
+      → Contains (entries S) e → rank_after v p ranks e ≤ rank_of v.before.rows e
   low_all low e there = by (position (same_prefix e) p.members) refl
     where
       row_there : (o : Option Row) → row_of v.before.rows e ≡ o → rank_or_top o ≡ rank_in o
@@ -71,13 +74,16 @@ module _ (v : Seen) (S T : Tables) (h : IsAfter v S T) (p : Part) (is : IsPart v
 
       by : (o : Option ℕ) → position (same_prefix e) p.members ≡ o → rank_at v ranks e o ≤ rank_of v.before.rows e
       by None none = omega arith
-      by (Some k) some = (let le = low k e (place_found p.members e k (sym some)) in let same = row_there (row_of v.before.rows e) refl in omega (arith, le, same))
+      by (Some k) some = (let le = low k e (place_found p.members e k (sym some)) in let same = row_there (row_of v.before.rows e) refl
+          in omega (arith, le, same))
 
-  are_ranks : ((k : ℕ) (e : Prefix) → slice_get p.members k ≡ Some e → slice_index ranks k ≤ rank_before v e) → ((d : ℕ × ℕ) → Contains p.left d → slice_index ranks d.1 < slice_index ranks d.0) → AreRanks v S T p ranks
+  are_ranks : ((k : ℕ) (e : Prefix) → slice_get p.members k ≡ Some e → slice_index ranks k ≤ rank_before v e)
+      → ((d : ℕ × ℕ) → Contains p.left d → slice_index ranks d.1 < slice_index ranks d.0) → AreRanks v S T p ranks
   are_ranks low falls = record {
     each = each;
     low = low_all low;
-    falls = lowered_fall S T (is_changed v.changed) (in_part p) (rank_of v.before.rows) (rank_after v p ranks) h.stands.sound h.sound is.reached h.stands.falls beside (low_all low) (inside falls);
+    falls = lowered_fall S T (is_changed v.changed) (in_part p) (rank_of v.before.rows)
+        (rank_after v p ranks) h.stands.sound h.sound is.reached h.stands.falls beside (low_all low) (inside falls);
   }
 
 all_fall : (ranks : List ℕ) (edges : List (ℕ × ℕ)) → list_all (does_fall ranks) edges ≡ true → (d : ℕ × ℕ) → Contains edges d → does_fall ranks d ≡ true
@@ -95,14 +101,16 @@ fall_index ranks d falls = by (slice_get ranks d.0) (slice_get ranks d.1) refl r
     by (Some a) (Some b) x y f = (let m = index_at ranks d.0 a x in let n = index_at ranks d.1 b y in let lt = ltb-true b a f in omega (arith, m, n, lt))
 
 -- the ranks that the members had
-pub stay_ranks : (v : Seen) (S T : Tables) (p : Part) (ranks : List ℕ) → IsAfter v S T → IsPart v S T p → ranks ≡ map (rank_before v) p.members → list_all (does_fall ranks) p.left ≡ true → AreRanks v S T p ranks
+pub stay_ranks : (v : Seen) (S T : Tables) (p : Part) (ranks : List ℕ) → IsAfter v S T → IsPart v S T p
+    → ranks ≡ map (rank_before v) p.members → list_all (does_fall ranks) p.left ≡ true → AreRanks v S T p ranks
 stay_ranks v S T p ranks h is made falls =
     are_ranks v S T h p is ranks (ap length made ∙ map_length (rank_before v) p.members)
     (λ k e at. (let same = index_at ranks k (rank_before v e) (ap (λ l. slice_get l k) made ∙ get_map (rank_before v) p.members k e at) in omega (arith, same)))
     (λ d c. fall_index ranks d (all_fall ranks p.left falls d c))
 
 -- a block below them
-pub block_ranks : (v : Seen) (S T : Tables) (p : Part) (before ranks : List ℕ) → IsAfter v S T → IsPart v S T p → length p.numbers ≡ length p.members → before ≡ map (rank_before v) p.members → IsBlock before p.numbers ranks → AreRanks v S T p ranks
+pub block_ranks : (v : Seen) (S T : Tables) (p : Part) (before ranks : List ℕ) → IsAfter v S T → IsPart v S T p
+    → length p.numbers ≡ length p.members → before ≡ map (rank_before v) p.members → IsBlock before p.numbers ranks → AreRanks v S T p ranks
 block_ranks v S T p before ranks h is len was block =
     are_ranks v S T h p is ranks each
     (λ k e at. (let inside = slice_get_within p.members k e at in

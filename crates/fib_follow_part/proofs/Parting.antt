@@ -56,11 +56,13 @@ pub among : (xs : List Prefix) (e : Prefix) → is_member same_prefix xs e ≡ t
 among xs e is = (is_member-Decides same_prefix-Decides xs e).0 is
 
 -- edges among what is seen lead from place to place
-pub among_places : (next : Prefix → List Prefix) (order : List Prefix) (edges : List (ℕ × ℕ)) → AreEdgesAmong next order (length order) edges → ArePlaces order edges
+pub among_places : (next : Prefix → List Prefix) (order : List Prefix) (edges : List (ℕ × ℕ))
+    → AreEdgesAmong next order (length order) edges → ArePlaces order edges
 among_places next order edges are d c = let r = (are d).0 c in (slice_get_within order d.0 r.1.0 r.1.2, slice_get_within order d.1 r.1.1 r.1.3)
 
 -- edges that are left join places
-pub left_places : (order : List Prefix) (edges left : List (ℕ × ℕ)) (test : ℕ × ℕ → Bool) → left ≡ filter test edges → ArePlaces order edges → AreEdges (length order) left
+pub left_places : (order : List Prefix) (edges left : List (ℕ × ℕ)) (test : ℕ × ℕ → Bool) → left ≡ filter test edges → ArePlaces order edges
+    → AreEdges (length order) left
 left_places order edges left test is places = places_join order left (λ d c. places d (filter_from test edges d (subst (λ l. Contains l d) is c)).0)
 
 only : (t u : Prefix) → Contains (t ∷ []) u → t ≡ u
@@ -81,11 +83,13 @@ module _ (v : Seen) (S T : Tables) (h : IsAfter v S T) (seen : List Prefix) (sea
   leads_back : (x y : Prefix) → Leads (Next (targets T)) x y → Leads (Next (next_in v)) x y
   leads_back x y l = leads-map (Next (targets T)) (Next (next_in v)) (λ a b c. subst (λ l. Contains l b) (sym (next_after v S T h a)) c) x y l
 
-  module _ (edges : List (ℕ × ℕ)) (loops : List (Prefix × Prefix)) (are : AreEdgesAmong (next_in v) seen (length seen) edges) (ends : AreLoopedEnds seen edges loops) where
+  module _ (edges : List (ℕ × ℕ)) (loops : List (Prefix × Prefix)) (are : AreEdgesAmong (next_in v) seen (length seen) edges)
+      (ends : AreLoopedEnds seen edges loops) where
     -- a recursive path is looped exactly where its edge is among those on cycles
     hop_looped : (e : Prefix) (a : ℕ) → Contains seen e → Contains (targets T e) (host a) → has_ends loops e (host a) ≡ looped T e a
     hop_looped e a there goal =
-        let k = loops_are (next_in v) seen edges searched.once (λ x t c d. (searched.closed x c).0 t d) are loops ends e (host a) there (subst (λ l. Contains l (host a)) (sym (next_after v S T h e)) goal) in
+        let k = loops_are (next_in v) seen edges searched.once (λ x t c d. (searched.closed x c).0 t d) are loops ends e (host a) there
+        (subst (λ l. Contains l (host a)) (sym (next_after v S T h e)) goal) in
         same_if (has_ends loops e (host a)) (looped T e a)
         (λ is. (looped-Decides T e a).1 (leads_there (host a) e (k.0 is)))
         (λ is. k.1 (leads_back (host a) e ((looped-Decides T e a).0 is)))
@@ -98,7 +102,8 @@ module _ (v : Seen) (S T : Tables) (h : IsAfter v S T) (seen : List Prefix) (sea
     part_looped e q there c = by q.kind refl
       where
         by : (kind : PathKind) → q.kind ≡ kind → kind_loops loops e kind ≡ looped_kind T e kind
-        by (kinds.Recursive a) is = hop_looped e a there (target_in e q (host a) c (subst (λ k. Contains (kind_targets T e k) (host a)) (sym is) (in_front (host a) (host a) [] refl)))
+        by (kinds.Recursive a) is = hop_looped e a there
+            (target_in e q (host a) c (subst (λ k. Contains (kind_targets T e k) (host a)) (sym is) (in_front (host a) (host a) [] refl)))
         by kinds.Drop is = refl
         by kinds.Local is = refl
         by (kinds.Attached i) is = refl
@@ -129,7 +134,8 @@ module _ (v : Seen) (S T : Tables) (h : IsAfter v S T) (seen : List Prefix) (sea
         by : (kind : PathKind) → k.0.kind ≡ kind → is_kept T e kind ≡ true → Contains (kind_targets T e kind) t → is_left_end loops e t ≡ true
         by (kinds.Recursive a) same kept goal =
             let own = only (host a) t goal in
-            let quiet : has_ends loops e (host a) ≡ false = hop_looped e a there (subst (Contains (targets T e)) (sym own) (kept_target T e t k)) ∙ not_true (looped T e a) kept in
+            let quiet : has_ends loops e (host a) ≡ false = hop_looped e a there
+            (subst (Contains (targets T e)) (sym own) (kept_target T e t k)) ∙ not_true (looped T e a) kept in
             subst (λ z. is_left_end loops e z ≡ true) own (ap not quiet)
         by kinds.Cover same kept goal =
             let short : t.len < 32 = subst (λ (z : Prefix). z.len < 32) (only _ t goal) (cover_short T e.bits) in

@@ -1,5 +1,6 @@
 -- A search through all to which changed entries lead.
-use Rattle.std.proofs.Common.{arith, ◌≡◌, ℕ, zero, suc, ◌+◌, ◌<◌, List, [], ◌∷◌, length, map, get_or, Some, None, inl, inr, refl, sym, ◌∙◌, ap, subst, slice_get}
+use Rattle.std.proofs.Common.{arith, ◌≡◌, ℕ, zero, suc, ◌+◌, ◌<◌, List, [], ◌∷◌, length, map, get_or, Some, None, inl, inr, refl, sym, ◌∙◌}
+use Rattle.std.proofs.Common.{ap, subst, slice_get}
 use Rattle.std.specs.Prelude.{Contains}
 use Rattle.std.proofs.lemmas.Bool.{cases_lt}
 use Rattle.std.proofs.lemmas.Option.{slice_get_within, slice_get-get_or}
@@ -27,7 +28,8 @@ map_length f (x ∷ xs) = ap suc (map_length f xs)
 pub sees_two : (xs ys old mid new : List Prefix) → Sees xs old mid → Sees ys mid new → Sees [] old new
 sees_two xs ys old mid new a b = (more_then old mid new a.0 b.0, b.1, λ t c. absurd (Contains-nil t c))
 
-pub sees_both : (v : Seen) (e : Prefix) (xs ys old mid new : List Prefix) → xs ≡ next_in v e → ys ≡ next_before v e → Sees xs old mid → Sees ys mid new → SeesBoth v e new
+pub sees_both : (v : Seen) (e : Prefix) (xs ys old mid new : List Prefix) → xs ≡ next_in v e → ys ≡ next_before v e → Sees xs old mid
+    → Sees ys mid new → SeesBoth v e new
 sees_both v e xs ys old mid new after before a b = (
   λ t c. more_in mid new b.0 t (a.2 t (subst (λ l. Contains l t) (sym after) c)),
   λ t c. b.2 t (subst (λ l. Contains l t) (sym before) c),
@@ -43,7 +45,8 @@ both_stay v e old new more both = (λ t c. more_in old new more t (both.0 t c), 
 pub steps_none : (v : Seen) (seen : List Prefix) → AllDiffer seen → SeesSteps v 0 seen seen
 steps_none v seen once = (more_self seen, once, λ i x lt at. absurd (omega (arith, lt)))
 
-pub steps_more : (v : Seen) (first old new : List Prefix) (place : ℕ) (e : Prefix) → slice_get old place ≡ Some e → SeesSteps v place first old → Sees [] old new → SeesBoth v e new → SeesSteps v (place + 1) first new
+pub steps_more : (v : Seen) (first old new : List Prefix) (place : ℕ) (e : Prefix) → slice_get old place ≡ Some e
+    → SeesSteps v place first old → Sees [] old new → SeesBoth v e new → SeesSteps v (place + 1) first new
 steps_more v first old new place e here before sees own = (
   more_then first old new before.0 sees.0,
   sees.1,
@@ -52,12 +55,14 @@ steps_more v first old new place e here before sees own = (
         let was = slice_get-get_or old i e (omega (arith, early, inside)) in
         let y = get_or old i e in
         subst (λ z. SeesBoth v z new) (some_is y x (sym (sees.0 i y was) ∙ at)) (both_stay v y old new sees.0 (before.2 i y early was)))
-    | inr late ↦ (let is : place ≡ i = omega (arith, lt, late) in subst (λ z. SeesBoth v z new) (some_is e x (sym (sees.0 place e here) ∙ (ap (slice_get new) is ∙ at))) own)
+    | inr late ↦ (let is : place ≡ i = omega (arith, lt, late)
+        in subst (λ z. SeesBoth v z new) (some_is e x (sym (sees.0 place e here) ∙ (ap (slice_get new) is ∙ at))) own)
   ],
 )
 
 pub steps_sees : (v : Seen) (place : ℕ) (old new : List Prefix) → SeesSteps v place old new → Sees [] old new
 steps_sees v place old new h = (h.0, h.1, λ t c. absurd (Contains-nil t c))
 
-pub steps_until : (v : Seen) (place : ℕ) (old new : List Prefix) → slice_get new place ≡ None → SeesSteps v place old new → (e : Prefix) → Contains new e → SeesBoth v e new
+pub steps_until : (v : Seen) (place : ℕ) (old new : List Prefix) → slice_get new place ≡ None → SeesSteps v place old new → (e : Prefix)
+    → Contains new e → SeesBoth v e new
 steps_until v place old new none h e c = let g = index_of new e c in h.2 g.0 e (past new place g.0 e none g.1) g.1

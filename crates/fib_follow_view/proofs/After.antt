@@ -30,12 +30,15 @@ use Rattle.fib_resolve_pairs.specs.Numbers.{goal_of}
 use Rattle.fib_base_interned.proofs.Finding.{find_place, contains_at, none_some}
 use Rattle.fib_follow_view.specs.Views.{AreBetterFirst, Seen, IsAfter, IsMade, anew_prefix, is_changed, made_of}
 use Rattle.fib_follow_view.specs.declared.view.Anew.{Anew}
-use Rattle.fib_follow_view.specs.inner.Told.{are_some, chosen_by, chosen_in, cover_by, derived_by, derived_in, derived_pairs, entry_by, entry_in, first_paths, goals_by, goals_in, kind_goal, met_in, next_before, next_in}
-use Rattle.fib_follow_view.proofs.Told.{best_derived, best_paths, goal_same, goals_are_targets, kind_is_goal, map_same, no_derived, row_chosen, row_cover, row_derived, row_goals, row_is}
+use Rattle.fib_follow_view.specs.inner.Told.{are_some, chosen_by, chosen_in, cover_by, derived_by, derived_in, derived_pairs, entry_by}
+use Rattle.fib_follow_view.specs.inner.Told.{entry_in, first_paths, goals_by, goals_in, kind_goal, met_in, next_before, next_in}
+use Rattle.fib_follow_view.proofs.Told.{best_derived, best_paths, goal_same, goals_are_targets, kind_is_goal, map_same, no_derived}
+use Rattle.fib_follow_view.proofs.Told.{row_chosen, row_cover, row_derived, row_goals, row_is}
 
 -- what was made anew of a prefix is there and has that prefix; where nothing was, the prefix isn't among those
 pub made_there : (changed : List Anew) (e : Prefix) (x : Anew) → made_of changed e ≡ Some x → Contains changed x × (x.prefix ≡ e)
-made_there changed e x at = let f = find_place (λ z. same_prefix e z.prefix) changed x at in (contains_at changed f.0 x f.1, sym ((same_prefix-Decides e x.prefix).0 f.2))
+made_there changed e x at = let f = find_place (λ z. same_prefix e z.prefix) changed x at
+    in (contains_at changed f.0 x f.1, sym ((same_prefix-Decides e x.prefix).0 f.2))
 
 find_front : (changed : List Anew) (e : Prefix) (x : Anew) → same_prefix e x.prefix ≡ true → made_of (x ∷ changed) e ≡ Some x
 find_front changed e x is = rw is refl
@@ -53,7 +56,8 @@ none_made (x ∷ xs) e none = elim (either (same_prefix e x.prefix)) [
 pub some_made : (changed : List Anew) (e : Prefix) (x : Anew) → made_of changed e ≡ Some x → is_changed changed e ≡ true
 some_made changed e x at =
     let t = made_there changed e x at in
-    any_in (same_prefix e) (map anew_prefix changed) e (subst (Contains (map anew_prefix changed)) t.1 (map_in anew_prefix changed x t.0)) ((same_prefix-Decides e e).1 refl)
+    any_in (same_prefix e) (map anew_prefix changed) e (subst (Contains (map anew_prefix changed)) t.1 (map_in anew_prefix changed x t.0))
+    ((same_prefix-Decides e e).1 refl)
 
 -- the first of the pairs of a prefix is the best
 made_best : (T : Tables) (x : Anew) (y : Pair) (ys : List Pair) → IsMade T x → x.pairs ≡ y ∷ ys → IsBest x.prefix (pairs T) y
@@ -65,7 +69,8 @@ made_best T x y ys is at =
       own = own.1;
       least = λ z c same. elim (in_cases y z ys (subst (λ l. Contains l z) at ((is.pairs z).1 (c, same)))) [
         | inl here ↦ (let a = ap (λ (w : Pair). source_rank w.source) here in omega (arith, a))
-        | inr later ↦ (let lt = All-contains (λ w. source_rank y.source < source_rank w.source) ys z (All-from_recursion (λ w. source_rank y.source < source_rank w.source) ys ranked.0) later in omega (arith, lt))
+        | inr later ↦ (let lt = All-contains (λ w. source_rank y.source < source_rank w.source) ys z
+            (All-from_recursion (λ w. source_rank y.source < source_rank w.source) ys ranked.0) later in omega (arith, lt))
       ];
     }
 
@@ -76,7 +81,8 @@ made_gone T x is none y c own = Contains-nil y (subst (λ l. Contains l y) none 
 no_pair_entry : (T : Tables) (e : Prefix) → ((y : Pair) → Contains (pairs T) y → e ≡ y.prefix → ⊥) → has_entry T e ≡ false
 no_pair_entry T e none = elim (either (has_entry T e)) [
   | inr off ↦ off
-  | inl is ↦ (let r = any_from (λ y. same_prefix e y.prefix) (pairs T) (sym (is_entry T e) ∙ is) in absurd (none r.0 r.1 ((same_prefix-Decides e r.0.prefix).0 r.2)))
+  | inl is ↦ (let r = any_from (λ y. same_prefix e y.prefix) (pairs T) (sym (is_entry T e) ∙ is)
+      in absurd (none r.0 r.1 ((same_prefix-Decides e r.0.prefix).0 r.2)))
 ]
 
 -- with the same pairs a prefix stays an entry or stays none
@@ -124,7 +130,8 @@ module _ (T : Tables) (sound : IsSound T) (x : Anew) (is : IsMade T x) where
   made_goals : map (λ p. kind_goal x.cover p.kind) (first_paths x.pairs) ≡ map (λ p. goal_of T x.prefix p.kind) (chosen T x.prefix)
   made_goals =
       ap (map (λ p. kind_goal x.cover p.kind)) made_chosen
-      ∙ map_same (λ p. kind_goal x.cover p.kind) (λ p. goal_of T x.prefix p.kind) (chosen T x.prefix) (λ p c. kind_is_goal T x.prefix x.cover p.kind (made_cover p c))
+      ∙ map_same (λ p. kind_goal x.cover p.kind) (λ p. goal_of T x.prefix p.kind) (chosen T x.prefix)
+      (λ p c. kind_is_goal T x.prefix x.cover p.kind (made_cover p c))
 
 module _ (v : Seen) (S T : Tables) (h : IsAfter v S T) where
   -- beside what was made anew the entry is the same
@@ -160,7 +167,9 @@ module _ (v : Seen) (S T : Tables) (h : IsAfter v S T) where
           row_goals v.before S h.stands e
           ∙ map_same (λ p. goal_of S e p.kind) (λ p. goal_of T e p.kind) (chosen S e) (λ p c. goal_same S T e p.kind ((same_beside e at).cover p c))
           ∙ ap (map (λ p. goal_of T e p.kind)) (same_chosen S T e h.sound (same_beside e at).pairs)
-      by (Some x) at = (let t = made_there v.changed e x at in subst (λ z. map (λ p. kind_goal x.cover p.kind) (first_paths x.pairs) ≡ map (λ p. goal_of T z p.kind) (chosen T z)) t.1 (made_goals T h.sound x (h.made x t.0)))
+      by (Some x) at = (let t = made_there v.changed e x at
+          in subst (λ z. map (λ p. kind_goal x.cover p.kind) (first_paths x.pairs) ≡ map (λ p. goal_of T z p.kind) (chosen T z)) t.1
+          (made_goals T h.sound x (h.made x t.0)))
 
   pub cover_after : (e : Prefix) (p : Path) → Contains (chosen T e) p → p.kind ≡ kinds.Cover → cover_by v.before e (made_of v.changed e) ≡ Some (cover T e.bits)
   cover_after e p c kind = by (made_of v.changed e) refl

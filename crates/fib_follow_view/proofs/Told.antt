@@ -1,5 +1,6 @@
 -- What rows tell of the entries before a change.
-use Rattle.std.proofs.Common.{arith, ◌≡◌, ℕ, ◌<◌, false, ◌==◌, List, [], ◌∷◌, ◌++◌, map, flat_map, Option, Some, None, cond, ◌⊎◌, inl, inr, refl, sym, ◌∙◌, ap, ap₂, subst}
+use Rattle.std.proofs.Common.{arith, ◌≡◌, ℕ, ◌<◌, false, ◌==◌, List, [], ◌∷◌, ◌++◌, map, flat_map, Option, Some, None, cond, ◌⊎◌, inl, inr}
+use Rattle.std.proofs.Common.{refl, sym, ◌∙◌, ap, ap₂, subst}
 use Rattle.std.specs.Prelude.{Contains, option_to_list}
 use Rattle.std.proofs.lemmas.Bool.{false≢true, lt-ltb}
 use Rattle.std.proofs.lemmas.List.Elements.{All-contains, All-from_recursion}
@@ -27,12 +28,14 @@ use Rattle.fib_resolve_pairs.specs.Numbers.{goal_of}
 use Rattle.fib_entries_rows.specs.Known.{Known, StandsFor, ArePairs, IsHeld, row_of}
 use Rattle.fib_entries_rows.specs.Rows.{Row}
 use Rattle.fib_entries_rows.proofs.Standing.{row_entry, no_entry, pairs_at, never_none, marked_at}
-use Rattle.fib_follow_view.specs.inner.Told.{aim_goal, chosen_row, cover_aim, cover_in, cover_row, derived_row, first_derived, first_of, goals_row, is_row, kind_goal, list_first, paths_in}
+use Rattle.fib_follow_view.specs.inner.Told.{aim_goal, chosen_row, cover_aim, cover_in, cover_row, derived_row, first_derived, first_of}
+use Rattle.fib_follow_view.specs.inner.Told.{goals_row, is_row, kind_goal, list_first, paths_in}
 
 -- the best pair is unique in its list and its source
 pub best_paths : (S : Tables) (e : Prefix) (x : Pair) → IsSound S → IsBest e (pairs S) x → x.paths ≡ chosen S e
 unfolding chosen
-best_paths S e x sound best = best_paths_same e (pairs S) (pairs S) (one_list S sound) (λ y own. (λ c. c, λ c. c)) (Some x) (best_pair e (pairs S)) best (best_of e (pairs S))
+best_paths S e x sound best = best_paths_same e (pairs S) (pairs S) (one_list S sound) (λ y own. (λ c. c, λ c. c)) (Some x)
+    (best_pair e (pairs S)) best (best_of e (pairs S))
 
 pub best_derived : (S : Tables) (e : Prefix) (x : Pair) → IsBest e (pairs S) x → is_derived_source x.source ≡ is_derived S e
 unfolding is_derived
@@ -93,16 +96,19 @@ goal_targets S e (kinds.Hop a i) = refl
 goal_targets S e (kinds.Recursive a) = refl
 goal_targets S e kinds.Cover = refl
 
-flat_goals : (S : Tables) (e : Prefix) (ps : List Path) → flat_map option_to_list (map (λ p. goal_of S e p.kind) ps) ≡ flat_map (λ p. kind_targets S e p.kind) ps
+flat_goals : (S : Tables) (e : Prefix) (ps : List Path)
+    → flat_map option_to_list (map (λ p. goal_of S e p.kind) ps) ≡ flat_map (λ p. kind_targets S e p.kind) ps
 flat_goals S e [] = refl
 flat_goals S e (p ∷ ps) = ap₂ (λ l m. l ++ m) (goal_targets S e p.kind) (flat_goals S e ps)
 
-pub goals_are_targets : (S : Tables) (e : Prefix) (goals : List (Option Prefix)) → goals ≡ map (λ p. goal_of S e p.kind) (chosen S e) → flat_map option_to_list goals ≡ targets S e
+pub goals_are_targets : (S : Tables) (e : Prefix) (goals : List (Option Prefix)) → goals ≡ map (λ p. goal_of S e p.kind) (chosen S e)
+    → flat_map option_to_list goals ≡ targets S e
 unfolding targets
 goals_are_targets S e goals is = ap (flat_map option_to_list) is ∙ flat_goals S e (chosen S e)
 
 -- a cover is found by its length
-pub cover_of_aim : (S : Tables) (e : Prefix) (kind : PathKind) → ((cover_aim (kind_aim S e kind) ≡ None) × (kind ≡ kinds.Cover → ⊥)) ⊎ (cover_aim (kind_aim S e kind) ≡ Some (cover S e.bits))
+pub cover_of_aim : (S : Tables) (e : Prefix) (kind : PathKind)
+    → ((cover_aim (kind_aim S e kind) ≡ None) × (kind ≡ kinds.Cover → ⊥)) ⊎ (cover_aim (kind_aim S e kind) ≡ Some (cover S e.bits))
 cover_of_aim S e kinds.Drop = inl (refl, λ k. (cc))
 cover_of_aim S e kinds.Local = inl (refl, λ k. (cc))
 cover_of_aim S e (kinds.Attached i) = inl (refl, λ k. (cc))
@@ -110,7 +116,8 @@ cover_of_aim S e (kinds.Hop a i) = inl (refl, λ k. (cc))
 cover_of_aim S e (kinds.Recursive a) = inl (refl, λ k. (cc))
 cover_of_aim S e kinds.Cover = inr (ap (λ b. cond b (Some (cover S e.bits)) None) (lt-ltb (cover S e.bits).len 32 (cover_short S e.bits)))
 
-cover_among : (S : Tables) (e : Prefix) (ps : List Path) (p : Path) → Contains ps p → p.kind ≡ kinds.Cover → cover_in (map (marked S e) ps) ≡ Some (cover S e.bits)
+cover_among : (S : Tables) (e : Prefix) (ps : List Path) (p : Path) → Contains ps p → p.kind ≡ kinds.Cover
+    → cover_in (map (marked S e) ps) ≡ Some (cover S e.bits)
 cover_among S e [] p c is = absurd (Contains-nil p c)
 cover_among S e (q ∷ qs) p c is = elim (cover_of_aim S e q.kind) [
   | inr here ↦ ap (λ o. first_of o (cover_in (map (marked S e) qs))) here
@@ -134,7 +141,8 @@ marked_goals S e = marks_goals S e (chosen S e)
 
 module _ (k : Known) (S : Tables) (h : StandsFor k S) (e : Prefix) where
   -- the first of a row's sources is that of the best pair
-  row_best : (r : Row) (p : FibSource × ℕ) (ps : List (FibSource × ℕ)) → row_of k.rows e ≡ Some r → r.pairs ≡ p ∷ ps → (x : Pair) × IsBest e (pairs S) x × IsHeld k.lists p x
+  row_best : (r : Row) (p : FibSource × ℕ) (ps : List (FibSource × ℕ)) → row_of k.rows e ≡ Some r → r.pairs ≡ p ∷ ps
+      → (x : Pair) × IsBest e (pairs S) x × IsHeld k.lists p x
   row_best r p ps at is =
       let are : ArePairs k.lists S e (p ∷ ps) = subst (ArePairs k.lists S e) is (pairs_at k S h e r at) in
       let x = are.real p (in_front p p ps refl) in (
@@ -144,7 +152,8 @@ module _ (k : Known) (S : Tables) (h : StandsFor k S) (e : Prefix) where
           own = x.2;
           least = λ y c own. (let f = are.found y c own in elim (in_cases p f.0 ps f.1) [
             | inl same ↦ (let a = ap source_rank (sym x.3.0 ∙ ap (λ (z : FibSource × ℕ). z.0) same ∙ f.2.0) in omega (arith, a))
-            | inr later ↦ (let lt = All-contains (λ q. source_rank p.0 < source_rank q.0) ps f.0 (All-from_recursion (λ q. source_rank p.0 < source_rank q.0) ps are.best_first.0) later in
+            | inr later ↦ (let lt = All-contains (λ q. source_rank p.0 < source_rank q.0) ps f.0
+                (All-from_recursion (λ q. source_rank p.0 < source_rank q.0) ps are.best_first.0) later in
                 let a = ap source_rank x.3.0 in let b = ap source_rank f.2.0 in omega (arith, lt, a, b))
           ]);
         },

@@ -1,5 +1,6 @@
 -- Files and streams in memory.
-use Rattle.std.specs.Prelude.{ℕ, ◌+◌, ◌==◌, ◌||◌, ◌&&◌, ◌++◌, List, [], ◌∷◌, Bool, Option, Some, None, nat_lt, is_none, length, drop, if◌then◌else◌, unwrap_or, option_map, slice_get, Vec, String, string_bytes, map}
+use Rattle.std.specs.Prelude.{ℕ, ◌+◌, ◌==◌, ◌||◌, ◌&&◌, ◌++◌, List, [], ◌∷◌, Bool, Option, Some, None, nat_lt, is_none, length, drop}
+use Rattle.std.specs.Prelude.{if◌then◌else◌, unwrap_or, option_map, slice_get, Vec, String, string_bytes, map}
 use Rattle.std.specs.List.{list_any}
 use Rattle.std.specs.Str.{bytes_eq}
 use Rattle.std.specs.declared.alloc.Global.{Global}

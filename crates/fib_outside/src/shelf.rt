@@ -1,8 +1,10 @@
 // Where a run's files come from.
-ghost use Rattle.std.specs.Prelude.{◌≡◌, ◌≢◌, ◌++◌, ◌<◌, ◌≤◌, [], ℕ, List, Option, Some, None, true, false, length, take, drop, min, if◌then◌else◌, IfOk, OnOk, OnErr, IsSome, is_ok, is_err};
+ghost use Rattle.std.specs.Prelude.{◌≡◌, ◌≢◌, ◌++◌, ◌<◌, ◌≤◌, [], ℕ, List, Option, Some, None, true, false, length, take, drop, min};
+ghost use Rattle.std.specs.Prelude.{if◌then◌else◌, IfOk, OnOk, OnErr, IsSome, is_ok, is_err};
 ghost use Rattle.fib_outside.specs.Outside.{HasRisen, Consumes, IsAtEnd};
 ghost use Rattle.fib_outside.specs.FaultCounts.{no_faults};
-ghost use Rattle.fib_outside.specs.Memory.{files_in, fetch_fails, after_refusal, after_fetch, read_fails, after_read, after_read_fault, is_read_listed, new_shelf};
+ghost use Rattle.fib_outside.specs.Memory.{files_in, fetch_fails, after_refusal, after_fetch, read_fails, after_read, after_read_fault};
+ghost use Rattle.fib_outside.specs.Memory.{is_read_listed, new_shelf};
 
 use crate::faults::Faults;
 use crate::files::Files;

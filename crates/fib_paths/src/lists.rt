@@ -1,5 +1,6 @@
 // Kept path-lists.
-ghost use Rattle.std.specs.Prelude.{◌≡◌, ◌≢◌, ◌<◌, ◌-◌, ◌^◌, [], length, Some, IsSome, IsTrue, ◌↔◌, IfOk, IfSome, IfNone, OnErr, Contains, slice_get, option_map};
+ghost use Rattle.std.specs.Prelude.{◌≡◌, ◌≢◌, ◌<◌, ◌-◌, ◌^◌, [], length, Some, IsSome, IsTrue, ◌↔◌, IfOk, IfSome, IfNone, OnErr, Contains};
+ghost use Rattle.std.specs.Prelude.{slice_get, option_map};
 ghost use Rattle.fib_base_interned.specs.Interned.{kept_of, users_of, untaken, AreInterned, IsLastToGo, Takes, TakesBack, Gives};
 ghost use Rattle.fib_paths.specs.PathLists.{IsUsedLess, KeptList};
 

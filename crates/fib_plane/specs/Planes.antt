@@ -1,5 +1,6 @@
 -- A board joined with the pool of its objects and the adjacency records: what contracts see, and what clearing does.
-use Rattle.std.specs.Prelude.{◌≡◌, ℕ, ◌+◌, ◌-◌, ◌<◌, ◌≤◌, ◌⊎◌, Bool, true, false, not, List, [], ◌∷◌, Option, Some, None, length, map, filter, count_by, slice_index, slice_index_or}
+use Rattle.std.specs.Prelude.{◌≡◌, ℕ, ◌+◌, ◌-◌, ◌<◌, ◌≤◌, ◌⊎◌, Bool, true, false, not, List, [], ◌∷◌, Option, Some, None, length, map}
+use Rattle.std.specs.Prelude.{filter, count_by, slice_index, slice_index_or}
 use Rattle.fib_base_interned.specs.Interned.{Kept}
 use Rattle.fib_union.specs.Marks.{Mark, all_passed, is_even, looked}
 use Rattle.fib_union.specs.Unions.{owner, into}

@@ -1,5 +1,6 @@
 -- A plane as the prefix table and the stack of buckets see it: the view, and the promise of its board.
-use Rattle.std.specs.Prelude.{◌≡◌, ◌∷◌, ℕ, ◌+◌, ◌*◌, ◌%◌, ◌==◌, ◌&&◌, ◌||◌, Bool, true, false, is_some, not, nat_lt, List, [], Option, Some, None, option_map, find, map, if◌then◌else◌}
+use Rattle.std.specs.Prelude.{◌≡◌, ◌∷◌, ℕ, ◌+◌, ◌*◌, ◌%◌, ◌==◌, ◌&&◌, ◌||◌, Bool, true, false, is_some, not, nat_lt, List, [], Option}
+use Rattle.std.specs.Prelude.{Some, None, option_map, find, map, if◌then◌else◌}
 use Rattle.std.specs.List.{list_any}
 use Rattle.fib_base_interned.specs.Interned.{Kept, kept_of, users_in}
 use Rattle.fib_union.specs.Unions as edges

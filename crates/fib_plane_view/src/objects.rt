@@ -4,7 +4,8 @@ ghost use Rattle.fib_core.specs.declared.word.Word.TheVariants as words;
 ghost use Rattle.fib_pool.specs.declared.object.Kind.TheVariants as kinds;
 ghost use Rattle.fib_pool.specs.declared.object.AdjacencyRecord.{AdjacencyRecord};
 ghost use Rattle.fib_pool.specs.Records.{adjacency};
-ghost use Rattle.fib_plane_view.specs.View.{Closes, Fills, GaveRecord, HasKind, HasRoom, IsEmpty, IsLetGo, IsLive, IsPlane, IsPut, IsRecord, IsScanned, IsStanding, IsTaken, LeadsElsewhere, TookOne, View, leads};
+ghost use Rattle.fib_plane_view.specs.View.{Closes, Fills, GaveRecord, HasKind, HasRoom, IsEmpty, IsLetGo, IsLive, IsPlane, IsPut};
+ghost use Rattle.fib_plane_view.specs.View.{IsRecord, IsScanned, IsStanding, IsTaken, LeadsElsewhere, TookOne, View, leads};
 ghost use Rattle.fib_plane_view.specs.Promise.{MayClear, MayLetGo, MayPut, Promise};
 ghost use Rattle.fib_plane_view.specs.Stores.{IsFreed, StoresEach};
 

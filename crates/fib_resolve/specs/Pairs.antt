@@ -1,5 +1,6 @@
 -- The effective pairs: which prefix has which path-list from which source. The chosen list of an entry, covers and best entries.
-use Rattle.std.specs.Prelude.{ℕ, Bool, false, ◌+◌, ◌-◌, ◌==◌, ◌&&◌, List, [], ◌∷◌, ◌++◌, map, flat_map, filter_map, filter, Option, Some, None, nat_lt, nat_le, if◌then◌else◌}
+use Rattle.std.specs.Prelude.{ℕ, Bool, false, ◌+◌, ◌-◌, ◌==◌, ◌&&◌, List, [], ◌∷◌, ◌++◌, map, flat_map, filter_map, filter, Option, Some}
+use Rattle.std.specs.Prelude.{None, nat_lt, nat_le, if◌then◌else◌}
 use Rattle.std.specs.List.{list_any}
 use Rattle.std.specs.Set.{unique_keys}
 use Rattle.std.specs.Cmp.Lexicographic.{pointwise}

@@ -1,5 +1,6 @@
 -- Why an edit is refused: the first reason that applies. And which of several edits is the first refused one.
-use Rattle.std.specs.Prelude.{ℕ, Bool, false, not, ◌&&◌, ◌+◌, List, [], ◌∷◌, ◌++◌, map, find, length, Option, Some, None, is_none, option_map, nat_lt, nat_le, Result, Ok, Err}
+use Rattle.std.specs.Prelude.{ℕ, Bool, false, not, ◌&&◌, ◌+◌, List, [], ◌∷◌, ◌++◌, map, find, length, Option, Some, None, is_none}
+use Rattle.std.specs.Prelude.{option_map, nat_lt, nat_le, Result, Ok, Err}
 use Rattle.std.specs.List.{list_any}
 use Rattle.fib_addr.specs.Prefixes.{Prefix}
 use Rattle.fib_resolve.specs.Keys.{key_of, same_key}

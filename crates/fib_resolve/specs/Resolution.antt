@@ -1,5 +1,6 @@
 -- Where a packet ends: the way from entry to entry, the answer, and the possible ends.
-use Rattle.std.specs.Prelude.{ℕ, zero, suc, Bool, ◌&&◌, ◌/◌, ◌%◌, ◌==◌, List, [], ◌∷◌, filter, flat_map, find, Option, Some, None, slice_get, option_map, if◌then◌else◌}
+use Rattle.std.specs.Prelude.{ℕ, zero, suc, Bool, ◌&&◌, ◌/◌, ◌%◌, ◌==◌, List, [], ◌∷◌, filter, flat_map, find, Option, Some, None}
+use Rattle.std.specs.Prelude.{slice_get, option_map, if◌then◌else◌}
 use Rattle.fib_addr.specs.Prefixes.{Prefix, host}
 use Rattle.fib_resolve.specs.Pairs.{entries, chosen, cover, best}
 use Rattle.fib_resolve.specs.Forwarding.{usable, limit}

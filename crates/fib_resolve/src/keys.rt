@@ -3,7 +3,8 @@
 ghost use Rattle.std.specs.Prelude.{◌≡◌, ℕ, ◌≤◌, ◌<◌};
 ghost use Rattle.std.specs.Ordering.{is_lt, nat_cmp, ordering_then};
 ghost use Rattle.fib_resolve.specs.Pairs.{attached_kind, recursive_kind};
-ghost use Rattle.fib_resolve.specs.Keys.{kind_rank, next_hop_of, interface_of, kind_leaves, need_rank, is_derived_source, is_drop_or_local, source_rank, same_source, key_of, key_lt, same_key, same_path, key_cmp, path_cmp};
+ghost use Rattle.fib_resolve.specs.Keys.{kind_rank, next_hop_of, interface_of, kind_leaves, need_rank, is_derived_source, is_drop_or_local};
+ghost use Rattle.fib_resolve.specs.Keys.{source_rank, same_source, key_of, key_lt, same_key, same_path, key_cmp, path_cmp};
 
 use crate::types::{FibSource, Need, Path, PathKind};
 use fib_addr::Addr;

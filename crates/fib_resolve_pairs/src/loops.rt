@@ -1,5 +1,6 @@
 // The edges of recursion, by the entries' numbers, and those that lie on cycles.
-ghost use Rattle.std.specs.Prelude.{◌≡◌, ◌<◌, ◌↔◌, ◌++◌, ◌||◌, ◌&&◌, ℕ, Some, IfOk, IfSome, IsTrue, OnOk, Contains, false, length, map, option_to_list, slice_index_or};
+ghost use Rattle.std.specs.Prelude.{◌≡◌, ◌<◌, ◌↔◌, ◌++◌, ◌||◌, ◌&&◌, ℕ, Some, IfOk, IfSome, IsTrue, OnOk, Contains, false, length, map};
+ghost use Rattle.std.specs.Prelude.{option_to_list, slice_index_or};
 ghost use Rattle.std.specs.Set.{is_member};
 ghost use Rattle.fib_loops.specs.Loops.{AreEdges, IsLooped};
 ghost use Rattle.fib_resolve.specs.Pairs.{chosen, entries};

@@ -1,7 +1,8 @@
 // The lines of the generated script.
 ghost use Rattle.std.specs.Prelude.{◌≡◌, ◌<◌, IfOk, string_bytes};
 ghost use Rattle.fib_soak.specs.Draws.{after_2, after_3, after_4};
-ghost use Rattle.fib_soak.specs.Scripts.{create_line, up_line, address_line, neighbor_start, neighbor_line, target_line, route_line, state_line, drawn_route_line, deletion_line, path_line, change_line, after_change};
+ghost use Rattle.fib_soak.specs.Scripts.{create_line, up_line, address_line, neighbor_start, neighbor_line, target_line, route_line};
+ghost use Rattle.fib_soak.specs.Scripts.{state_line, drawn_route_line, deletion_line, path_line, change_line, after_change};
 
 use crate::draws::Draws;
 use fib_addr::{Mac, put_mac};

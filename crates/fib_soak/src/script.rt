@@ -1,7 +1,8 @@
 // The generated script, part by part.
 ghost use Rattle.std.specs.Prelude.{◌≡◌, ◌≤◌, ◌++◌, ◌∷◌, [], IfOk, OnOk};
 ghost use Rattle.fib_soak.specs.Draws.{next, repeated, after_4};
-ghost use Rattle.fib_soak.specs.Scripts.{interface_lines, interfaces, neighbors, targets, routes, changes, after_change, round_lines, rounds, after_round, ended, text_of, soak_script};
+ghost use Rattle.fib_soak.specs.Scripts.{interface_lines, interfaces, neighbors, targets, routes, changes, after_change, round_lines};
+ghost use Rattle.fib_soak.specs.Scripts.{rounds, after_round, ended, text_of, soak_script};
 
 use crate::draws::Draws;
 use crate::lines::{

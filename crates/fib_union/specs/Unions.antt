@@ -2,7 +2,8 @@
 --
 -- Cell k belongs to object k / 16. Each cell holds one current edge or none. Where an edge is replaced while a pass may still come over it, a
 -- copy of it stays, retired, until it is passed for every worker. Each retirement is a copy of its own.
-use Rattle.std.specs.Prelude.{◌≡◌, ℕ, ◌+◌, ◌*◌, ◌/◌, ◌⊎◌, Bool, true, false, cond, not, eqb, ltb, ◌||◌, List, [], ◌∷◌, ◌++◌, Option, Some, None, Contains, map, filter, reverse, replicate, count_by, slice_index_or, slice_set}
+use Rattle.std.specs.Prelude.{◌≡◌, ℕ, ◌+◌, ◌*◌, ◌/◌, ◌⊎◌, Bool, true, false, cond, not, eqb, ltb, ◌||◌, List, [], ◌∷◌, ◌++◌, Option, Some}
+use Rattle.std.specs.Prelude.{None, Contains, map, filter, reverse, replicate, count_by, slice_index_or, slice_set}
 use Rattle.fib_union.specs.Marks.{Mark, fresh, looked, all_passed}
 
 -- a copy of an edge that was replaced in this cell

@@ -1,9 +1,12 @@
 // The union of current and retired edges, with the room that it needs.
-ghost use Rattle.std.specs.Prelude.{◌≡◌, ℕ, ◌+◌, ◌*◌, ◌-◌, ◌<◌, ◌≤◌, ◌^◌, ◌↔◌, ◌++◌, ◌∷◌, [], Bool, true, false, length, map, take, drop, slice_index, slice_set, IfOk, IfNone, OnOk, OnErr, IsTrue, Some, None, option_to_list, Contains, vec_capacity, count_by, eqb, ltb, ◌||◌};
+ghost use Rattle.std.specs.Prelude.{◌≡◌, ℕ, ◌+◌, ◌*◌, ◌-◌, ◌<◌, ◌≤◌, ◌^◌, ◌↔◌, ◌++◌, ◌∷◌, [], Bool, true, false, length, map, take, drop};
+ghost use Rattle.std.specs.Prelude.{slice_index, slice_set, IfOk, IfNone, OnOk, OnErr, IsTrue, Some, None, option_to_list, Contains};
+ghost use Rattle.std.specs.Prelude.{vec_capacity, count_by, eqb, ltb, ◌||◌};
 ghost use Rattle.std.specs.List.{All};
 ghost use Rattle.std.specs.Bool.{OnTrue, OnFalse};
 ghost use Rattle.fib_reach.specs.Walks.{Leads, Reaches, IsAcyclic, HasCycle, Plus};
-ghost use Rattle.fib_union.specs.Unions.{owner, edge_at, one, into, Edge, HasEdge, HasIn, must_retire, stored, left_at_once, scanned, gone_to, scan_from, gone_from, no_edges, unmarked};
+ghost use Rattle.fib_union.specs.Unions.{owner, edge_at, one, into, Edge, HasEdge, HasIn, must_retire, stored, left_at_once, scanned};
+ghost use Rattle.fib_union.specs.Unions.{gone_to, scan_from, gone_from, no_edges, unmarked};
 ghost use Rattle.fib_union.specs.declared.retired.RetiredEdge.{RetiredEdge as Copies};
 ghost use Rattle.fib_union.specs.inner.Fields.{ins_of, plain, IsGrown, Runs, IsLinked, StartsBelow};
 

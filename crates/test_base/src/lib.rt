@@ -1,4 +1,5 @@
-//! The calls of the lower crates, each made once with ample memory, and each generic at a type of its own.
+//! The calls of the crates below all and of the rule, its boards and what the stack keeps beside it, each made once with
+//! ample memory, and each generic at a type of its own.
 //!
 //! A file a crate. These tests stand apart from what they call, since a crate's own tests have it proved a second time.
 #![tactic(auto)]
@@ -12,15 +13,9 @@ mod board;
 #[cfg(test)]
 mod buckets;
 #[cfg(test)]
-mod capture;
-#[cfg(test)]
-mod commands;
-#[cfg(test)]
 mod core_calls;
 #[cfg(test)]
 mod cover;
-#[cfg(test)]
-mod effective;
 #[cfg(test)]
 mod expect;
 #[cfg(test)]
@@ -44,19 +39,11 @@ mod ordered;
 #[cfg(test)]
 mod outside;
 #[cfg(test)]
-mod paths;
-#[cfg(test)]
 mod pool;
-#[cfg(test)]
-mod print;
 #[cfg(test)]
 mod queue;
 #[cfg(test)]
 mod reach;
-#[cfg(test)]
-mod resolve;
-#[cfg(test)]
-mod results;
 #[cfg(test)]
 mod rule;
 #[cfg(test)]
@@ -66,12 +53,8 @@ mod settings;
 #[cfg(test)]
 mod shared;
 #[cfg(test)]
-mod soak;
-#[cfg(test)]
 mod stands;
 #[cfg(test)]
 mod steady;
 #[cfg(test)]
 mod union;
-#[cfg(test)]
-mod words;

@@ -2,7 +2,8 @@
 ghost use Rattle.std.specs.Prelude.{◌+◌, ◌<◌, ◌≡◌};
 ghost use Rattle.fib_core_board.specs.Boards.{IsFresh};
 ghost use Rattle.trial_filling.specs.inner.Filling.{IsFilling, IsReady, with_union};
-ghost use Rattle.trial_filling.specs.inner.Fresh.{cell_at, grown_cell as grown_of, grown_word as grown_said, last_cell as last_of, last_word as last_said, link_cell as link_of, word_of_store};
+ghost use Rattle.trial_filling.specs.inner.Fresh.{cell_at, grown_cell as grown_of, grown_word as grown_said, last_cell as last_of};
+ghost use Rattle.trial_filling.specs.inner.Fresh.{last_word as last_said, link_cell as link_of, word_of_store};
 
 use fib_core::Word;
 use fib_core_board::Board;

@@ -1,5 +1,6 @@
 -- How the elements lie in blocks. No contract of a public call rests on this.
-use Rattle.std.specs.Prelude.{◌≡◌, ℕ, zero, suc, ◌+◌, ◌-◌, ◌<◌, ◌≤◌, List, [], ◌∷◌, Vec, flat_map, length, take, drop, slice_get, slice_index_or, slice_set, true, false, vec_len, vec_capacity}
+use Rattle.std.specs.Prelude.{◌≡◌, ℕ, zero, suc, ◌+◌, ◌-◌, ◌<◌, ◌≤◌, List, [], ◌∷◌, Vec, flat_map, length, take, drop, slice_get}
+use Rattle.std.specs.Prelude.{slice_index_or, slice_set, true, false, vec_len, vec_capacity}
 use Rattle.std.specs.List.{AllByRecursion, insert}
 use Rattle.std.specs.Ordering.{is_gt}
 use Rattle.std.specs.declared.cmp.Ordering.{Ordering}

@@ -1,5 +1,6 @@
 -- How the members lie in blocks. No contract of a public call rests on this. items says which members a block has.
-use Rattle.std.specs.Prelude.{◌≡◌, ℕ, suc, ◌+◌, ◌-◌, ◌*◌, max, ◌<◌, ◌≤◌, List, [], ◌∷◌, ◌++◌, Option, Some, None, flat_map, length, take, drop, slice_get, vec_capacity}
+use Rattle.std.specs.Prelude.{◌≡◌, ℕ, suc, ◌+◌, ◌-◌, ◌*◌, max, ◌<◌, ◌≤◌, List, [], ◌∷◌, ◌++◌, Option, Some, None, flat_map, length, take}
+use Rattle.std.specs.Prelude.{drop, slice_get, vec_capacity}
 use Rattle.std.specs.List.{AllByRecursion}
 use Rattle.fib_base_ordered.specs.declared.block.Block.{Block}
 use Rattle.fib_base_ordered.specs.Sets.{IsAscending}

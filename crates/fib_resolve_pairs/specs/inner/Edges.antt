@@ -1,5 +1,6 @@
 -- The edges of recursion by the entries' numbers, and those of them that lie on cycles.
-use Rattle.std.specs.Prelude.{◌↔◌, ◌+◌, ◌++◌, ◌&&◌, ◌==◌, ℕ, Bool, false, List, [], ◌∷◌, map, filter_map, slice_get, slice_index_or, Contains, IsTrue, ◌≡◌, ◌<◌, Option, Some, option_and_then}
+use Rattle.std.specs.Prelude.{◌↔◌, ◌+◌, ◌++◌, ◌&&◌, ◌==◌, ℕ, Bool, false, List, [], ◌∷◌, map, filter_map, slice_get, slice_index_or}
+use Rattle.std.specs.Prelude.{Contains, IsTrue, ◌≡◌, ◌<◌, Option, Some, option_and_then}
 use Rattle.std.specs.List.{list_any}
 use Rattle.fib_addr.specs.Prefixes.{Prefix}
 use Rattle.fib_resolve.specs.Pairs.{entries, chosen}

@@ -1,5 +1,6 @@
 -- What the fields of a `Union` stand for, and what stays true of them.
-use Rattle.std.specs.Prelude.{◌≡◌, ◌≢◌, ℕ, suc, ◌+◌, ◌*◌, ◌-◌, ◌^◌, ◌<◌, ◌≤◌, ◌⊎◌, min, false, cond, ltb, eqb, List, [], ◌∷◌, ◌++◌, Option, Some, Contains, length, map, reverse, take, count_by, slice_index, slice_index_or}
+use Rattle.std.specs.Prelude.{◌≡◌, ◌≢◌, ℕ, suc, ◌+◌, ◌*◌, ◌-◌, ◌^◌, ◌<◌, ◌≤◌, ◌⊎◌, min, false, cond, ltb, eqb, List, [], ◌∷◌, ◌++◌, Option}
+use Rattle.std.specs.Prelude.{Some, Contains, length, map, reverse, take, count_by, slice_index, slice_index_or}
 use Rattle.std.specs.List.{All, fold}
 use Rattle.fib_union.specs.Marks.{Mark, unseen, first, passed, is_even}
 use Rattle.fib_union.specs.Unions.{Retired, Union, owner, edge_at, leads_to}

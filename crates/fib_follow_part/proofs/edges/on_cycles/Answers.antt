@@ -12,5 +12,6 @@ returns c =
     let m = c.in_ok-marks.marks in
     let nodes = c.in-Ok.nodes in
     let all : c.in-Ok-try_from.count ≡ length edges = omega (arith, c.in-Ok-try_from.ensures) in
-    IfOk-weaker c.marked.result (λ s. AreMarkedEnds order edges m.looped (length edges) s.keys) (λ s. AreLoopedEnds order edges s.keys) (λ s. looped_ends nodes order edges m s.keys c.in_ok-marks.ensures)
+    IfOk-weaker c.marked.result (λ s. AreMarkedEnds order edges m.looped (length edges) s.keys) (λ s. AreLoopedEnds order edges s.keys)
+    (λ s. looped_ends nodes order edges m s.keys c.in_ok-marks.ensures)
     (subst (λ n. IfOk c.marked.result (λ s. AreMarkedEnds order edges m.looped n s.keys)) all c.marked.ensures)

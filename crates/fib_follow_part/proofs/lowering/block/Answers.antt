@@ -12,4 +12,5 @@ raised-requires c = λ n k.
 pub returns-clause-some : goal.returns-clause-some
 returns-clause-some c =
     let h = c.in-Some.ensures in
-    is_block c.args.ranks.now c.args.numbers.now c.in_ok-made.made.items c.least.result c.in-Some.base (omega (arith, h.0, h.1)) c.least.ensures.low c.requires.below c.in_ok-made.ensures
+    is_block c.args.ranks.now c.args.numbers.now c.in_ok-made.made.items c.least.result c.in-Some.base
+    (omega (arith, h.0, h.1)) c.least.ensures.low c.requires.below c.in_ok-made.ensures

@@ -41,9 +41,12 @@ returns-clause-some c =
     let p = c.args.part.now in
     let ranks = c.as_slice-2.result.now in
     let numbers = c.numbers.result.now in
-    IfOk-weaker c.block.result (λ o. IfSome o (λ x. IsBlock ranks numbers x.items)) (λ o. IfSome o (λ x. (S T : Tables) → IsAfter v S T → IsPart v S T p → AreRanks v S T p x.items))
+    IfOk-weaker c.block.result (λ o. IfSome o (λ x. IsBlock ranks numbers x.items))
+    (λ o. IfSome o (λ x. (S T : Tables) → IsAfter v S T → IsPart v S T p → AreRanks v S T p x.items))
     (λ o. some_weaker (λ x. IsBlock ranks numbers x.items) (λ x. (S T : Tables) → IsAfter v S T → IsPart v S T p → AreRanks v S T p x.items) o
-    (λ x made. λ S T h is. block_ranks v S T p ranks x.items h is c.numbers.ensures.numbered.each (c.as_slice-2.ensures.value ∙ (c.in_ok-before.ensures ∙ ap (map (rank_before v)) c.members.ensures)) (subst (λ ns. IsBlock ranks ns x.items) c.numbers.ensures.numbers made)))
+    (λ x made. λ S T h is. block_ranks v S T p ranks x.items h is c.numbers.ensures.numbered.each
+    (c.as_slice-2.ensures.value ∙ (c.in_ok-before.ensures ∙ ap (map (rank_before v)) c.members.ensures))
+    (subst (λ ns. IsBlock ranks ns x.items) c.numbers.ensures.numbers made)))
     c.block.ensures.some
 
 pub returns-clause-none : goal.returns-clause-none

@@ -10,6 +10,7 @@ returns c =
     let all = c.in_ok-see_all.ensures in
     record {
       once = all.seen.1;
-      changed = λ t k. more_in c.see_changed.new.seen c.see_all.new.seen all.seen.0 t (first.2 t (subst (λ xs. Contains (map anew_prefix xs) t) (sym c.changed.ensures.changed) k));
+      changed = λ t k. more_in c.see_changed.new.seen c.see_all.new.seen all.seen.0 t
+          (first.2 t (subst (λ xs. Contains (map anew_prefix xs) t) (sym c.changed.ensures.changed) k));
       closed = all.closed;
     }

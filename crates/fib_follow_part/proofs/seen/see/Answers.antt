@@ -7,4 +7,5 @@ pub returns-then-has : goal.returns-then-has
 returns-then-has c = sees_same c.args.seen.now c.args.e c.requires (sym c.has.ensures ∙ c.if-has.true)
 
 pub returns : goal.returns
-returns c = on_ok_weaker c.put.result (λ is. sees_put c.args.seen.now c.put.new.self c.args.e c.requires (sym c.has.ensures ∙ c.if-has.false) is) c.put.ensures.ok
+returns c = on_ok_weaker c.put.result
+    (λ is. sees_put c.args.seen.now c.put.new.self c.args.e c.requires (sym c.has.ensures ∙ c.if-has.false) is) c.put.ensures.ok

@@ -12,7 +12,10 @@ pub changed-preserved : goal.changed-preserved
 changed-preserved c =
     let xs = c.args.changed.now in
     sees_step (map anew_prefix xs) c.changed.place c.index.result.now.prefix c.args.seen.now c.changed.seen c.see.new.seen
-    (get_map anew_prefix xs c.changed.place c.index.result.now (slice_get_read xs (length xs) c.changed.place c.index.result.now refl (let lt = c.changed-test.true in let n = c.len-place-end.ensures in omega (arith, lt, n)) c.index.ensures)) c.changed.invariant c.in_ok-see.ensures
+    (get_map anew_prefix xs c.changed.place c.index.result.now
+    (slice_get_read xs (length xs) c.changed.place c.index.result.now refl
+    (let lt = c.changed-test.true in let n = c.len-place-end.ensures
+    in omega (arith, lt, n)) c.index.ensures)) c.changed.invariant c.in_ok-see.ensures
 
 pub returns : goal.returns
 returns c =

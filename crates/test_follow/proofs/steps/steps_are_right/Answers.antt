@@ -11,4 +11,6 @@ single x = (tt, tt)
 
 pub new-view-requires : goal.new-view-requires
 new-view-requires c =
-    subst (λ l. IsAscending (map anew_prefix l)) (sym (c.in_ok-push.ensures.ok ∙ ap (λ l. l ++ c.in_ok-route_anew.field-0 ∷ []) c.new-changed.ensures)) (single c.in_ok-route_anew.field-0)
+    subst (λ l. IsAscending (map anew_prefix l))
+    (sym (c.in_ok-push.ensures.ok ∙ ap (λ l. l ++ c.in_ok-route_anew.field-0 ∷ []) c.new-changed.ensures))
+    (single c.in_ok-route_anew.field-0)

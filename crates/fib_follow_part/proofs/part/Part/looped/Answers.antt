@@ -14,7 +14,8 @@ returns-clause-after c =
     let p = c.args.self.now in
     let e = c.args.e in
     IfOk-weaker c.loops_of.result (λ v. v.items ≡ map (λ q. kind_loops c.self.inside.loops.keys e q.kind) c.chosen.result.now)
-    (λ v. (S T : Tables) → IsAfter c.args.view.now S T → IsPart c.args.view.now S T p → in_part p e ≡ true → v.items ≡ map (λ q. looped_kind T e q.kind) (chosen T e))
+    (λ v. (S T : Tables) → IsAfter c.args.view.now S T → IsPart c.args.view.now S T p → in_part p e ≡ true
+    → v.items ≡ map (λ q. looped_kind T e q.kind) (chosen T e))
     (λ v is. λ S T h part there.
     is ∙ (ap (λ z. map (λ q. kind_loops z.loops e q.kind) c.chosen.result.now) c.self.view_is
     ∙ (ap (map (λ q. kind_loops p.loops e q.kind)) (c.chosen.ensures.after S T h)

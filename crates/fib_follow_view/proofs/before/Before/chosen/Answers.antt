@@ -5,7 +5,8 @@ use Rattle.fib_follow_view.proofs.Told.{row_chosen}
 use Rattle.fib_follow_view.proofs.before.Before.chosen.Goals as goal
 
 pub first_list-requires : goal.first_list-requires
-first_list-requires c = subst (AreKept c.self.inside.lists.now) (sym c.pairs.ensures) (subst (λ ls. AreKept ls c.in-Some.r.now.pairs) (sym (ap (λ z. z.lists) c.self.view_is)) c.in-Some.ensures.held)
+first_list-requires c = subst (AreKept c.self.inside.lists.now) (sym c.pairs.ensures)
+    (subst (λ ls. AreKept ls c.in-Some.r.now.pairs) (sym (ap (λ z. z.lists) c.self.view_is)) c.in-Some.ensures.held)
 
 pub returns-in-Some-clause-before : goal.returns-in-Some-clause-before
 returns-in-Some-clause-before c = λ S h.

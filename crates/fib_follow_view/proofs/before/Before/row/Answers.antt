@@ -8,7 +8,8 @@ use Rattle.fib_entries_rows.specs.inner.Compare.{AreKept}
 use Rattle.fib_entries_rows.proofs.Standing.{row_there}
 use Rattle.fib_follow_view.proofs.before.Before.row.Goals as goal
 
-kept_here : (rows : List Row) (lists : List PathKept) (e : Prefix) (o : Option (Bor Row)) → AreHeld rows lists → option_copied o ≡ row_of rows e → IfSome o (λ r. AreKept lists r.now.pairs)
+kept_here : (rows : List Row) (lists : List PathKept) (e : Prefix) (o : Option (Bor Row)) → AreHeld rows lists
+    → option_copied o ≡ row_of rows e → IfSome o (λ r. AreKept lists r.now.pairs)
 kept_here rows lists e None held is = tt
 kept_here rows lists e (Some r) held is = λ p c. held r.now p (row_there rows e r.now (sym is)).0 c
 

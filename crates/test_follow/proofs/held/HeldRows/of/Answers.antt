@@ -15,26 +15,33 @@ use Rattle.fib_entries_rows.proofs.Placing.{same_order}
 use Rattle.fib_follow_view.specs.inner.Told.{AreBefore}
 use Rattle.test_follow.proofs.held.HeldRows.of.Goals as goal
 
-taken_of : (lists : List PathKept) (S : Tables) (xs : List Pair) (ids slice : List ℕ) → xs ≡ pairs S → slice ≡ ids → AreTaken lists xs ids → AreTaken lists (pairs S) slice
+taken_of : (lists : List PathKept) (S : Tables) (xs : List Pair) (ids slice : List ℕ) → xs ≡ pairs S → slice ≡ ids → AreTaken lists xs ids
+    → AreTaken lists (pairs S) slice
 taken_of lists S xs ids slice x s h = subst (AreTaken lists (pairs S)) (sym s) (subst (λ q. AreTaken lists q ids) x h)
 
 pub rows_anew-requires-clause-taken : goal.rows_anew-requires-clause-taken
 rows_anew-requires-clause-taken c =
     taken_of c.take_all.new.lists c.in_ok-meaning.meaning c.pairs.result.now c.in_ok-ids.ids.items c.as_slice.result.now c.pairs.ensures c.as_slice.ensures.value c.in_ok-ids.ensures
 
-all_in : (S : Tables) (order listed : List Prefix) → order ≡ listed → ((e : Prefix) → Contains listed e ↔ Contains (entries S) e) → (e : Prefix) → Contains order e ↔ Contains (entries S) e
+all_in : (S : Tables) (order listed : List Prefix) → order ≡ listed → ((e : Prefix) → Contains listed e ↔ Contains (entries S) e)
+    → (e : Prefix) → Contains order e ↔ Contains (entries S) e
 all_in S order listed p all e = subst (λ q. Contains q e ↔ Contains (entries S) e) (sym p) (all e)
 
 pub rows_anew-requires-clause-same : goal.rows_anew-requires-clause-same
-rows_anew-requires-clause-same c = all_in c.in_ok-meaning.meaning c.as_slice-2.result.now c.in_ok-listed.listed.items c.as_slice-2.ensures.value c.in_ok-listed.ensures.all
+rows_anew-requires-clause-same c =
+    all_in c.in_ok-meaning.meaning c.as_slice-2.result.now c.in_ok-listed.listed.items c.as_slice-2.ensures.value c.in_ok-listed.ensures.all
 
-all_stands : (lists : List PathKept) (S T : Tables) (rows : List Row) (order listed : List Prefix) (ids : List ℕ) (xs : List Pair) (objects : ℕ) → S ≡ T → AreAnew lists S order rows → order ≡ listed → IsAscending listed
-    → ((e : Prefix) → Contains listed e ↔ Contains (entries S) e) → xs ≡ pairs S → AreTaken lists xs ids → objects ≡ min (size S) (2 ^ 32 - 1) → IsSound S → StandsFor (record { rows = rows; lists = lists; objects = objects }) T
+all_stands : (lists : List PathKept) (S T : Tables) (rows : List Row) (order listed : List Prefix) (ids : List ℕ) (xs : List Pair)
+    (objects : ℕ) → S ≡ T → AreAnew lists S order rows → order ≡ listed → IsAscending listed
+    → ((e : Prefix) → Contains listed e ↔ Contains (entries S) e) → xs ≡ pairs S → AreTaken lists xs ids
+    → objects ≡ min (size S) (2 ^ 32 - 1) → IsSound S → StandsFor (record { rows = rows; lists = lists; objects = objects }) T
 all_stands lists S T rows order listed ids xs objects is h p ordered all x taken counted sound =
     subst (StandsFor (record { rows = rows; lists = lists; objects = objects })) is
-    (stands_anew lists S order rows ids objects h (subst IsAscending (sym p) ordered) (all_in S order listed p all) (subst (λ q. AreTaken lists q ids) x taken) counted sound)
+    (stands_anew lists S order rows ids objects h (subst IsAscending (sym p) ordered) (all_in S order listed p all)
+    (subst (λ q. AreTaken lists q ids) x taken) counted sound)
 
-before_of : (lists : List PathKept) (S : Tables) (rows : List Row) (order listed set : List Prefix) → AreAnew lists S order rows → order ≡ listed → IsAscending listed → IsAscending set
+before_of : (lists : List PathKept) (S : Tables) (rows : List Row) (order listed set : List Prefix) → AreAnew lists S order rows
+    → order ≡ listed → IsAscending listed → IsAscending set
     → ((e : Prefix) → Contains listed e ↔ Contains (entries S) e) → ((e : Prefix) → Contains set e ↔ Contains (entries S) e) → AreBefore rows lists set
 before_of lists S rows order listed set h p ordered set_ordered all set_all =
     let same = in_place lists S order h.ranks [] rows h.made ∙ p in
@@ -48,14 +55,16 @@ before_of lists S rows order listed set h p ordered set_ordered all set_all =
       ));
     }
 
-anew_as : (lists : List PathKept) (S : Tables) (order : List Prefix) (rows made : List Row) → rows ≡ made → AreAnew lists S order made → AreAnew lists S order rows
+anew_as : (lists : List PathKept) (S : Tables) (order : List Prefix) (rows made : List Row) → rows ≡ made → AreAnew lists S order made
+    → AreAnew lists S order rows
 anew_as lists S order rows made is h = subst (AreAnew lists S order) (sym is) h
 
 pub size_of-requires-clause-prefixes : goal.size_of-requires-clause-prefixes
 size_of-requires-clause-prefixes c = subst ArePrefixes (sym c.as_slice-3.ensures.value) c.in_ok-listed.ensures.prefixes
 
 pub size_of-requires-clause-same : goal.size_of-requires-clause-same
-size_of-requires-clause-same c = all_in c.in_ok-meaning.meaning c.as_slice-3.result.now c.in_ok-listed.listed.items c.as_slice-3.ensures.value c.in_ok-listed.ensures.all
+size_of-requires-clause-same c =
+    all_in c.in_ok-meaning.meaning c.as_slice-3.result.now c.in_ok-listed.listed.items c.as_slice-3.ensures.value c.in_ok-listed.ensures.all
 
 pub invariant_of-result : goal.invariant_of-result
 invariant_of-result c =
@@ -70,4 +79,5 @@ returns c =
     let rows = c.in_ok-rows.rows in
     all_stands lists S c.args.tables.now rows c.as_slice-2.result.now c.in_ok-listed.listed.items c.in_ok-ids.ids.items c.pairs.result.now c.in_ok-objects.objects c.in_ok-meaning.ensures
     (anew_as lists S c.as_slice-2.result.now rows c.in_ok-made.made.items c.in_ok-rows.ensures c.in_ok-made.ensures) c.as_slice-2.ensures.value
-    c.in_ok-listed.ensures.ordered c.in_ok-listed.ensures.all c.pairs.ensures c.in_ok-ids.ensures c.in_ok-objects.ensures (subst IsSound (sym c.in_ok-meaning.ensures) c.requires)
+    c.in_ok-listed.ensures.ordered c.in_ok-listed.ensures.all c.pairs.ensures c.in_ok-ids.ensures c.in_ok-objects.ensures
+    (subst IsSound (sym c.in_ok-meaning.ensures) c.requires)
