@@ -207,7 +207,7 @@ module _ (S T : Tables) (e : Prefix) where
   keeps_met need kinds.Cover h = refl
 
   -- and one that is marked alike means the same
-  pub kept : (p : Path) (kind : PathKind) → looped_kind S e kind ≡ looped_kind T e kind → kind_met S p.need kind ≡ kind_met T p.need kind → mark_with (kind_aim S e kind) (kind_counts S e p.need kind) p ≡ mark_with (kind_aim T e kind) (kind_counts T e p.need kind) p
+  kept : (p : Path) (kind : PathKind) → looped_kind S e kind ≡ looped_kind T e kind → kind_met S p.need kind ≡ kind_met T p.need kind → mark_with (kind_aim S e kind) (kind_counts S e p.need kind) p ≡ mark_with (kind_aim T e kind) (kind_counts T e p.need kind) p
       → kind_changes S T e p.need kind ≡ false
   unfolding mark_with
   kept p kinds.Drop l m h = refl
