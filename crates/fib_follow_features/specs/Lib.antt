@@ -1,0 +1,3 @@
+pub mod FoundBy
+pub mod Holders
+pub mod inner
