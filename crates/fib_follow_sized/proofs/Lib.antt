@@ -1,0 +1,4 @@
+pub mod Walking
+pub mod Plied
+pub mod Ended
+pub mod Totals

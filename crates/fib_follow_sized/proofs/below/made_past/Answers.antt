@@ -1,0 +1,9 @@
+use Rattle.fib_follow_view.specs.Views.{anew_prefix}
+use Rattle.fib_follow_sized.proofs.Walking.{past_found, past_missed}
+use Rattle.fib_follow_sized.proofs.below.made_past.Goals as goal
+
+pub returns-in-Ok-clause-past : goal.returns-in-Ok-clause-past
+returns-in-Ok-clause-past c = past_found anew_prefix c.args.changed.now c.args.q c.in-Ok.place c.requires c.in-Ok.ensures.bound c.in-Ok.ensures.position
+
+pub returns-in-Err-clause-past : goal.returns-in-Err-clause-past
+returns-in-Err-clause-past c = past_missed anew_prefix c.args.changed.now c.args.q c.in-Err.place c.requires c.in-Err.ensures.position

@@ -1,0 +1,3 @@
+-- Relations that carry proofs and no claim: none is needed to believe a public clause.
+pub mod Below
+pub mod Counts
