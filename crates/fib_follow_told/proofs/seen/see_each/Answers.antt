@@ -1,0 +1,19 @@
+use Rattle.std.proofs.Common.{arith, length, refl}
+use Rattle.std.proofs.lemmas.Option.{slice_get_read}
+use Rattle.fib_follow_told.proofs.Gathering.{each_step, each_whole, gathers_none}
+use Rattle.fib_follow_told.proofs.seen.see_each.Goals as goal
+
+pub list-init : goal.list-init
+list-init c = gathers_none c.args.seen.now c.requires
+
+pub see-requires : goal.see-requires
+see-requires c = c.list.invariant.once
+
+pub list-preserved : goal.list-preserved
+list-preserved c =
+    each_step c.args.list.now c.list.place c.index-list-place.result c.args.seen.now c.list.seen c.see.new.seen
+    (slice_get_read c.args.list.now (length c.args.list.now) c.list.place c.index-list-place.result refl c.list-test.true c.index-list-place.is)
+    c.list.invariant c.in_ok-see.ensures
+
+pub returns : goal.returns
+returns c = let over = c.list-test.false in each_whole c.args.list.now c.list.place c.args.seen.now c.list.seen (omega (arith, over)) c.list.invariant
