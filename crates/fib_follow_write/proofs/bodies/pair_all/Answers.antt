@@ -1,0 +1,35 @@
+use Rattle.std.proofs.Common.{◌≡◌, [], ◌∷◌, List, length, map, refl, sym, ap, subst, ◌∙◌, arith}
+use Rattle.std.specs.Vec.Iter.{into_iter_items}
+use Rattle.std.proofs.lemmas.List.{nil_from_length}
+use Rattle.fib_entries_rows.proofs.Renewing.{map_twice}
+use Rattle.fib_entries_rows.specs.Known.{prefix_of}
+use Rattle.fib_cover.specs.Covers.{IsAscending}
+use Rattle.fib_follow_write.specs.Written.{changed, sourced}
+use Rattle.fib_follow_write.specs.declared.plan.Sourced.{Sourced}
+use Rattle.fib_follow_write.proofs.Upon.{map_same, mapped_ordered, sourced_prefix}
+use Rattle.fib_follow_write.proofs.bodies.pair_all.Goals as goal
+
+pub pair-requires : goal.pair-requires
+pair-requires c = c.loop-entry.invariant.ordered
+
+pub loop-entry-preserved : goal.loop-entry-preserved
+loop-entry-preserved c =
+    let at = c.loop-entry in
+    let x : Sourced = c.in-Some.entry in
+    let left : List Sourced = into_iter_items c.next.new.self in
+    let steps : into_iter_items at.entry-iterator ≡ x ∷ left = c.in-Some.ensures.steps.0 in
+    record {
+      whole = ap (map (changed sourced left)) c.pair.ensures
+          ∙ (map_twice (changed sourced left) (sourced x) at.rows
+          ∙ (ap (λ (l : List Sourced). map (changed sourced l) at.rows) (sym steps) ∙ at.invariant.whole));
+      left = (let was = at.invariant.left in let gone = c.in-Some.ensures.steps.1 in let short = ap length steps in omega arith);
+      ordered = subst (λ l. IsAscending (map prefix_of l)) (sym c.pair.ensures) (mapped_ordered (sourced x) (sourced_prefix x) at.rows at.invariant.ordered);
+    }
+
+pub returns : goal.returns
+returns c =
+    let at = c.loop-entry in
+    let empty : into_iter_items at.entry-iterator ≡ [] = nil_from_length _ (sym at.invariant.left ∙ c.in-None.ensures.steps.0) in
+    sym (map_same (λ r. r) (λ r. refl) at.rows)
+    ∙ (ap (λ (l : List Sourced). map (changed sourced l) at.rows) (sym empty)
+    ∙ (at.invariant.whole ∙ ap (λ (l : List Sourced). map (changed sourced l) c.args.rows.now) c.into_iter-entry-iterator.ensures.into_iter_gives.0))

@@ -1,0 +1,4 @@
+pub mod Plans
+pub mod Steps
+pub mod Written
+pub mod inner
