@@ -9,6 +9,7 @@ use fib_entries_rows::build::take_all;
 use fib_entries_rows::rows::Row;
 use fib_entries_rows::sizes::size_of;
 use fib_entries_rows::whole;
+use fib_follow_features::Features;
 use fib_follow_view::Before;
 use fib_paths::PathLists;
 use fib_resolve::Tables;
@@ -66,6 +67,17 @@ impl HeldRows {
             order,
             objects,
         })
+    }
+
+    /// By what the rows are found.
+    pub fn features(&self, alloc: Global) -> Result<Features, AllocError> {
+        Features::of(alloc, &self.lists, &self.order, &self.rows)
+    }
+
+    pub fn rows(&self) -> &Blocks<Row>
+        ensures { result.now ≡ self.now.rows }
+    {
+        &self.rows
     }
 
     pub fn before(&self) -> Before<'_>

@@ -15,17 +15,17 @@ use std::alloc::{AllocError, Global};
 use std::test::Fail;
 
 /// 20.0.0.0/8.
-fn route() -> Prefix {
+pub fn route() -> Prefix {
     Prefix::masked(Addr(0x1400_0000), 8)
 }
 
 /// 10.0.0.7/32.
-fn next_hop() -> Prefix {
+pub fn next_hop() -> Prefix {
     Prefix::host(Addr(0x0a00_0007))
 }
 
 /// 20.0.0.0/8 via 10.0.0.7.
-fn recursive_route(alloc: Global) -> Result<Edit, AllocError>
+pub fn recursive_route(alloc: Global) -> Result<Edit, AllocError>
     ensures { IfOk result IsWritten }
 {
     let mut paths = List::new(alloc);
@@ -49,7 +49,7 @@ fn has_one_pair(alloc: Global, config: &Config) -> Result<bool, AllocError> {
 }
 
 /// The route as the tables have it, which must be another than the rows have.
-fn route_anew(alloc: Global, config: &Config, before: &Before<'_>) -> Result<Anew, Fail> {
+pub fn route_anew(alloc: Global, config: &Config, before: &Before<'_>) -> Result<Anew, Fail> {
     let prefix = Prefix::masked(Addr(0x1400_0000), 8);
     if pairs(alloc, config, prefix, None)?.len() != 1 {
         return Err("not one pair".into());
