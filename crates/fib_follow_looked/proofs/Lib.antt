@@ -1,0 +1,9 @@
+pub mod Growth
+pub mod Naming
+pub mod Ways
+pub mod Turning
+pub mod Above
+pub mod Asking
+pub mod Nearing
+pub mod Catching
+pub mod Finding
