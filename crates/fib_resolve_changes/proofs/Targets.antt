@@ -1,5 +1,5 @@
 -- Each edge leads to an entry.
-use Rattle.std.proofs.Common.{cond, is_some, arith, ◌≡◌, ℕ, suc, true, List, [], ◌∷◌, Option, Some, None, inl, inr, refl, sym, ◌∙◌, ap, subst}
+use Rattle.std.proofs.Common.{is_some, arith, ◌≡◌, ℕ, suc, true, cond, List, [], ◌∷◌, Option, Some, None, inl, inr, refl, sym, ◌∙◌, ap, subst}
 use Rattle.std.specs.Prelude.{Contains, nat_lt, IfSome, filter_map}
 use Rattle.std.specs.List.{AllByRecursion}
 use Rattle.std.specs.Set.{is_member}
@@ -122,6 +122,26 @@ pub hop_entry : (S : Tables) (a : ℕ) → Contains (all_hops S) a → is_member
 unfolding derived_pair
 hop_entry S a c = pair_entry S (derived_pair S a) (host a) (from_origin S (derived_pair S a) (derived a c refl)) refl
 
+-- the pair of a neighbor that is attached
+pub near_there : (S : Tables) (n : Neighbor) (i : ℕ) → n.interface ≡ i → attached_by S n.addr ≡ Some i
+    → Contains (neighbor_pairs S n) (one (host n.addr) sources.Adjacency (kinds.Hop n.addr n.interface))
+unfolding neighbor_pairs
+near_there S n i same at =
+    let is : is_interface (attached_by S n.addr) n.interface ≡ true = ap (λ o. is_interface o n.interface) (at ∙ ap Some (sym same))
+    ∙ (Decides-eqb n.interface n.interface).1 refl in
+    subst (λ b. Contains (cond b (one (host n.addr) sources.Adjacency (kinds.Hop n.addr n.interface) ∷ []) [])
+    (one (host n.addr) sources.Adjacency (kinds.Hop n.addr n.interface)))
+    (sym is) (0, omega arith, refl)
+
+-- its host is an entry
+pub near_entry : (S : Tables) (i a : ℕ) → HasNeighbor S i a → attached_by S a ≡ Some i → Contains (entries S) (host a)
+near_entry S i a near at =
+    let n = near.0 in
+    let x = one (host n.addr) sources.Adjacency (kinds.Hop n.addr n.interface) in
+    let there = near_there S n i near.2 (ap (attached_by S) near.3 ∙ at) in
+    Contains-from_any (λ x y. (same_prefix-Decides x y).0) (host a) (entries S)
+    (pair_entry S x (host a) (from_origin S x (neighbor n near.1 there)) (ap host near.3))
+
 pub cover_entry : (S : Tables) (a : ℕ) → is_member same_prefix (entries S) (cover S a) ≡ true
 unfolding cover
 cover_entry S a =
@@ -151,23 +171,3 @@ unfolding targets
 edge_entry S e t c =
     let r = flat_map_from (λ p. kind_targets S e p.kind) (chosen S e) t c in
     Contains-from_any (λ x y. (same_prefix-Decides x y).0) t (entries S) (target_entry S e t r.0 r.1 r.2)
-
--- the pair of a neighbor that is attached
-pub near_there : (S : Tables) (n : Neighbor) (i : ℕ) → n.interface ≡ i → attached_by S n.addr ≡ Some i
-    → Contains (neighbor_pairs S n) (one (host n.addr) sources.Adjacency (kinds.Hop n.addr n.interface))
-unfolding neighbor_pairs
-near_there S n i same at =
-    let is : is_interface (attached_by S n.addr) n.interface ≡ true = ap (λ o. is_interface o n.interface) (at ∙ ap Some (sym same))
-    ∙ (Decides-eqb n.interface n.interface).1 refl in
-    subst (λ b. Contains (cond b (one (host n.addr) sources.Adjacency (kinds.Hop n.addr n.interface) ∷ []) [])
-    (one (host n.addr) sources.Adjacency (kinds.Hop n.addr n.interface)))
-    (sym is) (0, omega arith, refl)
-
--- so its host is an entry
-pub near_entry : (S : Tables) (i a : ℕ) → HasNeighbor S i a → attached_by S a ≡ Some i → Contains (entries S) (host a)
-near_entry S i a near at =
-    let n = near.0 in
-    let x = one (host n.addr) sources.Adjacency (kinds.Hop n.addr n.interface) in
-    let there = near_there S n i near.2 (ap (attached_by S) near.3 ∙ at) in
-    Contains-from_any (λ p q. (same_prefix-Decides p q).0) (host a) (entries S)
-    (pair_entry S x (host a) (from_origin S x (neighbor n near.1 there)) (ap host near.3))
