@@ -1,4 +1,4 @@
--- Rows after a leaf's row came, and what they name.
+-- Rows in order, as one comes or goes.
 use Rattle.std.proofs.Common.{arith, ◌≡◌, ◌≢◌, ℕ, ◌≤◌, List, map, length, ◌⊎◌, inl, inr, sym, subst, ◌↔◌}
 use Rattle.std.specs.Prelude.{Contains}
 use Rattle.std.specs.List.{insert}

@@ -1,4 +1,4 @@
--- Ranks rise until each is above those to which its entry leads.
+-- Prefixes that differ aren't the same.
 use Rattle.std.proofs.Common.{◌≡◌, ◌≢◌, false, inl, inr}
 use Rattle.fib_base_list.proofs.Lists.{either}
 use Rattle.fib_addr.specs.Prefixes.{Prefix, same_prefix}

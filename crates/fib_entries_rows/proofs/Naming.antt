@@ -1,4 +1,4 @@
--- Each list that a row names is kept, also after one row's list was replaced.
+-- A number whose content is known is kept.
 use Rattle.std.proofs.Common.{◌≡◌, List, Option, Some, None, refl}
 use Rattle.std.specs.Prelude.{IsSome, option_map}
 use Rattle.fib_resolve.specs.declared.types.Path.{Path}

@@ -1,4 +1,4 @@
--- The plies and entries that prefixes in order make, as one comes and as one goes, and the size of the tables whose entries they are.
+-- The plies of entries in order.
 use Rattle.std.proofs.Common.{◌≡◌, false, List, [], ◌∷◌, length, inl, inr, sym, subst, ◌↔◌}
 use Rattle.std.specs.Prelude.{Contains}
 use Rattle.std.specs.List.{IsDistinct}

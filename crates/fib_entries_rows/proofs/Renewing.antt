@@ -1,4 +1,4 @@
--- Rows stand for the tables after an interface's flag or a neighbor's MAC changed.
+-- A list that is mapped twice.
 use Rattle.std.proofs.Common.{◌≡◌, List, [], ◌∷◌, map, refl, ap}
 
 pub map_twice : {X Y Z : Type 0} (f : Y → Z) (g : X → Y) (xs : List X) → map f (map g xs) ≡ map (λ x. f (g x)) xs

@@ -1,4 +1,4 @@
--- A leaf that comes with its one route. No contract of a public call rests on this.
+-- A row with other pairs. No contract of a public call rests on this.
 use Rattle.std.specs.Prelude.{ℕ, List}
 use Rattle.fib_resolve.specs.declared.types.FibSource.{FibSource}
 use Rattle.fib_entries_rows.specs.Rows.{Row}

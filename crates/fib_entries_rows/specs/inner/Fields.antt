@@ -1,4 +1,4 @@
--- How the fields of entries fit together. No contract of a public call rests on this.
+-- How often lists are used. No contract of a public call rests on this.
 use Rattle.std.specs.Prelude.{◌≡◌, ◌<◌, ℕ, List, Contains, Some}
 use Rattle.fib_entries_rows.specs.Known.{PathKept, content_of}
 use Rattle.fib_resolve.specs.declared.types.Path.{Path}

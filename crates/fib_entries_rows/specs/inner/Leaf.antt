@@ -1,4 +1,4 @@
--- The change of one route of a prefix that nothing leads to and that covers no host. No contract of a public call rests on this.
+-- Rows whose dependants alone differ. No contract of a public call rests on this.
 use Rattle.std.specs.Prelude.{◌≡◌, ◌≢◌, ◌↔◌, ℕ, List, [], ◌∷◌, Contains}
 use Rattle.fib_resolve.specs.Pairs.{pairs}
 use Rattle.fib_addr.specs.Prefixes.{Prefix}

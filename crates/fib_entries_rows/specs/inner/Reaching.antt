@@ -1,5 +1,4 @@
--- The change of the best route's list of a prefix that others may lead to, on cycles or not, with which the host of a next hop may come and
--- that of another go. No contract of a public call rests on this.
+-- Loops of a path, where the edges on cycles are known. No contract of a public call rests on this.
 use Rattle.std.specs.Prelude.{Bool, false, List}
 use Rattle.fib_addr.specs.Prefixes.{Prefix, host}
 use Rattle.fib_resolve.specs.declared.types.PathKind.{PathKind}
