@@ -1,5 +1,5 @@
 -- Lists of entries that grow.
-use Rattle.std.proofs.Common.{◌≡◌, ◌⊎◌, ◌+◌, ◌≤◌, ◌&&◌, ℕ, Bool, true, false, not, List, [], ◌∷◌, ◌++◌, take, map, length, slice_get, Some, None, inl, inr, refl, sym, ◌∙◌, ap, subst, ◌↔◌}
+use Rattle.std.proofs.Common.{◌≡◌, ◌⊎◌, ◌+◌, ◌≤◌, ◌&&◌, ℕ, Bool, true, false, not, List, [], ◌∷◌, ◌++◌, take, map, length, slice_get, Option, Some, None, inl, inr, refl, sym, ◌∙◌, ap, subst, ◌↔◌}
 use Rattle.std.specs.Prelude.{Contains, get_or, unwrap_or}
 use Rattle.std.specs.List.{list_any}
 use Rattle.std.proofs.lemmas.Bool.{false≢true}
@@ -13,13 +13,18 @@ use Rattle.fib_addr.proofs.PrefixLaws.{same_prefix-Decides}
 use Rattle.fib_resolve_changes.proofs.CauseLaws.{any_from}
 use Rattle.fib_resolve_changes.proofs.Edits.{any_in}
 use Rattle.fib_follow_looked.specs.inner.Adding.{Adds, AddsEach}
-use Rattle.fib_follow_view.specs.Views.{Seen}
+use Rattle.fib_resolve_changes.proofs.SamePairs.{map_in}
+use Rattle.fib_entries_rows.specs.Known.{prefix_of, row_of}
+use Rattle.fib_entries_rows.specs.Rows.{Row}
+use Rattle.fib_entries_rows.proofs.Standing.{row_there}
+use Rattle.fib_follow_features.specs.FoundBy.{cover_among, features_of, held_list}
+use Rattle.fib_follow_view.specs.Views.{Seen, is_changed}
 use Rattle.fib_follow_view.specs.declared.view.Anew.{Anew}
-use Rattle.fib_follow_view.specs.inner.Told.{are_some}
+use Rattle.fib_follow_view.specs.inner.Told.{are_some, is_row}
 use Rattle.fib_follow_noted.specs.Noted.{IsListed}
 use Rattle.fib_follow_noted.specs.declared.covers.Covers.{Covers}
-use Rattle.fib_follow_noted.specs.declared.renoted.Renoted.{Renoted}
-use Rattle.fib_follow_noted.specs.inner.Telling.{AreSo, Grows, IsGood, has_so, is_so}
+use Rattle.fib_follow_noted.specs.declared.entry.Renoted.{Renoted}
+use Rattle.fib_follow_noted.specs.inner.Telling.{AreSo, Grows, IsGood, IsOrder, has_so, is_so}
 
 -- the first of a list, and one more
 pub take_cases : {X : Type 0} (xs : List X) (k : ℕ) (x y : X) → slice_get xs k ≡ Some x → Contains (take (k + 1) xs) y → Contains (take k xs) y ⊎ (x ≡ y)
@@ -111,3 +116,24 @@ so_none b x set off q = (
     | inr h ↦ absurd (false≢true (sym off ∙ (and_both (is_so b x) (same_prefix q x.prefix) h).0))
   ],
 )
+
+-- a row's features come
+pub row_grows : (v : Seen) (covers : Covers) (old new : List Renoted) (r : Row) (e : Prefix) → row_of v.before.rows e ≡ Some r
+    → is_changed v.changed e ≡ false
+    → (y : Renoted) × (new ≡ old ++ y ∷ []) × (y.prefix ≡ r.prefix)
+    × ((after : List Prefix) → IsOrder v covers after
+    → y.new.items ≡ features_of r.prefix (cover_among after r.prefix) (map (held_list v.before.lists) r.pairs))
+    → Grows v covers old new × IsListed new e
+row_grows v covers old new r e at off y =
+    let own = y.2 ∙ sym (row_there v.before.rows e r at).1 in (
+      grows_one v covers old new y.0 y.1
+      (λ after h. inr (ap (is_changed v.changed) own ∙ off, r, ap (row_of v.before.rows) own ∙ at, y.3 after h)),
+      listed_one old new y.0 e y.1 own,
+    )
+
+pub entry_there : (rows : List Row) (e : Prefix) → is_row (row_of rows e) ≡ true → Contains (map prefix_of rows) e
+entry_there rows e = by (row_of rows e) refl
+  where
+    by : (o : Option Row) → row_of rows e ≡ o → is_row o ≡ true → Contains (map prefix_of rows) e
+    by None at h = absurd (false≢true h)
+    by (Some r) at h = (let t = row_there rows e r at in subst (Contains (map prefix_of rows)) (sym t.1) (map_in prefix_of rows r t.0))

@@ -3,4 +3,4 @@ pub mod Sourcing
 pub mod Planned
 pub mod Merging
 pub mod Telling
-pub mod Noting
+pub mod Keeping

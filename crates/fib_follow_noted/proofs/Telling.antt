@@ -33,7 +33,7 @@ use Rattle.fib_follow_write.specs.declared.writing.Plan.{Plan}
 use Rattle.fib_follow_plan.specs.Made.{plan_of}
 use Rattle.fib_follow_noted.specs.Noted.{AreFull, AreTold, IsListed}
 use Rattle.fib_follow_noted.specs.declared.covers.Covers.{Covers}
-use Rattle.fib_follow_noted.specs.declared.renoted.Renoted.{Renoted}
+use Rattle.fib_follow_noted.specs.declared.entry.Renoted.{Renoted}
 use Rattle.fib_follow_noted.specs.inner.Telling.{AreAnew, AreAsked, AreSo, IsGood, IsNearest, IsOfAnew, IsOfRow, IsOrder, IsUnder}
 use Rattle.fib_follow_noted.proofs.Merging.{comes, comes_inside, comes_new, comes_short, inside_was, merged_good, nearest, short_was}
 use Rattle.fib_follow_noted.proofs.Planned.{anew_in, anew_row, changed_is, merged, other_row}

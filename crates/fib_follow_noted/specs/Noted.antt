@@ -8,7 +8,7 @@ use Rattle.fib_follow_features.specs.Holders.{Holders, IsFound}
 use Rattle.fib_follow_features.specs.declared.feature.Feature.{Feature}
 use Rattle.fib_follow_write.specs.Plans.{IsWritten}
 use Rattle.fib_follow_write.specs.declared.writing.Plan.{Plan}
-use Rattle.fib_follow_noted.specs.declared.renoted.Renoted.{Renoted}
+use Rattle.fib_follow_noted.specs.declared.entry.Renoted.{Renoted}
 
 -- each of the list is found by all its new features
 abbrev pub AreFoundAll : List Renoted → List Holders → Type 0

@@ -5,10 +5,10 @@ ghost use Rattle.fib_entries_rows.specs.Known.{prefix_of};
 ghost use Rattle.fib_entries_rows.specs.inner.Compare.{AreKept};
 ghost use Rattle.fib_follow_features.specs.FoundBy.{cover_among, features_of, held_list};
 ghost use Rattle.fib_follow_noted.specs.inner.Telling.{AreAsked, AreHosts, AreSeen, Grows, IsAsked, IsNearest, IsOrder, IsSeen, IsUnder};
-ghost use Rattle.fib_follow_noted.specs.declared.renoted.Renoted.{Renoted as RenotedValue};
+ghost use Rattle.fib_follow_noted.specs.declared.entry.Renoted.{Renoted as RenotedValue};
 
 use crate::covers::{Covers, above, has_pairs};
-use crate::renoted::Renoted;
+use crate::entry::Renoted;
 use fib_addr::Prefix;
 use fib_entries_rows::Row;
 use fib_follow_features::{Feature, Features, features_under, row_features};
@@ -85,17 +85,24 @@ fn come_under(view: &View<'_>, q: Prefix) -> Option<Prefix>
     Some(above(view.before().order(), q))
 }
 
-/// The cover that entries inside the prefix of what was made anew can lose.
-fn lost_cover(view: &View<'_>, x: &Anew) -> Option<Prefix>
+/// The same inside a prefix shorter than 32 that was made anew: where it goes, that is the prefix itself.
+fn short_cover(view: &View<'_>, x: &Anew) -> Option<Prefix>
     ensures { (c : PrefixValue) → IsUnder view.now x.now c → result ≡ Some c }
 {
-    if x.prefix.len() >= 32 {
-        return None;
-    }
     if has_pairs(x) {
         return come_under(view, x.prefix);
     }
     Some(x.prefix)
+}
+
+/// The cover that entries inside the prefix of what was made anew can lose.
+fn lost_cover(view: &View<'_>, x: &Anew) -> Option<Prefix>
+    ensures { (c : PrefixValue) → IsUnder view.now x.now c → result ≡ Some c }
+{
+    if x.prefix.len() < 32 {
+        return short_cover(view, x);
+    }
+    None
 }
 
 /// The entries found by that cover, inside the prefix.

@@ -83,7 +83,7 @@ pub fn above(order: &PrefixSet, q: Prefix) -> Prefix
     // Read so that the proof knows that members are prefixes.
     let _count = order.len();
     match order.longest(q.bits(), q.len()) {
-        Some(c) => c,
+        Some(cover) => cover,
         None => Prefix::masked(Addr(0), 0),
     }
 }

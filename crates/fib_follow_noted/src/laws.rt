@@ -9,7 +9,7 @@ ghost use Rattle.fib_follow_features.specs.Holders.{Holders};
 ghost use Rattle.fib_follow_write.specs.Plans.{IsWritten};
 ghost use Rattle.fib_follow_write.specs.declared.writing.Plan.{Plan};
 ghost use Rattle.fib_follow_noted.specs.Noted.{AreFoundAll, AreFull, AreTold};
-ghost use Rattle.fib_follow_noted.specs.declared.renoted.Renoted.{Renoted};
+ghost use Rattle.fib_follow_noted.specs.declared.entry.Renoted.{Renoted};
 
 /// What was noted before a plan was written is noted of the rows written; and the list tells all features that these have.
 pub fn written_is_noted()

@@ -7,10 +7,12 @@
 
 mod asked;
 mod covers;
+mod entry;
+mod gather;
 pub mod laws;
 mod made;
 mod noting;
-mod renoted;
 
+pub use entry::Renoted;
+pub use gather::renoted;
 pub use noting::{forget_all, note_all};
-pub use renoted::{Renoted, renoted};

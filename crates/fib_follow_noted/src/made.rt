@@ -1,14 +1,12 @@
 // Those that were made anew, each with its features.
-ghost use Rattle.std.specs.Prelude.{◌≡◌, ◌++◌, ◌∷◌, [], List, Some, IfOk, OnOk, map};
+ghost use Rattle.std.specs.Prelude.{◌≡◌, ◌++◌, ◌∷◌, [], List, OnOk};
 ghost use Rattle.fib_addr.specs.Prefixes.{Prefix as PrefixValue};
-ghost use Rattle.fib_entries_rows.specs.Known.{prefix_of, row_of};
-ghost use Rattle.fib_entries_rows.specs.Rows.{Row as RowValue};
-ghost use Rattle.fib_follow_features.specs.FoundBy.{cover_among, pair_features, row_features};
+ghost use Rattle.fib_follow_features.specs.FoundBy.{cover_among, pair_features};
 ghost use Rattle.fib_follow_noted.specs.inner.Telling.{AreAnew, Grows, IsOrder};
-ghost use Rattle.fib_follow_noted.specs.declared.renoted.Renoted.{Renoted as RenotedValue};
+ghost use Rattle.fib_follow_noted.specs.declared.entry.Renoted.{Renoted as RenotedValue};
 
 use crate::covers::Covers;
-use crate::renoted::Renoted;
+use crate::entry::Renoted;
 use fib_addr::Prefix;
 use fib_follow_features::{Feature, pair_features, row_features};
 use fib_follow_view::{Anew, View};
@@ -20,8 +18,6 @@ fn features_before(
     view: &View<'_>,
     e: Prefix,
 ) -> Result<Vec<Feature>, AllocError>
-    ensures { IfOk result (λ v. (r : RowValue) → row_of view.now.before.rows e ≡ Some r
-        → v.items ≡ row_features view.now.before.lists (map prefix_of view.now.before.rows) r) }
 {
     let before = view.before();
     match before.row(e) {

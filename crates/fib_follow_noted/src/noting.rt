@@ -6,7 +6,7 @@ ghost use Rattle.fib_entries_rows.specs.Rows.{Row};
 ghost use Rattle.fib_follow_features.specs.FoundBy.{AreNoted};
 ghost use Rattle.fib_follow_noted.specs.Noted.{AreFoundAll, AreFull};
 
-use crate::renoted::Renoted;
+use crate::entry::Renoted;
 use fib_follow_features::Features;
 use std::alloc::AllocError;
 

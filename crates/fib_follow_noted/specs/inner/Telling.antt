@@ -13,7 +13,7 @@ use Rattle.fib_follow_view.specs.declared.view.Anew.{Anew}
 use Rattle.fib_follow_view.specs.inner.Told.{are_some}
 use Rattle.fib_follow_noted.specs.Noted.{IsListed}
 use Rattle.fib_follow_noted.specs.declared.covers.Covers.{Covers}
-use Rattle.fib_follow_noted.specs.declared.renoted.Renoted.{Renoted}
+use Rattle.fib_follow_noted.specs.declared.entry.Renoted.{Renoted}
 
 -- it has pairs, or it has none
 abbrev pub is_so : Bool → Anew → Bool

@@ -14,7 +14,7 @@ use Rattle.fib_follow_features.proofs.Noting.{noted_less, noted_written}
 use Rattle.fib_follow_write.specs.Plans.{IsWritten}
 use Rattle.fib_follow_write.specs.declared.writing.Plan.{Plan}
 use Rattle.fib_follow_noted.specs.Noted.{AreFoundAll, AreFull, AreTold}
-use Rattle.fib_follow_noted.specs.declared.renoted.Renoted.{Renoted}
+use Rattle.fib_follow_noted.specs.declared.entry.Renoted.{Renoted}
 
 -- nothing that is found goes
 abbrev pub Stays : List Holders → List Holders → Type 0

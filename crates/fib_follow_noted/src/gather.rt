@@ -12,30 +12,10 @@ ghost use Rattle.fib_follow_noted.specs.Noted.{AreTold};
 use crate::asked::add_all_asked;
 use crate::covers::Covers;
 use crate::made::add_changed;
-use fib_addr::Prefix;
-use fib_follow_features::{Feature, Features};
+use crate::entry::Renoted;
+use fib_follow_features::Features;
 use fib_follow_view::View;
 use std::alloc::{AllocError, Global};
-
-/// An entry with the features by which it was found, and those by which it will be.
-pub struct Renoted {
-    pub prefix: Prefix,
-    /// All features that its row has; none where it has no row.
-    pub old: Vec<Feature>,
-    /// All that its row will have; none where it will have no row.
-    pub new: Vec<Feature>,
-}
-
-// The prover follows what a drop does here, once, and not at every way out past an owner.
-impl Drop for Renoted {
-    fn drop(self) {
-        let Renoted {
-            prefix: _,
-            old: _,
-            new: _,
-        } = self;
-    }
-}
 
 /// The entries of which features can be others with a change: those that were made anew, and those found by a cover that goes, or by one
 /// below which another comes that contains them. An error means that memory ran out.
