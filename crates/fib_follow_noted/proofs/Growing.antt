@@ -127,7 +127,7 @@ pub row_grows : (v : Seen) (covers : Covers) (old new : List Renoted) (r : Row) 
 row_grows v covers old new r e at off y =
     let own = y.2 ∙ sym (row_there v.before.rows e r at).1 in (
       grows_one v covers old new y.0 y.1
-      (λ after h. inr (ap (is_changed v.changed) own ∙ off, r, ap (row_of v.before.rows) own ∙ at, y.3 after h)),
+          (λ after h. inr (ap (is_changed v.changed) own ∙ off, r, ap (row_of v.before.rows) own ∙ at, y.3 after h)),
       listed_one old new y.0 e y.1 own,
     )
 

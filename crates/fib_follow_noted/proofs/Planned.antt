@@ -126,9 +126,9 @@ module _ (v : Seen) (p : Part) (ranks : List ℕ) (bodies : List Body) (x : Edge
         let from = w.rows r c in
         let at = from.3.prefix ∙ renewed_prefix plan w.entries from.1 in
         let unmade : (e : Prefix) (y : Anew) → Contains v.changed y → y.prefix ≡ e → e ≡ r.prefix → ⊥
-            = λ e y k is own. false≢true (sym off ∙ changed_is v.changed y r.prefix k (is ∙ own)) in
+        = λ e y k is own. false≢true (sym off ∙ changed_is v.changed y r.prefix k (is ∙ own)) in
         let unpaired : Contains (map paired_prefix plan.paired) from.1.prefix → ⊥
-            = λ k. (let m = paired_made from.1.prefix k in unmade from.1.prefix m.0 m.1 m.2 (sym at)) in
+        = λ k. (let m = paired_made from.1.prefix k in unmade from.1.prefix m.0 m.1 m.2 (sym at)) in
         let there : Contains rows from.1 = elim from.2 [
           | inl there ↦ there
           | inr came ↦ (let m = came_made from.1.prefix came.0 in absurd (unmade from.1.prefix m.0 m.1 m.2 (sym at)))
@@ -138,7 +138,7 @@ module _ (v : Seen) (p : Part) (ranks : List ℕ) (bodies : List Body) (x : Edge
           there,
           sym at,
           ap (map (held_list later)) pairs ∙ same_lists lists later from.1.pairs
-          (λ q k. w.names from.1 q there k unpaired (λ g. from.0 (subst (Contains plan.gone) (sym at) g))),
+              (λ q k. w.names from.1 q there k unpaired (λ g. from.0 (subst (Contains plan.gone) (sym at) g))),
         )
 
     -- the prefixes of the rows

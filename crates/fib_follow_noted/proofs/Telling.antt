@@ -139,14 +139,13 @@ module _ (v : Seen) (covers : Covers) (sets : List Holders) (list : List Renoted
       listed (inr stays) =
           let q = cover_among after e in
           let m = (come q).0 (comes order covers after joins e one two fine host stays other) in
-          asked m.0 m.1 (cover_among order e) e
-          (
+          asked m.0 m.1 (cover_among order e) e (
             subst (λ z. z.len < 32) (sym m.2) (comes_short order covers after joins e one two fine host stays other),
             inr (
               m.3,
               subst (λ z. Contains order z → ⊥) (sym m.2) (comes_new order covers after joins e one two fine host stays other),
               subst (λ z. IsNearest order z (cover_among order e)) (sym m.2)
-              (nearest order covers after joins e one two fine host stays other),
+                  (nearest order covers after joins e one two fine host stays other),
             ),
           ) found
           (subst (λ z. is_inside z e ≡ true) (sym m.2) (comes_inside order covers after joins e one two fine host stays other)) b quiet at
@@ -165,7 +164,7 @@ module _ (v : Seen) (covers : Covers) (sets : List Holders) (list : List Renoted
           let e = b.0.prefix in
           let ls = map (held_list lists) b.0.pairs in
           let stayed : under_of e (cover_among after e) ls ≡ under_of e (cover_among order e) ls → HasStayed lists later order after rows r
-              = λ same. (b.0, b.1, b.2, b.3 ∙ same_under e (cover_among after e) (cover_among order e) ls same) in
+          = λ same. (b.0, b.1, b.2, b.3 ∙ same_under e (cover_among after e) (cover_among order e) ls same) in
           elim (under_cases e ls) [
             | inl none ↦ inr (stayed (none (cover_among after e) ∙ sym (none (cover_among order e))))
             | inr some ↦ elim (either (same_prefix (cover_among order e) (cover_among after e))) [

@@ -1,5 +1,5 @@
 // The hosts whose cover can be another.
-ghost use Rattle.std.specs.Prelude.{◌≡◌, ◌++◌, ◌∷◌, [], ⊥, List, Contains, Some, IfOk, OnOk, map};
+ghost use Rattle.std.specs.Prelude.{◌≡◌, ◌++◌, ◌∷◌, [], List, Contains, Some, IfOk, OnOk, map};
 ghost use Rattle.fib_addr.specs.Prefixes.{Prefix as PrefixValue};
 ghost use Rattle.fib_entries_rows.specs.Known.{prefix_of};
 ghost use Rattle.fib_entries_rows.specs.inner.Compare.{AreKept};

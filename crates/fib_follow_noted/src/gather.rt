@@ -11,8 +11,8 @@ ghost use Rattle.fib_follow_noted.specs.Noted.{AreTold};
 
 use crate::asked::add_all_asked;
 use crate::covers::Covers;
-use crate::made::add_changed;
 use crate::entry::Renoted;
+use crate::made::add_changed;
 use fib_follow_features::Features;
 use fib_follow_view::View;
 use std::alloc::{AllocError, Global};

@@ -13,12 +13,7 @@ use fib_follow_view::{Anew, View};
 use std::alloc::{AllocError, Global};
 
 /// By what the prefix was found; by nothing where it was no entry.
-fn features_before(
-    alloc: Global,
-    view: &View<'_>,
-    e: Prefix,
-) -> Result<Vec<Feature>, AllocError>
-{
+fn features_before(alloc: Global, view: &View<'_>, e: Prefix) -> Result<Vec<Feature>, AllocError> {
     let before = view.before();
     match before.row(e) {
         Some(row) => row_features(alloc, before.lists(), before.order(), row),

@@ -24,8 +24,8 @@ changed-preserved c =
     let grows = c.in_ok-add_asked.ensures.grows in (
       grows_more v covers c.args.out.now.items old new c.changed.invariant.0 grows,
       each_more (λ z l. IsAsked v c.args.features.now l z) xs c.changed.place x old new here c.changed.invariant.1
-      (λ z asked cover e under found inside r off at. listed_stays v covers old new e grows (asked cover e under found inside r off at))
-      c.in_ok-add_asked.ensures.asked,
+          (λ z asked cover e under found inside r off at. listed_stays v covers old new e grows (asked cover e under found inside r off at))
+          c.in_ok-add_asked.ensures.asked,
     )
 
 pub returns-clause-grows : goal.returns-clause-grows

@@ -23,7 +23,7 @@ hosts-preserved c =
     let grows = c.in_ok-push_host.ensures.grows in (
       grows_more v covers c.args.out.now.items old new c.hosts.invariant.0 grows,
       each_more (λ z l. IsSeen v l z) xs c.hosts.place e old new here c.hosts.invariant.1
-      (λ z seen r off at. listed_stays v covers old new z grows (seen r off at)) c.in_ok-push_host.ensures.seen,
+          (λ z seen r off at. listed_stays v covers old new z grows (seen r off at)) c.in_ok-push_host.ensures.seen,
     )
 
 pub returns-clause-grows : goal.returns-clause-grows

@@ -11,8 +11,8 @@ returns c =
       c.in_ok-push.ensures.items,
       own,
       λ after h. c.in_ok-new.ensures
-      ∙ ap₂ (λ cover l. features_of c.args.row.now.prefix cover (map (held_list l) c.args.row.now.pairs))
-      (c.cover-cover.ensures after (subst (λ l. IsMerged l c.args.covers.now after)
-      (sym (c.order.ensures.same ∙ ap (λ b. map prefix_of b.rows) c.before-before.ensures)) h)
-      ∙ ap (cover_among after) own) (c.lists-2.ensures ∙ ap (λ b. b.lists) c.before-before.ensures),
+          ∙ ap₂ (λ cover l. features_of c.args.row.now.prefix cover (map (held_list l) c.args.row.now.pairs))
+          (c.cover-cover.ensures after (subst (λ l. IsMerged l c.args.covers.now after)
+          (sym (c.order.ensures.same ∙ ap (λ b. map prefix_of b.rows) c.before-before.ensures)) h)
+          ∙ ap (cover_among after) own) (c.lists-2.ensures ∙ ap (λ b. b.lists) c.before-before.ensures),
     )

@@ -29,7 +29,7 @@ changed-preserved c =
     let grows = grows_one v covers old new y.0 y.1 (λ after h. inl (x, there, sym y.2, y.3 after h)) in (
       grows_more v covers c.args.out.now.items old new c.changed.invariant.0 grows,
       each_more (λ z l. IsListed l z.prefix) xs c.changed.place x old new here c.changed.invariant.1
-      (λ z l. listed_stays v covers old new z.prefix grows l) (listed_one old new y.0 x.prefix y.1 y.2),
+          (λ z l. listed_stays v covers old new z.prefix grows l) (listed_one old new y.0 x.prefix y.1 y.2),
     )
 
 pub returns-clause-grows : goal.returns-clause-grows
