@@ -23,7 +23,7 @@ use Rattle.fib_follow_noted.specs.declared.covers.Covers.{Covers}
 use Rattle.fib_follow_noted.specs.inner.Telling.{IsMerged, IsNearest}
 
 module _ (order : List Prefix) (covers : Covers) (after : List Prefix) (merged : IsMerged order covers after) where
-  left : List Prefix
+  abbrev left : List Prefix
   left = filter (is_beside covers.gone) order
 
   same_members : (q : Prefix) → Contains (left ++ covers.come) q ↔ Contains after q
@@ -76,7 +76,7 @@ nearest_none order q c good h m = elim h.member [
 -- where the cover becomes another, it goes, or a longer one comes below it
 module _ (order : List Prefix) (covers : Covers) (after : List Prefix) (merged : IsMerged order covers after) (e : Prefix)
     (one : ArePrefixes order) (two : ArePrefixes covers.come) (fine : IsPrefix e) (host : e.len ≡ 32) where
-  a : ℕ
+  abbrev a : ℕ
   a = e.bits
 
   small : a < 2 ^ 32
@@ -85,10 +85,10 @@ module _ (order : List Prefix) (covers : Covers) (after : List Prefix) (merged :
   good : ArePrefixes after
   good = merged_good order covers after merged one two
 
-  was : Prefix
+  abbrev was : Prefix
   was = cover_among order e
 
-  is : Prefix
+  abbrev is : Prefix
   is = cover_among after e
 
   long_was : IsLongest a (filter is_short order) was

@@ -56,10 +56,10 @@ same_lists lists later (q ∷ qs) same =
     (same_lists lists later qs (λ z c. same z (in_rest q z qs c)))
 
 module _ (v : Seen) (p : Part) (ranks : List ℕ) (bodies : List Body) (x : Edges) (good : IsPlan v.before.rows (plan_of v p ranks bodies x)) where
-  rows : List Row
+  abbrev rows : List Row
   rows = v.before.rows
 
-  plan : Plan
+  abbrev plan : Plan
   plan = plan_of v p ranks bodies x
 
   came_made : (e : Prefix) → Contains plan.came e → (y : Anew) × Contains v.changed y × (y.prefix ≡ e) × (are_some y.pairs ≡ true)

@@ -52,10 +52,7 @@ under_cases e ls = elim (either (list_any (λ l. is_by_cover l.0) ls)) [
   ]
 ]
 
--- all but what the cover tells
-rest_of : Prefix → List Listed → List Feature
-rest_of e ls = flat_map (path_features e) (chosen_list ls) ++ flat_map written_features ls
-
+-- the cover tells nothing but that
 same_under : (e c d : Prefix) (ls : List Listed) → under_of e c ls ≡ under_of e d ls → features_of e c ls ≡ features_of e d ls
 same_under e c d ls same =
     ap (λ o. flat_map (path_features e) (chosen_list ls) ++ flat_map written_features ls ++ option_to_list o) same
@@ -73,16 +70,16 @@ module _ (v : Seen) (covers : Covers) (sets : List Holders) (list : List Renoted
     (anew : AreAnew v.changed list) (asked : AreAsked v sets v.changed list)
     (noted : AreNoted v.before.lists (map prefix_of v.before.rows) v.before.rows sets) (p : Part) (ranks : List ℕ) (bodies : List Body)
     (x : Edges) (fits : IsPlan v.before.rows (plan_of v p ranks bodies x)) where
-  rows : List Row
+  abbrev rows : List Row
   rows = v.before.rows
 
-  order : List Prefix
+  abbrev order : List Prefix
   order = map prefix_of rows
 
-  lists : List PathKept
+  abbrev lists : List PathKept
   lists = v.before.lists
 
-  plan : Plan
+  abbrev plan : Plan
   plan = plan_of v p ranks bodies x
 
   module _ (new : List Row) (later : List PathKept) (after : List Prefix) (w : IsWritten plan rows new lists later after) where
@@ -116,7 +113,7 @@ module _ (v : Seen) (covers : Covers) (sets : List Holders) (list : List Renoted
     module _ (r b : Row) (c : Contains new r) (off : is_changed v.changed r.prefix ≡ false) (k : Contains rows b) (own : b.prefix ≡ r.prefix)
         (host : b.prefix.len ≡ 32) (found : IsFound sets (features.Under (cover_among order b.prefix)) b.prefix)
         (other : cover_among order b.prefix ≢ cover_among after b.prefix) where
-      e : Prefix
+      abbrev e : Prefix
       e = b.prefix
 
       fine : IsPrefix e
