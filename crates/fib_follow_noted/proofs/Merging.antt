@@ -5,7 +5,7 @@ use Rattle.std.proofs.lemmas.Bool.{false≢true, cases_lt, ltb-true}
 use Rattle.std.proofs.lemmas.Bool.Decides.{nat_tests}
 use Rattle.std.proofs.lemmas.List.Elements.{Contains-append_left, Contains-append_right, Contains-append_cases}
 use Rattle.fib_base_list.proofs.Booleans.{and_both}
-use Rattle.fib_base_interned.proofs.Finding.{some_is}
+use Rattle.fib_base_interned.proofs.Finding.{none_some, some_is}
 use Rattle.fib_base_list.proofs.Lists.{either}
 use Rattle.fib_addr.specs.Longest.{IsLongest, everything, longest}
 use Rattle.fib_addr.specs.Prefixes.{Prefix, IsPrefix, contains, same_prefix}
@@ -47,10 +47,13 @@ module _ (order : List Prefix) (covers : Covers) (after : List Prefix) (merged :
   pub merged_good : ArePrefixes order → ArePrefixes covers.come → ArePrefixes after
   merged_good one two q c = elim ((merged q).0 c) [ inl k ↦ one q k.0 | inr k ↦ two q k ]
 
+le_is : (m n : ℕ) → m ≤ n → nat_le m n ≡ true
+le_is m n le = grind (arith, nat_tests)
+
 -- one nearest
 pub nearest_is : (order : List Prefix) (q c : Prefix) → ArePrefixes order → q.len ≤ 32 → IsNearest order q c → (o : Option Prefix)
     → IsLongestMatch order q.len q.bits o → (p : Prefix) → o ≡ Some p → p ≡ c
-nearest_is order q c good le h None m p e = cc
+nearest_is order q c good le h None m p e = absurd (none_some p e)
 nearest_is order q c good le h (Some r) m p e =
     let match_of : (d : Prefix) → Contains order d → d ≡ c → IsMatch order q.len q.bits d = λ d k is. record {
       prefix = good d k;
@@ -117,7 +120,7 @@ module _ (order : List Prefix) (covers : Covers) (after : List Prefix) (merged :
 
   -- an entry lies inside a prefix that contains its address
   pub inside_of : (q : Prefix) → q.len < 32 → contains q a ≡ true → is_inside q e ≡ true
-  inside_of q lt holds = let le : q.len ≤ e.len = omega (arith, lt, host) in rw holds (grind (arith, nat_tests))
+  inside_of q lt holds = ap (λ b. b && nat_le q.len e.len) holds ∙ le_is q.len e.len (omega (arith, lt, host))
 
   pub inside_was : is_inside was e ≡ true
   inside_was = inside_of was (short_of_long order was long_was) long_was.matches
@@ -144,7 +147,10 @@ module _ (order : List Prefix) (covers : Covers) (after : List Prefix) (merged :
     apart same = other (one_match a was is fine_was fine_is long_was.matches long_is.matches same)
 
     above : was.len < is.len
-    above = omega (arith, up, apart)
+    above = elim (cases_lt was.len is.len) [
+      | inl lt ↦ lt
+      | inr ge ↦ absurd (apart (let le = up in omega (arith, le, ge)))
+    ]
 
     new : Contains order is → ⊥
     new c = (let le = long_was.longest is (filter_in is_short order is c (short_in is (short_of_long after is long_is))) long_is.matches

@@ -59,10 +59,9 @@ same_under e c d ls same =
 
 under_in : (e c : Prefix) (ls : List Listed) → under_of e c ls ≡ Some (features.Under c) → Contains (features_of e c ls) (features.Under c)
 under_in e c ls is =
-    Contains-append_right (flat_map (path_features e) (chosen_list ls)) (flat_map written_features ls ++ option_to_list (under_of e c ls))
+    Contains-append_right (flat_map (path_features e) (chosen_list ls) ++ flat_map written_features ls) (option_to_list (under_of e c ls))
     (features.Under c)
-    (Contains-append_right (flat_map written_features ls) (option_to_list (under_of e c ls)) (features.Under c)
-    (subst (λ o. Contains (option_to_list o) (features.Under c)) (sym is) (in_front (features.Under c) (features.Under c) [] refl)))
+    (subst (λ o. Contains (option_to_list o) (features.Under c)) (sym is) (in_front (features.Under c) (features.Under c) [] refl))
 
 module _ (v : Seen) (covers : Covers) (sets : List Holders) (list : List Renoted) (ordered : IsAscending (map prefix_of v.before.rows))
     (one : ArePrefixes (map prefix_of v.before.rows)) (two : ArePrefixes covers.come) (come : AreSo true v.changed covers.come)
