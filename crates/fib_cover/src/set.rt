@@ -7,7 +7,7 @@ ghost use Rattle.fib_cover.specs.Covers.{ArePrefixes, IsAscending, IsLongestMatc
 use fib_addr::{Addr, Prefix};
 use std::alloc::{AllocError, Global};
 use std::collections::BTreeSet;
-use std::collections::btree_set::Range;
+use std::collections::btree_set::{Iter, Range};
 use std::marker::Model;
 use std::ops::Bound;
 
@@ -141,6 +141,13 @@ impl PrefixSet {
             }
         }
         None
+    }
+
+    /// The members, in order, one after the other. Takes no memory.
+    pub fn iter(&self) -> Iter<'_, Prefix>
+        ensures { result ≡ self.now }
+    {
+        self.members.iter()
     }
 
     /// The members, in order.
