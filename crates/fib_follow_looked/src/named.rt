@@ -215,7 +215,7 @@ fn is_way(after: &Config, addr: Addr, prefix: Prefix) -> bool
         || leads_to(addr, after.paths_of(prefix, FibSource::Cli))
 }
 
-fn has_way(after: &Config, addr: Addr, among: &[Prefix]) -> bool
+fn has_way(after: &Config, addr: Addr, among: &PrefixSet) -> bool
     ensures { result ≡ list_any (is_way after.now.tables addr) among.now }
 {
     among.iter().any(|prefix| is_way(after, addr, *prefix))
@@ -223,7 +223,7 @@ fn has_way(after: &Config, addr: Addr, among: &[Prefix]) -> bool
 
 /// Whether the address is a next hop of a route after the changes, where `hops` are those of the named routes, and the prefixes of all
 /// other routes that have it as next hop are among those given, which may be more.
-pub fn is_hop_after(after: &Config, hops: &PrefixSet, addr: Addr, among: &[Prefix]) -> bool
+pub fn is_hop_after(after: &Config, hops: &PrefixSet, addr: Addr, among: &PrefixSet) -> bool
     ensures { (Contains hops.now (host addr) → Contains (all_hops after.now.tables) addr)
         → ((Contains hops.now (host addr) → ⊥) → HoldsWays after.now.tables addr among.now)
         → IsTrue result ↔ Contains (all_hops after.now.tables) addr }

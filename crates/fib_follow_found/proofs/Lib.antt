@@ -1,0 +1,4 @@
+pub mod Hosting
+pub mod Hopping
+pub mod Othering
+pub mod Ending
