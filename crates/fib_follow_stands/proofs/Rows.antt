@@ -46,7 +46,8 @@ use Rattle.fib_follow_write.specs.declared.plan.Sourced.{Sourced}
 use Rattle.fib_follow_write.specs.declared.writing.Plan.{Plan}
 use Rattle.fib_follow_plan.specs.Made.{has_pairs, marks_of, paired_of, plan_of}
 use Rattle.fib_reach.specs.Walks.{AllDiffer}
-use Rattle.fib_follow_stands.specs.Stands.{IsWorkedOut, IsWritten}
+use Rattle.fib_follow_write.specs.Plans.{IsWritten}
+use Rattle.fib_follow_stands.specs.Stands.{IsWorkedOut}
 use Rattle.fib_follow_stands.proofs.Leading.{dependants_are, dependants_once}
 use Rattle.fib_follow_stands.proofs.Marking.{body_at, marked_off, marked_own}
 use Rattle.fib_follow_stands.proofs.Pairing.{kept_pairs, led_name, made_pairs, row_paired, row_unpaired}

@@ -14,9 +14,9 @@ ghost use Rattle.fib_follow_part.specs.Parts.{Part};
 ghost use Rattle.fib_follow_told.specs.Told.{AreMovedBy, rank_left};
 ghost use Rattle.fib_follow_told.specs.declared.body.Body.{Body};
 ghost use Rattle.fib_follow_told.specs.declared.edges.Edges.{Edges};
-ghost use Rattle.fib_follow_write.specs.Plans.{IsPlan};
+ghost use Rattle.fib_follow_write.specs.Plans.{IsPlan, IsWritten};
 ghost use Rattle.fib_follow_plan.specs.Made.{plan_of};
-ghost use Rattle.fib_follow_stands.specs.Stands.{IsWorkedOut, IsWritten};
+ghost use Rattle.fib_follow_stands.specs.Stands.{IsWorkedOut};
 
 /// What a plan writes stands for the tables after, where all of which it is made was worked out for these, and the size is theirs. What is
 /// told as moved is what the rows say.
