@@ -38,7 +38,7 @@ use Rattle.fib_follow_part.proofs.Parting.{among, member_of}
 use Rattle.fib_follow_told.specs.Told.{AreMovedBy, rank_left}
 use Rattle.fib_follow_told.specs.declared.body.Body.{Body}
 use Rattle.fib_follow_told.specs.declared.edges.Edges.{Edges}
-use Rattle.fib_follow_write.specs.Plans.{IsBase, IsPlan, renewed}
+use Rattle.fib_follow_write.specs.Plans.{IsBase, IsPlan, IsWritten, renewed}
 use Rattle.fib_follow_write.specs.Written.{IsUnled, changed, led, leads, paired_prefix, sourced, with_marks}
 use Rattle.fib_follow_write.specs.declared.plan.Edge.{Edge}
 use Rattle.fib_follow_write.specs.declared.plan.Marks.{Marks}
@@ -46,7 +46,7 @@ use Rattle.fib_follow_write.specs.declared.plan.Sourced.{Sourced}
 use Rattle.fib_follow_write.specs.declared.writing.Plan.{Plan}
 use Rattle.fib_follow_plan.specs.Made.{has_pairs, marks_of, paired_of, plan_of}
 use Rattle.fib_reach.specs.Walks.{AllDiffer}
-use Rattle.fib_follow_write.specs.Plans.{IsWritten}
+
 use Rattle.fib_follow_stands.specs.Stands.{IsWorkedOut}
 use Rattle.fib_follow_stands.proofs.Leading.{dependants_are, dependants_once}
 use Rattle.fib_follow_stands.proofs.Marking.{body_at, marked_off, marked_own}
