@@ -1,4 +1,4 @@
--- When the size stays: the same entries and Hop ends, as where a leaf's list is replaced by another and its Hop ends are those of other entries too.
+-- When plies are the same: those of the same entries.
 use Rattle.std.proofs.Common.{◌≡◌, ◌≢◌, ℕ, Bool, true, false, ◌==◌, List, ◌∷◌, length, inl, inr, sym, ◌∙◌, ap, ◌↔◌}
 use Rattle.std.specs.Prelude.{Contains, flat_map}
 use Rattle.std.specs.Set.{is_member, unique_keys}

@@ -1,5 +1,6 @@
 // The entries with an edge to one, found without a search.
 ghost use Rattle.std.specs.Prelude.{◌≡◌, ◌-◌, ◌++◌, ◌∷◌, [], false, length, take, IfOk, OnOk, OnErr};
+ghost use Rattle.std.specs.List.{position};
 ghost use Rattle.std.specs.Set.{is_member};
 ghost use Rattle.fib_addr.specs.Prefixes.{same_prefix};
 ghost use Rattle.fib_reach.specs.Walks.{AllDiffer};
@@ -65,6 +66,13 @@ impl Dependants {
         ensures { result ≡ is_member same_prefix self.now p }
     {
         self.held.contains(&p)
+    }
+
+    /// The place of the prefix in their order.
+    pub fn place(&self, p: Prefix) -> Option<usize>
+        ensures { result ≡ position (same_prefix p) self.now }
+    {
+        self.held.get_index_of(&p)
     }
 
     /// The prefix becomes the last.

@@ -13,18 +13,18 @@ use Rattle.fib_base_interned.proofs.Finding.{each_at, none_some}
 use Rattle.fib_addr.specs.Prefixes.{Prefix, host, same_prefix}
 use Rattle.fib_addr.proofs.PrefixLaws.{same_fields, same_prefix-Decides}
 use Rattle.fib_cover.specs.Covers.{IsAscending, prefix_cmp}
-use Rattle.fib_resolve.specs.Pairs.{base_pairs, entries, pairs}
+use Rattle.fib_resolve.specs.Pairs.{attached_by, base_pairs, entries, pairs}
 use Rattle.fib_resolve.specs.Tables.{IsSound}
 use Rattle.fib_resolve.specs.declared.pairs.Pair.{Pair}
 use Rattle.fib_resolve.specs.declared.types.Tables.{Tables}
 use Rattle.fib_resolve_changes.specs.Looked.{AreAddresses, AreLooked, attached_at}
 use Rattle.fib_resolve_changes.specs.Ranks.{has_entry}
-use Rattle.fib_resolve_changes.specs.Sources.{SameEntry, all_hops}
+use Rattle.fib_resolve_changes.specs.Sources.{HasNeighbor, SameEntry, all_hops}
 use Rattle.fib_resolve_changes.specs.declared.change.Change.{Change}
 use Rattle.fib_resolve_changes.proofs.Caught.{looks_catch}
 use Rattle.fib_resolve_changes.proofs.Edits.{in_cases, in_front, in_rest, clash}
 use Rattle.fib_resolve_changes.proofs.SamePairs.{map_from}
-use Rattle.fib_resolve_changes.proofs.Targets.{hop_entry, pair_entry}
+use Rattle.fib_resolve_changes.proofs.Targets.{hop_entry, near_entry, pair_entry}
 use Rattle.fib_entries_rows.specs.Known.{Known, prefix_of}
 use Rattle.fib_follow_view.specs.Views.{IsAfter, IsMade, anew_prefix, is_changed}
 use Rattle.fib_follow_view.specs.declared.view.Anew.{Anew}
@@ -192,11 +192,16 @@ module _ (S T : Tables) where
 
 -- each entry beside is the same
 module _ (v : Known) (list : List Change) (S T : Tables) (h : IsBefore v list S T) where
-  hosts_small : (a : ℕ) → Contains (all_hops S) a → a < 2 ^ 32
-  hosts_small a c =
-      let there = Contains-from_any (λ x y. (same_prefix-Decides x y).0) (host a) (entries S) (hop_entry S a c) in
+  entry_small : (a : ℕ) → Contains (entries S) (host a) → a < 2 ^ 32
+  entry_small a there =
       let r = map_from prefix_of v.rows (host a) ((h.stands.entries (host a)).1 there) in
       subst (λ z. z.bits < 2 ^ 32) r.2 (h.stands.rows r.0 r.1).prefix.fits
+
+  hosts_small : (a : ℕ) → Contains (all_hops S) a → a < 2 ^ 32
+  hosts_small a c = entry_small a (Contains-from_any (λ x y. (same_prefix-Decides x y).0) (host a) (entries S) (hop_entry S a c))
+
+  near_small : (i a : ℕ) → HasNeighbor S i a → attached_by S a ≡ Some i → a < 2 ^ 32
+  near_small i a near at = entry_small a (near_entry S i a near at)
 
   pub are_after : (shorts : Shorts) (looked : List Prefix) (changed : List Anew) → IsSound T → AreShorts S T shorts → AreAllLooked list S T looked
       → AreFound S T looked changed → IsAfter (record { before = v; changed = changed }) S T
@@ -211,7 +216,7 @@ module _ (v : Known) (list : List Change) (S T : Tables) (h : IsBefore v list S 
         came = all.came;
         went = all.went;
       } in
-      let addresses : AreAddresses S = record { hops = hosts_small; near = h.near } in
+      let addresses : AreAddresses S T = record { hops = hosts_small; near = near_small; near_after = h.near short.good } in
       record {
         stands = h.stands;
         sound = sound;

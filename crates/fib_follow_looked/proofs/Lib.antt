@@ -7,3 +7,4 @@ pub mod Asking
 pub mod Nearing
 pub mod Catching
 pub mod Finding
+pub mod Near

@@ -4,7 +4,7 @@ use Rattle.std.specs.List.{list_any}
 use Rattle.std.specs.Set.{is_member}
 use Rattle.fib_addr.specs.Prefixes.{Prefix, host, contains, same_prefix}
 use Rattle.fib_cover.specs.Covers as covers
-use Rattle.fib_resolve.specs.Pairs.{cover, short_prefixes}
+use Rattle.fib_resolve.specs.Pairs.{attached_by, cover, short_prefixes}
 use Rattle.fib_resolve.specs.declared.types.Tables.{Tables}
 use Rattle.fib_resolve_changes.specs.Affected.{has_hop}
 use Rattle.fib_resolve_changes.specs.Differ.{Differ}
@@ -22,11 +22,16 @@ use Rattle.fib_follow_looked.specs.declared.shorts.Turn.{Turn}
 use Rattle.fib_follow_looked.specs.declared.shorts.Turn.TheVariants as turns
 use Rattle.fib_follow_looked.specs.declared.shorts.Turned.{Turned}
 
--- the entries stand for the tables before, whose neighbors have addresses, and from which those after differ at most where the changes say
+-- a neighbor on the interface to which its cover attaches it is an address
+abbrev pub AreNear : Tables → Type 0
+AreNear T = ArePrefixes T → (i a : ℕ) → HasNeighbor T i a → attached_by T a ≡ Some i → a < 2 ^ 32
+
+-- the entries stand for the tables before, from which those after differ at most where the changes say; and neighbors that count
+-- afterwards are addresses
 pub record IsBefore (v : Known) (list : List Change) (S T : Tables) : Type 0 where
   pub stands : StandsFor v S
   pub differ : Differ list S T
-  pub near : (i a : ℕ) → HasNeighbor S i a → a < 2 ^ 32
+  pub near : AreNear T
 
 -- an address that comes or goes has a length of at most 32
 abbrev pub IsShortChange : Change → Type 0

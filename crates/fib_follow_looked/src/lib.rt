@@ -2,7 +2,8 @@
 //!
 //! `Named` is what the changes name, `Shorts` which of the prefixes that can cover turn and what covers afterwards, `asks` whose hosts are
 //! to be found beside, `looked` all that are looked at, and `changed` those of them that are others, as they are afterwards: of these
-//! `IsAfter` of `fib_follow_view` holds. `specs/Looks.antt` says what that is; `specs/inner` only carries proofs.
+//! `IsAfter` of `fib_follow_view` holds. `are_short` and `see_neighbors` give what these rest on. `specs/Looks.antt` says what that is;
+//! `specs/inner` only carries proofs.
 #![tactic(auto)]
 
 mod ask;
@@ -10,6 +11,7 @@ mod host;
 mod look;
 mod named;
 mod other;
+mod plain;
 mod sets;
 mod shorts;
 
@@ -17,4 +19,5 @@ pub use ask::{Ask, asks};
 pub use look::looked;
 pub use named::{Named, is_hop_after};
 pub use other::{Around, changed};
+pub use plain::{are_short, see_neighbors};
 pub use shorts::{Shorts, Turn, Turned, longer, longest_beside};

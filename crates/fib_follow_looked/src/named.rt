@@ -215,10 +215,16 @@ fn is_way(after: &Config, addr: Addr, prefix: Prefix) -> bool
         || leads_to(addr, after.paths_of(prefix, FibSource::Cli))
 }
 
+/// Whether a route of one of the prefixes has the address as next hop: the first that has it ends the search.
 fn has_way(after: &Config, addr: Addr, among: &PrefixSet) -> bool
     ensures { result ≡ list_any (is_way after.now.tables addr) among.now }
 {
-    among.iter().any(|prefix| is_way(after, addr, *prefix))
+    'among: for prefix in among.iter() {
+        if is_way(after, addr, *prefix) {
+            return true;
+        }
+    }
+    false
 }
 
 /// Whether the address is a next hop of a route after the changes, where `hops` are those of the named routes, and the prefixes of all

@@ -1,5 +1,5 @@
 -- What one change names, by rows and tables. No contract of a public call rests on this.
-use Rattle.std.specs.Prelude.{ℕ, ◌||◌, Bool, false, List, [], ◌∷◌, Option, Some, None, if◌then◌else◌}
+use Rattle.std.specs.Prelude.{ℕ, ◌||◌, Bool, true, false, nat_le, List, [], ◌∷◌, Option, Some, None, if◌then◌else◌}
 use Rattle.std.specs.List.{list_any}
 use Rattle.fib_addr.specs.Prefixes.{Prefix, host, same_prefix}
 use Rattle.fib_resolve.specs.Edits.{paths_at}
@@ -41,6 +41,12 @@ names v T (changes.Flag i) q = false
 names v T (changes.Address a) q = is_own a q
 names v T (changes.Neighbor i a) q = same_prefix q (host a)
 names v T (changes.Route p s) q = same_prefix q p || (are_hops (old_paths v p s) q || are_hops (paths_at p s T.routes) q)
+
+abbrev pub is_short_change : Change → Bool
+is_short_change (changes.Address a) = nat_le a.len 32
+is_short_change (changes.Flag i) = true
+is_short_change (changes.Neighbor i a) = true
+is_short_change (changes.Route p s) = true
 
 -- the host of a next hop that the named route has
 abbrev pub leads : Tables → Change → Prefix → Bool
