@@ -65,23 +65,12 @@ impl Drop for Looked {
 }
 
 /// What is to be written of a change, what is told of it, which features are noted, and the size of the tables after it.
+#[derive(Drop)]
 pub struct Planned {
     pub plan: Plan,
     pub followed: Followed,
     pub renoted: Vec<Renoted>,
     pub objects: u32,
-}
-
-// The prover follows what a drop does here, once, and not at every way out past an owner.
-impl Drop for Planned {
-    fn drop(self) {
-        let Planned {
-            plan: _,
-            followed: _,
-            renoted: _,
-            objects: _,
-        } = self;
-    }
 }
 
 /// The same entries before the change.
