@@ -5,6 +5,6 @@
 #![tactic(auto)]
 
 mod lists;
-mod plan;
+mod made;
 
-pub use plan::plan;
+pub use made::plan;
