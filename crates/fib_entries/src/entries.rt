@@ -17,11 +17,11 @@ use fib_addr::{Addr, Prefix};
 use fib_base_blocks::Blocks;
 use fib_cover::PrefixSet;
 use fib_entries_rows::build::take_all;
-use fib_entries_rows::index::Index;
 use fib_entries_rows::look::row;
 use fib_entries_rows::rows::Row;
 use fib_entries_rows::sizes::size_of;
 use fib_entries_rows::whole;
+use fib_follow_features::Features;
 use fib_paths::{PathListId, PathLists};
 use fib_resolve::{FibSource, Marked, Path, Tables};
 use fib_resolve_pairs::Meaning;
@@ -34,7 +34,8 @@ pub struct Entries {
     pub(crate) rows: Blocks<Row>,
     pub(crate) lists: PathLists,
     pub(crate) order: PrefixSet,
-    pub(crate) index: Index,
+    /// By what entries are found.
+    pub(crate) features: Features,
     pub(crate) objects: u32,
     pub(crate) alloc: Global,
 }
@@ -46,7 +47,7 @@ impl Drop for Entries {
             rows: _,
             lists: _,
             order: _,
-            index: _,
+            features: _,
             objects: _,
             alloc: _,
         } = self;
@@ -60,9 +61,9 @@ impl Model for Entries {
 
     ghost view = { λ s. record { rows = s.rows; lists = s.lists; objects = s.objects } };
 
-    ghost use Rattle.fib_entries_rows.specs.inner.Fields.{AreFields};
+    ghost use Rattle.fib_entries.specs.inner.Kept.{AreKept};
 
-    ghost invariant = { λ s. AreFields s.rows s.lists s.order s.index };
+    ghost invariant = { λ s. AreKept s.rows s.lists s.order s.features };
 }
 
 impl Entries {
@@ -86,14 +87,14 @@ impl Entries {
         let _count = lists.count();
         let made = whole::rows_anew(alloc, &meaning, &lists, ids.as_slice(), listed.as_slice())?;
         let rows = Blocks::of(alloc, made)?;
-        let index = Index::of(alloc, &rows)?;
         let objects = size_of(alloc, &meaning, listed.as_slice())?;
         let order = meaning.into_entries();
+        let features = Features::of(alloc, &lists, &order, &rows)?;
         Ok(Entries {
             rows,
             lists,
             order,
-            index,
+            features,
             objects,
             alloc,
         })

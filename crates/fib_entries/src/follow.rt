@@ -1,177 +1,33 @@
-// Entries that follow a change of the tables.
-ghost use Rattle.std.specs.Prelude.{◌≡◌, ◌++◌, ◌∷◌, [], IfSome, IfNone, IfOk, IfErr, OnOk, OnErr, Some};
-ghost use Rattle.std.specs.Prelude.{◌<◌, ◌-◌, ◌==◌, ◌^◌, map, flat_map, filter, min, if◌then◌else◌};
+// Entries that follow changes of the tables.
+ghost use Rattle.std.specs.Prelude.{◌≡◌, ◌<◌, ◌≤◌, ◌-◌, ◌^◌, ℕ, map, IfErr, IfOk, IfSome, OnErr, OnOk};
 ghost use Rattle.fib_resolve.specs.Sizes.{size};
-ghost use Rattle.fib_resolve.specs.Tables.{IsSound};
-ghost use Rattle.fib_resolve.specs.Touched.{is_touched};
 ghost use Rattle.fib_resolve.specs.declared.types.Tables.{Tables as TablesValue};
-ghost use Rattle.fib_resolve_changes.specs.Differ.{Differ};
-ghost use Rattle.fib_resolve_changes.specs.declared.change.Change.TheVariants as change_kinds;
-ghost use Rattle.fib_entries_rows.specs.Known.{StandsFor, prefix_of, row_of, rank_of};
-ghost use Rattle.fib_entries_rows.specs.inner.Compare.{AreKept, is_new, moved_one, moved_new};
-ghost use Rattle.fib_entries_rows.specs.Changes.{AreTouched, AreMoved, FromBefore, IsTooMany, IsFollowed};
+ghost use Rattle.fib_entries_rows.specs.Changes.{FromBefore, IsFollowed, IsTooMany};
+ghost use Rattle.fib_entries_rows.specs.Known.{prefix_of};
+ghost use Rattle.fib_follow_write.specs.Plans.{IsPlan};
+ghost use Rattle.fib_follow_noted.specs.Noted.{AreTold};
+ghost use Rattle.fib_entries.specs.inner.Planned.{HasWritten, IsFrom, IsPlanned};
 
 use crate::entries::Entries;
-use fib_addr::{Addr, Prefix};
-use fib_base_list::List;
+use crate::steps::{Course, Planned, plan_for};
 use fib_config::Config;
-use fib_entries_rows::changes::{FollowError, Followed, Moved, Touched};
-use fib_entries_rows::compare::are_alike;
-use fib_entries_rows::rows::Row;
-use fib_resolve::{FibSource, Tables};
+use fib_entries_rows::changes::{FollowError, Followed};
+use fib_follow_looked::are_short;
+use fib_follow_noted::{Renoted, forget_all, note_all};
+use fib_follow_view::Before;
+use fib_follow_write::{Plan, write};
 use fib_resolve_changes::Change;
-use std::alloc::{AllocError, Global};
-
-/// What a change does to prefixes.
-#[derive(Drop)]
-struct Differences {
-    /// Those that it touches.
-    touched: List<Prefix>,
-    /// Those that have another rank, each with the rank that it had.
-    moved: List<Moved>,
-}
-
-/// Appends the prefix where it is touched, and where it has another rank.
-fn note(
-    out: &mut Differences,
-    prefix: Prefix,
-    is_touched: bool,
-    rank: u32,
-    rank_after: u32,
-) -> Result<(), AllocError>
-    ensures touched { OnOk result (out.new.touched ≡ (if is_touched then out.old.touched ++ prefix ∷ [] else out.old.touched)) }
-    ensures moved { OnOk result (out.new.moved ≡ out.old.moved
-        ++ (if rank == rank_after then [] else record { prefix = prefix; rank = rank } ∷ [])) }
-{
-    if is_touched {
-        out.touched.push(prefix)?;
-    }
-    if rank != rank_after {
-        out.moved.push(Moved { prefix, rank })?;
-    }
-    Ok(())
-}
-
-/// Whether the change touches the prefix of a row of before, and the prefix's rank after it.
-fn look_after(before: &Entries, after: &Entries, r: &Row) -> (bool, u32)
-    requires row { row_of before.now.rows r.now.prefix ≡ Some r.now }
-    requires held { AreKept before.now.lists r.now.pairs }
-    ensures touched { (S T : TablesValue) → StandsFor before.now S → StandsFor after.now T → result.0 ≡ is_touched S T r.now.prefix }
-    ensures rank { result.1 ≡ rank_of after.now.rows r.now.prefix }
-{
-    match after.row_of(r.prefix) {
-        Some(s) => (!are_alike(before.lists(), r, after.lists(), s), s.rank()),
-        None => (true, 0),
-    }
-}
-
-/// Appends what the change does to an entry of before.
-fn add_old(
-    out: &mut Differences,
-    before: &Entries,
-    after: &Entries,
-    r: &Row,
-) -> Result<(), AllocError>
-    requires row { row_of before.now.rows r.now.prefix ≡ Some r.now }
-    requires held { AreKept before.now.lists r.now.pairs }
-    ensures touched { OnOk result ((S T : TablesValue) → StandsFor before.now S → StandsFor after.now T →
-        out.new.touched ≡ (if is_touched S T r.now.prefix then out.old.touched ++ r.now.prefix ∷ [] else out.old.touched)) }
-    ensures moved { OnOk result (out.new.moved ≡ out.old.moved ++ moved_one before.now.rows after.now.rows r.now.prefix) }
-{
-    let (is_touched, rank_after) = look_after(before, after, r);
-    note(out, r.prefix, is_touched, r.rank(), rank_after)
-}
-
-/// Appends what the change does to an entry of after, where it was none before.
-fn add_new(
-    out: &mut Differences,
-    before: &Entries,
-    after: &Entries,
-    s: &Row,
-) -> Result<(), AllocError>
-    requires { row_of after.now.rows s.now.prefix ≡ Some s.now }
-    ensures touched { OnOk result ((S T : TablesValue) → StandsFor before.now S → StandsFor after.now T →
-        out.new.touched ≡ (if is_new before.now.rows S T s.now.prefix then out.old.touched ++ s.now.prefix ∷ [] else out.old.touched)) }
-    ensures moved { OnOk result (out.new.moved ≡ out.old.moved ++ moved_new before.now.rows after.now.rows s.now.prefix) }
-{
-    // Only clauses name the entries after.
-    let _rows = after;
-    match before.row_of(s.prefix) {
-        Some(_) => Ok(()),
-        None => note(out, s.prefix, true, 0, s.rank()),
-    }
-}
-
-/// What the change does to the entries of before.
-fn compared_before(
-    alloc: Global,
-    before: &Entries,
-    after: &Entries,
-) -> Result<Differences, AllocError>
-    ensures touched { IfOk result (λ d. (S T : TablesValue) → StandsFor before.now S → StandsFor after.now T →
-        d.touched ≡ filter (is_touched S T) (map prefix_of before.now.rows)) }
-    ensures moved { IfOk result (λ d. d.moved ≡ flat_map (moved_one before.now.rows after.now.rows) (map prefix_of before.now.rows)) }
-{
-    let mut out = Differences {
-        touched: List::new(alloc),
-        moved: List::new(alloc),
-    };
-    for place in 0..before.len() {
-        add_old(&mut out, before, after, before.row_at(place))?;
-    }
-    Ok(out)
-}
-
-/// Appends what the change does to the prefixes that are entries after it alone.
-fn add_all_new(out: &mut Differences, before: &Entries, after: &Entries) -> Result<(), AllocError>
-    ensures touched { OnOk result ((S T : TablesValue) → StandsFor before.now S → StandsFor after.now T →
-        out.new.touched ≡ out.old.touched ++ filter (is_new before.now.rows S T) (map prefix_of after.now.rows)) }
-    ensures moved { OnOk result (out.new.moved ≡ out.old.moved
-        ++ flat_map (moved_new before.now.rows after.now.rows) (map prefix_of after.now.rows)) }
-{
-    for place in 0..after.len() {
-        add_new(out, before, after, after.row_at(place))?;
-    }
-    Ok(())
-}
-
-/// What the change does: each row of one is looked up once in the other.
-fn compared(alloc: Global, before: &Entries, after: &Entries) -> Result<Differences, AllocError>
-    ensures touched { IfOk result (λ d. (S T : TablesValue) → StandsFor before.now S → StandsFor after.now T →
-        AreTouched S T d.touched) }
-    ensures moved { IfOk result (λ d. (S T : TablesValue) → StandsFor before.now S → StandsFor after.now T →
-        AreMoved before.now.rows after.now.rows d.moved) }
-{
-    let mut out = compared_before(alloc, before, after)?;
-    add_all_new(&mut out, before, after)?;
-    Ok(out)
-}
+use std::alloc::AllocError;
 
 impl Entries {
-    /// Makes the entries stand for the tables after a change, and answers which prefixes it touches. After want of memory all is as
-    /// before.
-    ///
-    /// The tables before are those for which the entries stand; `follow_changes` needs none.
-    pub fn follow(&mut self, before: &Tables, after: &Tables) -> Result<Touched, AllocError>
-        requires stands { StandsFor self.old before.now }
-        requires after { IsSound after.now }
-        ensures stands { OnOk result (StandsFor self.new after.now) }
-        ensures touched { IfOk result (λ list. AreTouched before.now after.now list) }
-        ensures err { OnErr result (self.new ≡ self.old) }
-    {
-        // Only clauses name the tables before.
-        let _before = before;
-        let made = Entries::of(self.allocator(), after)?;
-        let found = compared(self.allocator(), self, &made)?;
-        *self = made;
-        Ok(Touched::of(found.touched))
-    }
-
     /// Makes the entries stand for the tables after changes, and answers which prefixes the changes touch and which have another rank.
     /// After a fault all is as before.
     ///
     /// It asks for no tables of before, but that they differ from those after at most where the changes say. `TooMany` comes exactly
     /// where the tables are larger than `most` objects, and tells their size.
+    ///
+    /// What the changes reach is made anew and written. All entries are made anew only where the size before isn't told exactly, where a
+    /// rank would fall below 0, or where an address that is named has a length above 32, which no edit brings.
     pub fn follow_changes(
         &mut self,
         after: &Config,
@@ -185,145 +41,80 @@ impl Entries {
             (λ _. IsTooMany (size after.now.tables) most e)) }
         ensures err { OnErr result (self.new ≡ self.old) }
     {
-        match self.follow_one(after, changes, most)? {
-            Some(followed) => Ok(followed),
-            None => self.follow_fitting(after, changes, most),
-        }
-    }
-
-    /// The same where no row is written. The entries aren't made anew where the rows tell that the tables are too large.
-    fn follow_fitting(
-        &mut self,
-        after: &Config,
-        changes: &[Change],
-        most: u32,
-    ) -> Result<Followed, FollowError>
-        requires { most < 2 ^ 32 - 1 }
-        ensures followed { IfOk result (λ f. FromBefore self.old changes.now after.now.tables
-            (λ S. IsFollowed self.old self.new S after.now.tables most f)) }
-        ensures too_many { IfErr result (λ e. FromBefore self.old changes.now after.now.tables
-            (λ _. IsTooMany (size after.now.tables) most e)) }
-        ensures err { OnErr result (self.new ≡ self.old) }
-    {
-        match self.too_many(after, changes, most)? {
-            Some(size) => Err(FollowError::TooMany(size)),
+        match self.planned(after, changes, most)? {
+            Some(planned) => self.carry_out(after, changes, planned),
             None => self.follow_anew(after, changes, most),
         }
     }
 
-    /// The size of the tables, where a change alone made it greater than the most that is allowed, and the rows tell so.
-    fn too_many(
+    /// What is to be written of the changes; None where the entries have to be made anew.
+    fn planned(
         &self,
         after: &Config,
         changes: &[Change],
         most: u32,
-    ) -> Result<Option<u32>, AllocError>
-        ensures { IfOk result (λ o. IfSome o (λ n. (S : TablesValue) → StandsFor self.now S →
-            Differ changes.now S after.now.tables → (most < size after.now.tables) × (n ≡ min (size after.now.tables) (2 ^ 32 - 1)))) }
+    ) -> Result<Option<Planned>, FollowError>
+        requires { most < 2 ^ 32 - 1 }
+        ensures planned { IfOk result (λ o. IfSome o (IsPlanned self.now changes.now after.now.tables)) }
+        ensures fits { IfOk result (λ o. IfSome o (λ x. x.objects ≤ most)) }
+        ensures too_many { IfErr result (λ e. (S : TablesValue) → IsFrom self.now changes.now S after.now.tables
+            → IsTooMany (size after.now.tables) most e) }
     {
-        match changes {
-            [Change::Route { prefix, source }] => {
-                let new = after.paths_of(*prefix, *source);
-                self.too_many_with(after.tables(), *prefix, *source, new, most)
-            }
-            _ => Ok(None),
+        if self.objects == u32::MAX || !are_short(changes) {
+            return Ok(None);
         }
+        let course = Course {
+            before: Before::new(&self.rows, &self.lists, &self.order, self.objects),
+            features: &self.features,
+            after,
+            changes,
+        };
+        plan_for(self.alloc, &course, most)
     }
 
-    /// Follows a change alone in the rows that it touches, where they tell which those are; None where they don't. After want of memory all is
-    /// as before.
-    fn follow_one(
+    /// Writes the plan. What has other features is found by them too before it is written, and by them alone afterwards.
+    fn write_noted(&mut self, plan: Plan, renoted: &[Renoted]) -> Result<(), AllocError>
+        requires plan { IsPlan self.old.rows plan }
+        requires noted { AreTold self.old.rows self.old.lists (map prefix_of self.old.rows) plan renoted.now }
+        ensures ok { OnOk result (HasWritten plan self.old self.new) }
+        ensures err { OnErr result (self.new ≡ self.old) }
+    {
+        note_all(&mut self.features, renoted)?;
+        write(
+            self.alloc,
+            &mut self.rows,
+            &mut self.lists,
+            &mut self.order,
+            plan,
+        )?;
+        forget_all(&mut self.features, renoted);
+        Ok(())
+    }
+
+    /// Writes what was planned.
+    fn carry_out(
         &mut self,
         after: &Config,
         changes: &[Change],
-        most: u32,
-    ) -> Result<Option<Followed>, AllocError>
-        requires { most < 2 ^ 32 - 1 }
-        ensures followed { IfOk result (λ o. IfSome o (λ f. (S : TablesValue) → StandsFor self.old S →
-            Differ changes.now S after.now.tables → IsFollowed self.old self.new S after.now.tables most f)) }
-        ensures none { IfOk result (λ o. IfNone o (self.new ≡ self.old)) }
-        ensures err { OnErr result (self.new ≡ self.old) }
-    {
-        match changes {
-            [Change::Route { prefix, source }] => {
-                self.follow_route(after, *prefix, *source, most)
-            }
-            [Change::Neighbor { interface, addr }] => {
-                self.follow_hop(after.tables(), *interface, *addr, most)
-            }
-            [change] => self.follow_news(after.tables(), *change, most),
-            _ => Ok(None),
-        }
-    }
-
-    /// The same where a neighbor came, went, or got another MAC.
-    fn follow_hop(
-        &mut self,
-        tables: &Tables,
-        interface: u32,
-        addr: Addr,
-        most: u32,
-    ) -> Result<Option<Followed>, AllocError>
-        requires sound { IsSound tables.now }
-        requires most { most < 2 ^ 32 - 1 }
-        ensures followed { IfOk result (λ o. IfSome o (λ f. (S : TablesValue) → StandsFor self.old S →
-            Differ (change_kinds.Neighbor interface addr ∷ []) S tables.now → IsFollowed self.old self.new S tables.now most f)) }
-        ensures none { IfOk result (λ o. IfNone o (self.new ≡ self.old)) }
-        ensures err { OnErr result (self.new ≡ self.old) }
-    {
-        let change = Change::Neighbor { interface, addr };
-        if let Some(followed) = self.follow_news(tables, change, most)? {
-            return Ok(Some(followed));
-        }
-        if let Some(followed) = self.follow_neighbor(tables, interface, addr, most)? {
-            return Ok(Some(followed));
-        }
-        self.follow_next_hop(tables, interface, addr, most)
-    }
-
-    /// The same where a route's list changed, which is looked up once.
-    fn follow_route(
-        &mut self,
-        after: &Config,
-        prefix: Prefix,
-        source: FibSource,
-        most: u32,
-    ) -> Result<Option<Followed>, AllocError>
-        requires { most < 2 ^ 32 - 1 }
-        ensures followed { IfOk result (λ o. IfSome o (λ f. (S : TablesValue) → StandsFor self.old S →
-            Differ (change_kinds.Route prefix source ∷ []) S after.now.tables → IsFollowed self.old self.new S after.now.tables most f)) }
-        ensures none { IfOk result (λ o. IfNone o (self.new ≡ self.old)) }
-        ensures err { OnErr result (self.new ≡ self.old) }
-    {
-        let new = after.paths_of(prefix, source);
-        self.follow_alone(after.tables(), prefix, source, new, most)
-    }
-
-    /// The same by entries made anew, which are compared with those before.
-    fn follow_anew(
-        &mut self,
-        after: &Config,
-        changes: &[Change],
-        most: u32,
+        planned: Planned,
     ) -> Result<Followed, FollowError>
-        requires { most < 2 ^ 32 - 1 }
-        ensures followed { IfOk result (λ f. FromBefore self.old changes.now after.now.tables
-            (λ S. IsFollowed self.old self.new S after.now.tables most f)) }
-        ensures too_many { IfErr result (λ e. FromBefore self.old changes.now after.now.tables
-            (λ _. IsTooMany (size after.now.tables) most e)) }
+        requires { IsPlanned self.old changes.now after.now.tables planned }
+        ensures followed { IfOk result (λ f. (most : ℕ) → planned.objects ≤ most → most < 2 ^ 32 - 1
+            → FromBefore self.old changes.now after.now.tables (λ S. IsFollowed self.old self.new S after.now.tables most f)) }
+        ensures too_many { IfErr result (λ e. (size most : ℕ) → IsTooMany size most e) }
         ensures err { OnErr result (self.new ≡ self.old) }
     {
-        // Only clauses name the changes.
+        // Only clauses name the tables and the changes.
+        let _after = after;
         let _changes = changes;
-        let made = Entries::of(self.allocator(), after.tables())?;
-        if made.size() > most {
-            return Err(FollowError::TooMany(made.size()));
-        }
-        let found = compared(self.allocator(), self, &made)?;
-        *self = made;
-        Ok(Followed {
-            touched: Touched::of(found.touched),
-            moved: found.moved,
-        })
+        let Planned {
+            plan,
+            followed,
+            renoted,
+            objects,
+        } = planned;
+        self.write_noted(plan, renoted.as_slice())?;
+        self.objects = objects;
+        Ok(followed)
     }
 }

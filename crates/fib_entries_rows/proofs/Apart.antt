@@ -1,15 +1,13 @@
 -- A longer entry that contains an address keeps a shorter one from being its cover.
-use Rattle.std.proofs.Common.{arith, ◌≡◌, ◌≢◌, ℕ, ◌<◌, ◌^◌, true, List, map, inl, inr, sym, ◌∙◌, ap}
+use Rattle.std.proofs.Common.{arith, ◌≡◌, ℕ, ◌<◌, map, sym, ◌∙◌, ap}
 use Rattle.std.specs.Prelude.{Contains}
 use Rattle.std.proofs.lemmas.Bool.{lt-ltb}
-use Rattle.fib_addr.specs.Prefixes.{Prefix, contains, host}
-use Rattle.fib_addr.proofs.LongestLaws.{longest_is_longest}
-use Rattle.fib_resolve.specs.Pairs.{base_pairs, pairs, cover, short_prefixes, prefix_of, is_short}
+use Rattle.fib_addr.specs.Prefixes.{host}
+use Rattle.fib_resolve.specs.Pairs.{base_pairs, pairs, short_prefixes, prefix_of, is_short}
 use Rattle.fib_resolve.specs.declared.pairs.Pair.{Pair}
 use Rattle.fib_resolve.specs.declared.types.Tables.{Tables}
 use Rattle.fib_resolve.proofs.Covering.{filter_in}
 use Rattle.fib_resolve_changes.proofs.SamePairs.{map_in, Origin, origin, base, neighbor, derived, near_from, near_host, derived_host}
-use Rattle.fib_entries_rows.specs.inner.Clear.{IsApart}
 
 -- an entry shorter than a host covers, in each of the tables that have its base pairs
 pub short_pair : (S U : Tables) (x : Pair) → Contains (pairs S) x → x.prefix.len < 32 → (Contains (base_pairs S) x → Contains (base_pairs U) x) → Contains (short_prefixes U) x.prefix
@@ -23,16 +21,3 @@ short_pair S U x c short carried = by (origin S x c)
     by (base k) = filter_in is_short (map prefix_of (base_pairs U)) x.prefix (map_in prefix_of (base_pairs U) x (carried k)) (lt-ltb x.prefix.len 32 short)
     by (neighbor n k m) = no_host n.addr (sym (near_host n.addr n.interface) ∙ ap (λ z. z.prefix) (near_from S n x m).1)
     by (derived b k e) = no_host b (sym (derived_host S b) ∙ ap (λ z. z.prefix) e)
-
--- no shorter prefix is the cover of an address in it
-pub longer_covers : (U : Tables) (p q : Prefix) (a : ℕ) → a < 2 ^ 32 → Contains (short_prefixes U) q → p.len < q.len → contains q a ≡ true → p ≢ cover U a
-unfolding cover
-longer_covers U p q a small there longer inside is =
-    let most = (longest_is_longest a (short_prefixes U) small).longest q there inside in
-    let same = ap (λ z. z.len) is in omega (arith, most, same, longer)
-
--- the same address is apart among other members that have these
-pub apart_among : (old new : List Prefix) (p : Prefix) (a : ℕ) → ((q : Prefix) → Contains old q → Contains new q) → IsApart old p a → IsApart new p a
-apart_among old new p a more (inl out) = inl out
-apart_among old new p a more (inr (inl long)) = inr (inl long)
-apart_among old new p a more (inr (inr (q, n, inside))) = inr (inr (q, record { member = more q n.member; longer = n.longer; short = n.short }, inside))

@@ -1,16 +1,11 @@
 -- Edges by places, made from paths.
-use Rattle.std.proofs.Common.{arith, ◌≡◌, ◌≢◌, ℕ, zero, suc, ◌+◌, ◌<◌, Bool, true, false, ◌||◌, List, [], ◌∷◌, ◌++◌, length, take, Some, inl, inr, refl, sym, ◌∙◌, ap, subst, slice_get, ◌↔◌, if◌then◌else◌}
+use Rattle.std.proofs.Common.{arith, ◌≡◌, ◌≢◌, ℕ, zero, suc, ◌+◌, ◌<◌, Bool, true, false, List, [], ◌∷◌, ◌++◌, length, take, Some, inl, inr, refl, sym, ◌∙◌, ap, subst, slice_get, ◌↔◌, if◌then◌else◌}
 use Rattle.std.specs.Prelude.{Contains, slice_index_or}
-use Rattle.std.specs.List.{AllByRecursion}
-use Rattle.std.specs.Set.{is_member}
 use Rattle.std.proofs.lemmas.Bool.{false≢true, cases_lt}
 use Rattle.std.proofs.lemmas.List.Elements.{Contains-append_left, Contains-append_right, Contains-append_cases}
 use Rattle.std.proofs.lemmas.Option.{slice_get_within}
-use Rattle.std.proofs.lemmas.Map.Views.{Contains-from_any}
 use Rattle.fib_base_list.proofs.Lists.{Contains-nil, Contains-flat_map}
-use Rattle.fib_reach.specs.Walks.{AllDiffer}
-use Rattle.fib_addr.specs.Prefixes.{Prefix, same_prefix}
-use Rattle.fib_addr.proofs.PrefixLaws.{same_prefix-Decides}
+use Rattle.fib_addr.specs.Prefixes.{Prefix}
 use Rattle.fib_resolve.specs.Pairs.{entries, chosen}
 use Rattle.fib_resolve.specs.Loops.{targets, kind_targets}
 use Rattle.fib_resolve.specs.declared.types.Path.{Path}
@@ -23,31 +18,10 @@ use Rattle.fib_resolve_changes.proofs.Ranking.{wake_edge}
 use Rattle.fib_resolve_changes.proofs.Edits.{in_cases, in_front}
 use Rattle.fib_resolve_changes.proofs.SamePairs.{flat_map_from}
 use Rattle.fib_resolve_changes.proofs.Targets.{edge_entry}
-use Rattle.fib_base_interned.proofs.Finding.{some_is, none_some}
+use Rattle.fib_base_interned.proofs.Finding.{some_is}
 use Rattle.fib_entries_rows.specs.inner.Building.{IsKeptEdge, AreKeptEdges}
 use Rattle.fib_entries_rows.specs.inner.Edges.{AreEdgesOf, IsPathEdge, AddsPath, AddsPaths, ArePlaces, AreSources}
 use Rattle.fib_entries_rows.proofs.Anew.{take_more, entry_of}
-
--- one path
-pub no_path : (S : Tables) (order : List Prefix) (from : ℕ) (e : Prefix) (kind : PathKind) (old : List (ℕ × ℕ)) → [] ≡ kind_targets S e kind → AddsPath S order from e kind old old
-no_path S order from e kind old none d = (λ c. inl c, λ k. elim k [ inl c ↦ c | inr new ↦ absurd (Contains-nil new.1 (subst (λ l. Contains l new.1) (sym none) new.2)) ])
-
-pub no_place : (S : Tables) (order : List Prefix) (from : ℕ) (e t : Prefix) (kind : PathKind) (old : List (ℕ × ℕ)) → t ∷ [] ≡ kind_targets S e kind → (Contains order t → ⊥) → AddsPath S order from e kind old old
-no_place S order from e t kind old one off d = (
-  λ c. inl c,
-  λ k. elim k [
-    | inl c ↦ c
-    | inr new ↦ (let is = only t new.1 (subst (λ l. Contains l new.1) (sym one) new.2) in absurd (off (at_place order d.1 t (new.3 ∙ ap Some (sym is)))))
-  ],
-)
-  where
-    only : (t u : Prefix) → Contains (t ∷ []) u → t ≡ u
-    only t u c = elim (in_cases t u [] c) [ inl is ↦ is | inr none ↦ absurd (Contains-nil u none) ]
-
-    at_place : (order : List Prefix) (i : ℕ) (t : Prefix) → slice_get order i ≡ Some t → Contains order t
-    at_place [] i t at = absurd (none_some t at)
-    at_place (x ∷ xs) zero t at = (0, omega arith, some_is x t at)
-    at_place (x ∷ xs) (suc i) t at = let r = at_place xs i t at in (suc r.0, omega (arith, r.1), r.2)
 
 pub one_path : (S : Tables) (order : List Prefix) (from to : ℕ) (e t : Prefix) (kind : PathKind) (old new : List (ℕ × ℕ)) → ((i j : ℕ) (p : Prefix) → slice_get order i ≡ Some p → slice_get order j ≡ Some p → i ≡ j) → t ∷ [] ≡ kind_targets S e kind → slice_get order to ≡ Some t
     → new ≡ old ++ (from, to) ∷ [] → AddsPath S order from e kind old new
@@ -70,10 +44,6 @@ one_path S order from to e t kind old new once one at made d = (
     only : (t u : Prefix) → Contains (t ∷ []) u → t ≡ u
     only t u c = elim (in_cases t u [] c) [ inl is ↦ is | inr none ↦ absurd (Contains-nil u none) ]
 
--- the paths of an entry
-pub no_paths : (S : Tables) (order : List Prefix) (from : ℕ) (e : Prefix) (old : List (ℕ × ℕ)) → AddsPaths S order from e [] old old
-no_paths S order from e old d = (λ c. inl c, λ k. elim k [ inl c ↦ c | inr new ↦ absurd (Contains-nil new.0 new.1) ])
-
 pub more_paths : (S : Tables) (order : List Prefix) (from : ℕ) (e : Prefix) (paths : List Path) (p : Path) (old mid new : List (ℕ × ℕ)) → AddsPaths S order from e paths old mid → AddsPath S order from e p.kind mid new → AddsPaths S order from e (paths ++ p ∷ []) old new
 more_paths S order from e paths p old mid new before adds d = (
   λ c. elim ((adds d).0 c) [
@@ -91,10 +61,6 @@ more_paths S order from e paths p old mid new before adds d = (
     ]
   ],
 )
-
--- the entries of the first places
-pub no_edges_of : (S : Tables) (order : List Prefix) → AreEdgesOf S order 0 []
-no_edges_of S order d = (λ c. absurd (Contains-nil d c), λ k. absurd (let lt = k.0 in omega (arith, lt)))
 
 pub more_edges_of : (S : Tables) (order : List Prefix) (from : ℕ) (e : Prefix) (old new : List (ℕ × ℕ)) → AreEdgesOf S order from old → slice_get order from ≡ Some e → AddsPaths S order from e (chosen S e) old new → AreEdgesOf S order (from + 1) new
 unfolding targets
@@ -119,9 +85,6 @@ edge_places S order done edges are d c = let r = (are d).0 c in (slice_get_withi
 -- those that are kept, among the first
 abbrev pub AreKeptOf : Tables → List Prefix → List (ℕ × ℕ) → List (ℕ × ℕ) → Type 0
 AreKeptOf S order edges kept = (d : ℕ × ℕ) → Contains kept d ↔ Contains edges d × IsKeptEdge S order d
-
-pub none_kept : (S : Tables) (order : List Prefix) → AreKeptOf S order [] []
-none_kept S order d = (λ c. absurd (Contains-nil d c), λ k. absurd (Contains-nil d k.0))
 
 pub more_kept : (S : Tables) (order : List Prefix) (edges old new : List (ℕ × ℕ)) (edge : ℕ × ℕ) (e t : Prefix) (test : Bool) → AreKeptOf S order edges old → slice_get order edge.0 ≡ Some e → slice_get order edge.1 ≡ Some t → test ≡ wakes S e t
     → new ≡ (if test then old ++ edge ∷ [] else old) → AreKeptOf S order (edges ++ edge ∷ []) new
@@ -167,75 +130,6 @@ all_kept S order edges kept are h d = (
   λ k. (h d).1 ((are d).1 (k.0, (k.1.0, k.1.1, k.1.2, k.1.3, kept_target S k.1.0 k.1.1 (wake_edge S k.1.0 k.1.1 k.1.4))), k.1),
 )
 
--- the sources of edges to a prefix
-pub no_sources : (order : List Prefix) (e : Prefix) → AreSources order [] e []
-no_sources order e = record { once = tt; real = λ p c. absurd (Contains-nil p c); found = λ d p c. absurd (Contains-nil d c) }
-
--- an edge to another prefix adds none
-pub other_source : (order : List Prefix) (edges : List (ℕ × ℕ)) (edge : ℕ × ℕ) (e t : Prefix) (list : List Prefix) → AreSources order edges e list → slice_get order edge.1 ≡ Some t → same_prefix e t ≡ false → AreSources order (edges ++ edge ∷ []) e list
-other_source order edges edge e t list h at off = record {
-  once = h.once;
-  real = λ p c. (let r = h.real p c in (r.0, Contains-append_left edges (edge ∷ []) r.0 r.1, r.2, r.3));
-  found = λ d p c a b. elim (Contains-append_cases edges (edge ∷ []) d c) [
-    | inl early ↦ h.found d p early a b
-    | inr late ↦ elim (in_cases edge d [] late) [
-      | inl same ↦ absurd (false≢true (sym off ∙ (same_prefix-Decides e t).1 (some_is e t (sym b ∙ ap (λ (z : ℕ × ℕ). slice_get order z.1) (sym same) ∙ at))))
-      | inr none ↦ absurd (Contains-nil d none)
-    ]
-  ];
-}
-
-differ_push : (list : List Prefix) (p : Prefix) → AllDiffer list → is_member same_prefix list p ≡ false → AllDiffer (list ++ p ∷ [])
-differ_push [] p once new = (tt, tt)
-differ_push (q ∷ qs) p once new =
-    let n = nor (same_prefix p q) (is_member same_prefix qs p) new in
-    (push_each q p qs once.0 (λ is. false≢true (sym n.0 ∙ (same_prefix-Decides p q).1 (sym is))), differ_push qs p once.1 n.1)
-  where
-    push_each : (q p : Prefix) (qs : List Prefix) → AllByRecursion (λ y. q ≢ y) qs → (q ≡ p → ⊥) → AllByRecursion (λ y. q ≢ y) (qs ++ p ∷ [])
-    push_each q p [] all off = (off, tt)
-    push_each q p (z ∷ zs) all off = (all.0, push_each q p zs all.1 off)
-
-    nor : (b c : Bool) → (b || c) ≡ false → (b ≡ false) × (c ≡ false)
-    nor true c h = absurd (false≢true (sym h))
-    nor false c h = (refl, h)
-
-pub this_source : (order : List Prefix) (edges : List (ℕ × ℕ)) (edge : ℕ × ℕ) (e t p : Prefix) (list new : List Prefix) → AreSources order edges e list → slice_get order edge.0 ≡ Some p → slice_get order edge.1 ≡ Some t → same_prefix e t ≡ true
-    → new ≡ (if is_member same_prefix list p then list else list ++ p ∷ []) → AreSources order (edges ++ edge ∷ []) e new
-this_source order edges edge e t p list new h at_p at_t same made = subst (AreSources order (edges ++ edge ∷ []) e) (sym made) (by (is_member same_prefix list p) refl)
-  where
-    to_e : slice_get order edge.1 ≡ Some e
-    to_e = at_t ∙ ap Some (sym ((same_prefix-Decides e t).0 same))
-
-    by : (b : Bool) → is_member same_prefix list p ≡ b → AreSources order (edges ++ edge ∷ []) e (if b then list else list ++ p ∷ [])
-    by true w = record {
-      once = h.once;
-      real = λ q c. (let r = h.real q c in (r.0, Contains-append_left edges (edge ∷ []) r.0 r.1, r.2, r.3));
-      found = λ d q c a b. elim (Contains-append_cases edges (edge ∷ []) d c) [
-        | inl early ↦ h.found d q early a b
-        | inr late ↦ elim (in_cases edge d [] late) [
-          | inl is ↦ subst (Contains list) (some_is p q (sym at_p ∙ ap (λ (z : ℕ × ℕ). slice_get order z.0) is ∙ a)) (Contains-from_any (λ x y. (same_prefix-Decides x y).0) p list w)
-          | inr none ↦ absurd (Contains-nil d none)
-        ]
-      ];
-    }
-    by false w = record {
-      once = differ_push list p h.once w;
-      real = λ q c. elim (Contains-append_cases list (p ∷ []) q c) [
-        | inl early ↦ (let r = h.real q early in (r.0, Contains-append_left edges (edge ∷ []) r.0 r.1, r.2, r.3))
-        | inr late ↦ elim (in_cases p q [] late) [
-          | inl is ↦ (edge, Contains-append_right edges (edge ∷ []) edge (in_front edge edge [] refl), at_p ∙ ap Some is, to_e)
-          | inr none ↦ absurd (Contains-nil q none)
-        ]
-      ];
-      found = λ d q c a b. elim (Contains-append_cases edges (edge ∷ []) d c) [
-        | inl early ↦ Contains-append_left list (p ∷ []) q (h.found d q early a b)
-        | inr late ↦ elim (in_cases edge d [] late) [
-          | inl is ↦ Contains-append_right list (p ∷ []) q (in_front p q [] (some_is p q (sym at_p ∙ ap (λ (z : ℕ × ℕ). slice_get order z.0) is ∙ a)))
-          | inr none ↦ absurd (Contains-nil d none)
-        ]
-      ];
-    }
-
 -- the sources of all edges to an entry are those that have an edge to it
 pub sources_are : (S : Tables) (order : List Prefix) (edges : List (ℕ × ℕ)) (e : Prefix) (list : List Prefix) → ((p : Prefix) → Contains order p ↔ Contains (entries S) p) → AreEdgesOf S order (length order) edges → AreSources order edges e list
     → (d : Prefix) → Contains list d ↔ Contains (targets S d) e
@@ -249,11 +143,6 @@ sources_are S order edges e list same are h d = (
     place : (xs : List Prefix) (p : Prefix) → Contains xs p → (k : ℕ) × (slice_get xs k ≡ Some p)
     place [] p c = absurd (Contains-nil p c)
     place (x ∷ xs) p c = elim (in_cases x p xs c) [ inl is ↦ (0, ap Some is) | inr later ↦ (let r = place xs p later in (suc r.0, r.1)) ]
-
-pub source_step : (order : List Prefix) (edges : List (ℕ × ℕ)) (edge : ℕ × ℕ) (e t p : Prefix) (test : Bool) (list new : List Prefix) → AreSources order edges e list → slice_get order edge.0 ≡ Some p → slice_get order edge.1 ≡ Some t → test ≡ same_prefix e t
-    → new ≡ (if test then (if is_member same_prefix list p then list else list ++ p ∷ []) else list) → AreSources order (edges ++ edge ∷ []) e new
-source_step order edges edge e t p true list new h at_p at_t is made = this_source order edges edge e t p list new h at_p at_t (sym is) made
-source_step order edges edge e t p false list new h at_p at_t is made = subst (AreSources order (edges ++ edge ∷ []) e) (sym made) (other_source order edges edge e t list h at_t (sym is))
 
 any_default : (xs : List (ℕ × ℕ)) (k : ℕ) (d e : ℕ × ℕ) → k < length xs → slice_index_or xs k d ≡ slice_index_or xs k e
 any_default [] k d e lt = absurd (omega (arith, lt))

@@ -1,10 +1,9 @@
 -- Where a prefix belongs among rows in order, and how its row comes and goes again.
-use Rattle.std.proofs.Common.{arith, ◌≡◌, ℕ, zero, suc, ◌<◌, ◌≤◌, List, [], ◌∷◌, map, length, Some, refl, ◌∙◌, ap, subst, slice_get}
+use Rattle.std.proofs.Common.{arith, ◌≡◌, ℕ, zero, suc, ◌≤◌, List, [], ◌∷◌, map, length, Some, refl, ◌∙◌, ap, subst, slice_get}
 use Rattle.std.specs.List.{insert, remove}
 use Rattle.std.specs.List.Sorted.{IsNonDecreasingBy, IsPartitionPoint}
 use Rattle.std.specs.Ordering.{ordering_index, ordering_reverse}
 use Rattle.std.specs.declared.cmp.Ordering.TheVariants.{Less, Greater}
-use Rattle.std.proofs.lemmas.List.Edits.{length-insert}
 use Rattle.std.proofs.lemmas.Option.{slice_get_within}
 use Rattle.fib_addr.specs.Prefixes.{Prefix}
 use Rattle.fib_cover.specs.Covers.{prefix_cmp, IsAscending}
@@ -36,9 +35,6 @@ gap_from rows p i asc le part =
           let more = holds_there prefix_of (λ (z : Row). prefix_cmp z.prefix p ≡ Greater) rows j r.0 (λ d. both.1 j d high within) r.1 in
           subst (λ z. prefix_cmp p z ≡ Less) r.2 (prefix_total.antisymm p r.0.prefix ∙ ap ordering_reverse more));
     }
-
-pub put_inside : (rows mid : List Row) (place : ℕ) (row : Row) → place ≤ length rows → mid ≡ insert rows place row → place < length mid
-put_inside rows mid place row le is = (let n = length-insert rows place row le in let e = ap length is in omega (arith, n, e, le))
 
 -- a row that was put in is taken out
 pub taken_back : (rows mid new : List Row) (place : ℕ) (row : Row) → place ≤ length rows → mid ≡ insert rows place row → new ≡ remove mid place → new ≡ rows

@@ -44,15 +44,6 @@ slot_is S p s k n = ap (option_map (λ m. 7 * m + source_rank s)) n
 slot_lacks : (S : Tables) (p : Prefix) (s : FibSource) → number_in S p ≡ None → slot_of S p s ≡ None
 slot_lacks S p s n = ap (option_map (λ m. 7 * m + source_rank s)) n
 
-pub slot_below : (S : Tables) (p : Prefix) (s : FibSource) (n : ℕ) → IfSome (number_in S p) (λ k. k < n) → IfSome (slot_of S p s) (λ k. k < 7 * n)
-slot_below S p s n h =
-    elim (some_or_none (number_in S p)) [
-      | inl none ↦ rw (slot_lacks S p s none) tt
-      | inr some ↦ (let low : some.0 < n = subst (λ (o : Option ℕ). IfSome o (λ k. k < n)) some.1 h in
-          let small = rank_low s in
-          rw (slot_is S p s some.0 some.1) (omega (arith, low, small)))
-    ]
-
 -- a pair more in front
 module _ (S : Tables) (xs rest : List Pair) (x : Pair) (i : ℕ) (places : List (Option ℕ)) (pos : 0 < i) (front : xs ≡ x ∷ rest) (p : Prefix) (s : FibSource) (k : ℕ) (n : number_in S p ≡ Some k) where
   here_now : IfSome (slot_of S x.prefix x.source) (λ j. j < length places) → is_pair_of p s x ≡ true →

@@ -1,5 +1,5 @@
 -- What a prefix leads to, collected, and the edges among it that lie on cycles.
-use Rattle.std.proofs.Common.{arith, ◌≡◌, ◌≢◌, ℕ, zero, suc, ◌+◌, ◌<◌, ◌≤◌, Bool, true, false, ◌||◌, List, [], ◌∷◌, ◌++◌, length, take, flat_map, get_or, cond, nat_lt, Option, Some, None, inl, inr, refl, sym, ◌∙◌, ap, subst, slice_get, if◌then◌else◌}
+use Rattle.std.proofs.Common.{arith, ◌≡◌, ◌≢◌, ℕ, zero, suc, ◌+◌, ◌<◌, ◌≤◌, Bool, true, false, ◌||◌, List, [], ◌∷◌, ◌++◌, length, take, flat_map, get_or, cond, nat_lt, Option, Some, None, inl, inr, refl, sym, ◌∙◌, ap, subst, slice_get}
 use Rattle.std.specs.Prelude.{◌⊎◌, ◌&&◌, Contains, slice_index_or}
 use Rattle.std.specs.List.{AllByRecursion, position, position_or_len}
 use Rattle.std.specs.Set.{is_member}
@@ -12,21 +12,17 @@ use Rattle.std.proofs.lemmas.List.Sums.{fails_before_first}
 use Rattle.std.proofs.lemmas.Option.{slice_get_within, slice_get-get_or}
 use Rattle.fib_addr.specs.Prefixes.{Prefix, same_prefix}
 use Rattle.fib_addr.proofs.PrefixLaws.{same_prefix-Decides}
-use Rattle.fib_base_list.proofs.Lists.{either, Contains-nil}
+use Rattle.fib_base_list.proofs.Lists.{Contains-nil}
 use Rattle.fib_reach.specs.Walks.{AllDiffer, Among, Next, Walk}
 use Rattle.fib_loops.specs.Loops.{AreEdges, IsLooped, IsMarked}
 use Rattle.fib_loops.specs.Loops.{Marked as Marks}
 use Rattle.fib_base_list.proofs.Booleans.{and_both}
-use Rattle.fib_resolve.specs.declared.types.Path.{Path}
 use Rattle.fib_resolve_changes.proofs.Edits.{any_in, in_cases, in_front}
 use Rattle.fib_base_interned.proofs.Finding.{some_is, none_some, contains_at, find_place}
-use Rattle.fib_entries_rows.specs.Known.{row_of}
-use Rattle.fib_entries_rows.specs.Rows.{Row}
 use Rattle.fib_entries_rows.specs.inner.Looping.{IsMore}
-use Rattle.fib_entries_rows.specs.inner.Leaf.{goals_of}
-use Rattle.fib_entries_rows.specs.inner.Looping.{AddsEdge, AddsEdges, AreEdgesAmong, AreLoopedEnds, AreLoops, AreMarkedEnds, AreReached, Sees, SeesLed, has_ends, late_next, led_in, next_with, same_ends}
+use Rattle.fib_entries_rows.specs.inner.Looping.{AddsEdge, AddsEdges, AreEdgesAmong, AreLoopedEnds, AreLoops, AreMarkedEnds, Sees, has_ends, same_ends}
 use Rattle.fib_entries_rows.proofs.Anew.{take_more, take_all}
-use Rattle.fib_entries_rows.proofs.Seeing.{each_more, more_in, more_push, more_self, more_then, past}
+use Rattle.fib_entries_rows.proofs.Seeing.{each_more, more_in, more_push, more_self, more_then}
 use Rattle.fib_entries_rows.proofs.Edging.{places_join}
 use Rattle.fib_entries_rows.proofs.Linking.{member_in}
 use Rattle.fib_entries_rows.proofs.PlyOrder.{index_of}
@@ -84,48 +80,6 @@ sees_whole list place old new le h = (
   h.1,
   λ t c. (let g = index_of list t c in let inside = slice_get_within list g.0 t g.1 in h.2 g.0 t (omega (arith, inside, le)) g.1),
 )
-
-pub sees_list : (list ahead old new : List Prefix) → ahead ≡ [] ++ list → Sees ahead old new → Sees list old new
-sees_list list ahead old new is h = (h.0, h.1, λ t c. h.2 t (subst (λ l. Contains l t) (sym is) c))
-
--- all that the rows of those seen before a place lead to
-abbrev pub SeesSteps : List Row → ℕ → List Prefix → List Prefix → Type 0
-SeesSteps rows place old new = IsMore old new × AllDiffer new × ((i : ℕ) (x : Prefix) → i < place → slice_get new i ≡ Some x → SeesLed rows x new)
-
-pub steps_none : (rows : List Row) (seen : List Prefix) → AllDiffer seen → SeesSteps rows 0 seen seen
-steps_none rows seen once = (more_self seen, once, λ i x lt at. absurd (omega (arith, lt)))
-
-pub steps_more : (rows : List Row) (first old new : List Prefix) (place : ℕ) (e : Prefix) → slice_get old place ≡ Some e → SeesSteps rows place first old → IsMore old new → AllDiffer new → SeesLed rows e new → SeesSteps rows (place + 1) first new
-steps_more rows first old new place e here before more once own = (
-  more_then first old new before.0 more,
-  once,
-  λ i x lt at. elim (cases_lt i place) [
-    | inl early ↦ (let inside = slice_get_within old place e here in
-        let was = slice_get-get_or old i e (omega (arith, early, inside)) in
-        let y = get_or old i e in
-        subst (λ z. SeesLed rows z new) (some_is y x (sym (more i y was) ∙ at)) (λ t c. more_in old new more t (before.2 i y early was t c)))
-    | inr late ↦ (let is : place ≡ i = omega (arith, lt, late) in subst (λ z. SeesLed rows z new) (some_is e x (sym (more place e here) ∙ (ap (slice_get new) is ∙ at))) own)
-  ],
-)
-
-pub steps_sees : (rows : List Row) (place : ℕ) (old new : List Prefix) → SeesSteps rows place old new → Sees [] old new
-steps_sees rows place old new h = (h.0, h.1, λ t c. absurd (Contains-nil t c))
-
-pub steps_all : (rows : List Row) (place : ℕ) (old new : List Prefix) → length new ≤ place → SeesSteps rows place old new → (e : Prefix) → Contains new e → SeesLed rows e new
-steps_all rows place old new le h e c = let g = index_of new e c in let inside = slice_get_within new g.0 e g.1 in h.2 g.0 e (omega (arith, le, inside)) g.1
-
-pub steps_until : (rows : List Row) (place : ℕ) (old new : List Prefix) → slice_get new place ≡ None → SeesSteps rows place old new → (e : Prefix) → Contains new e → SeesLed rows e new
-steps_until rows place old new none h e c = let g = index_of new e c in h.2 g.0 e (past new place g.0 e none g.1) g.1
-
-pub are_reached : (rows : List Row) (p : Prefix) (old_list new_list : List Path) (late : Option (Prefix × Prefix)) (first seen : List Prefix) → IsMore first seen → Contains first p → ((t : Prefix) → Contains (goals_of old_list) t → Contains first t)
-    → ((t : Prefix) → Contains (goals_of new_list) t → Contains first t) → ((h c : Prefix) → late ≡ Some (h, c) → Contains first c) → ((e : Prefix) → Contains seen e → SeesLed rows e seen) → AreReached rows p old_list new_list late seen
-are_reached rows p old_list new_list late begun seen more mine was now_on late_is all = record {
-  own = more_in begun seen more p mine;
-  before = λ t c. more_in begun seen more t (was t c);
-  after = λ t c. more_in begun seen more t (now_on t c);
-  late_on = λ h c is. more_in begun seen more c (late_is h c is);
-  closed = λ e t there c. all e there t c;
-}
 
 -- the place of a prefix
 test_lt : (n m k : ℕ) → Some k ≡ cond (nat_lt n m) (Some n) None → (k ≡ n) × (n < m)
@@ -186,9 +140,6 @@ edge_put order from to t old new once here made d = (
 
 pub edge_none : (order : List Prefix) (from : ℕ) (t : Prefix) (old : List (ℕ × ℕ)) → (Contains order t → ⊥) → AddsEdge order from t old old
 edge_none order from t old off d = (λ c. inl c, λ k. elim k [ inl c ↦ c | inr n ↦ absurd (off (contains_at order d.1 t n.1)) ])
-
-pub edges_none : (order : List Prefix) (from : ℕ) (old : List (ℕ × ℕ)) → AddsEdges order from [] old old
-edges_none order from old d = (λ c. inl c, λ k. elim k [ inl c ↦ c | inr n ↦ absurd (Contains-nil n.1 n.2) ])
 
 edges_more : (order : List Prefix) (from : ℕ) (done : List Prefix) (t : Prefix) (old mid new : List (ℕ × ℕ)) → AddsEdges order from done old mid → AddsEdge order from t mid new → AddsEdges order from (done ++ t ∷ []) old new
 edges_more order from done t old mid new before adds d = (
@@ -279,12 +230,6 @@ put_ends true false h = h
 put_ends false true h = h
 put_ends false false h = h
 
-pub no_ends : (order : List Prefix) (edges : List (ℕ × ℕ)) (marks : List Bool) (found : List (Prefix × Prefix)) → found ≡ [] → AreMarkedEnds order edges marks 0 found
-no_ends order edges marks found none e t = (
-  λ h. absurd (false≢true (sym (ap (λ l. has_ends l e t) none) ∙ h)),
-  λ r. absurd (let lt = r.2 in omega (arith, lt)),
-)
-
 module _ (order : List Prefix) (edges : List (ℕ × ℕ)) (marks : List Bool) (k : ℕ) (d : ℕ × ℕ) (from to : Prefix) (here : slice_get edges k ≡ Some d) (at_from : slice_get order d.0 ≡ Some from) (at_to : slice_get order d.1 ≡ Some to) (old new : List (Prefix × Prefix)) (was : AreMarkedEnds order edges marks k old) where
   pub ends_more : (b : Bool) → b ≡ slice_index_or marks k false → ((e t : Prefix) → has_ends new e t ≡ (has_ends old e t || (b && same_ends (from, to) (e, t)))) → AreMarkedEnds order edges marks (k + 1) new
   ends_more true mark put e t = (
@@ -325,25 +270,3 @@ looped_ends nodes order edges m found is are e t = (
   where
     edge_here : (k : ℕ) (d : ℕ × ℕ) → k < length edges → slice_get edges k ≡ Some d → slice_index_or edges k d ≡ d
     edge_here k d lt here = some_is (slice_index_or edges k d) d (sym (slice_get-get_or edges k d lt) ∙ here)
-
--- what is reached, alone or with the host that comes, is closed
-pub reached_closed : (rows : List Row) (p : Prefix) (old_list new_list : List Path) (late : Option (Prefix × Prefix)) (seen list : List Prefix) → AreReached rows p old_list new_list late seen → ((t : Prefix) → Contains seen t → Contains list t)
-    → ((e : Prefix) → Contains list e → Contains seen e ⊎ ((c : Prefix) × (late ≡ Some (e, c)))) → (e t : Prefix) → Contains list e → Contains (next_with rows p new_list late e) t → Contains list t
-reached_closed rows p old_list new_list late seen list h more only e t there k = more t (elim (either (same_prefix p e)) [
-  | inl is ↦ h.after t (subst (λ (b : Bool). Contains (if b then goals_of new_list else late_next late rows e) t) is k)
-  | inr off ↦ by late refl (only e there) (subst (λ (b : Bool). Contains (if b then goals_of new_list else late_next late rows e) t) off k)
-])
-  where
-    by : (l : Option (Prefix × Prefix)) → late ≡ l → Contains seen e ⊎ ((c : Prefix) × (late ≡ Some (e, c))) → Contains (late_next l rows e) t → Contains seen t
-    by None is (inl own) c = h.closed e t own c
-    by None is (inr host) c = absurd (none_some (e, host.0) (sym is ∙ host.1))
-    by (Some (host, cover)) is o c = elim (either (same_prefix host e)) [
-      | inl same ↦ elim (in_cases cover t [] (subst (λ (b : Bool). Contains (if b then cover ∷ [] else led_in (row_of rows e)) t) same c)) [
-        | inl own ↦ subst (Contains seen) own (h.late_on host cover is)
-        | inr none ↦ absurd (Contains-nil t none)
-      ]
-      | inr off ↦ elim o [
-        | inl own ↦ h.closed e t own (subst (λ (b : Bool). Contains (if b then cover ∷ [] else led_in (row_of rows e)) t) off c)
-        | inr x ↦ absurd (false≢true (sym off ∙ (same_prefix-Decides host e).1 (ap (λ (z : Prefix × Prefix). z.0) (some_is (host, cover) (e, x.0) (sym is ∙ x.1)))))
-      ]
-    ]

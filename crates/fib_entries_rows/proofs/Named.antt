@@ -1,21 +1,19 @@
 -- Rows that stand for tables name each list as often as the tables' pairs have it.
-use Rattle.std.proofs.Common.{arith, ◌≡◌, ◌≢◌, ℕ, ◌+◌, ◌<◌, Bool, true, false, ◌&&◌, ◌==◌, List, [], ◌∷◌, ◌++◌, map, Option, Some, None, inl, inr, refl, sym, ◌∙◌, ap, subst, ◌↔◌, count_by}
-use Rattle.std.specs.Prelude.{Contains, flat_map, IsSome, option_map}
+use Rattle.std.proofs.Common.{arith, ◌≡◌, ◌≢◌, ℕ, ◌+◌, ◌<◌, Bool, true, false, List, [], ◌∷◌, ◌++◌, map, Option, Some, None, inl, inr, refl, sym, ◌∙◌, ap, subst, ◌↔◌, count_by}
+use Rattle.std.specs.Prelude.{Contains, flat_map, IsSome}
 use Rattle.std.specs.List.{AllByRecursion, IsDistinct}
 use Rattle.std.specs.Cmp.Lexicographic.{pointwise}
 use Rattle.std.proofs.lemmas.Bool.{false≢true}
-use Rattle.std.proofs.lemmas.Bool.Decides.{Decides-eqb}
 use Rattle.std.proofs.lemmas.List.Sums.{sum_by-append}
-use Rattle.std.proofs.lemmas.List.Elements.{Contains-append_cases}
 use Rattle.std.proofs.lemmas.Map.Views.{Contains-from_any}
 use Rattle.fib_base_list.proofs.Lists.{either, Contains-nil, Contains-flat_map}
-use Rattle.fib_base_list.proofs.Booleans.{and_both, unit_of, count_by-cons}
+use Rattle.fib_base_list.proofs.Booleans.{unit_of, count_by-cons}
 use Rattle.fib_reach.specs.Walks.{AllDiffer}
-use Rattle.fib_addr.specs.Prefixes.{Prefix, same_prefix}
+use Rattle.fib_addr.specs.Prefixes.{Prefix}
 use Rattle.fib_addr.proofs.PrefixLaws.{same_prefix-Decides}
 use Rattle.fib_cover.specs.Covers.{IsAscending}
 use Rattle.fib_base_interned.specs.Interned.{kept_of, AreInterned}
-use Rattle.fib_resolve.specs.Keys.{same_path, same_source, source_rank}
+use Rattle.fib_resolve.specs.Keys.{same_path, source_rank}
 use Rattle.fib_resolve.specs.Pairs.{pairs, entries, same_pair}
 use Rattle.fib_resolve.specs.declared.pairs.Pair.{Pair}
 use Rattle.fib_resolve.specs.declared.types.FibSource.{FibSource}

@@ -51,19 +51,8 @@ position_none p xs h =
       | inr ge ↦ none_passes p xs ge
     ]
 
-is_pair : Prefix → FibSource → Pair → Bool
-is_pair e s x = same_prefix e x.prefix && same_source s x.source
-
 pair_passes : (e : Prefix) (s : FibSource) (x : Pair) → e ≡ x.prefix → s ≡ x.source → (same_prefix e x.prefix && same_source s x.source) ≡ true
 pair_passes e s x p q = rw ((same_prefix-Decides e x.prefix).1 p) ((Decides-eqb (source_rank s) (source_rank x.source)).1 (ap source_rank q))
-
-pub none_picked : (e : Prefix) (xs : List Pair) (ids : List ℕ) → ArePicked e xs ids 0 []
-none_picked e xs ids = record {
-  best_first = tt;
-  below = λ p c. absurd (Contains-nil p c);
-  found = λ x c own low. absurd (omega (arith, low));
-  real = λ p c. absurd (Contains-nil p c);
-}
 
 -- what is no entry has no pair
 pub none_at_all : (S : Tables) (e : Prefix) (ids : List ℕ) → number_in S e ≡ None → ArePicked e (pairs S) ids 7 []
@@ -166,19 +155,3 @@ picked_all S lists e ids held sound taken h = record {
       (f.0, f.1, (f.2, zip_at lists (pairs S) ids taken.each r.0 r.1 f.0.1 r.2 r.3 ∙ ap Some same)));
   real = λ p c. (let r = h.real p c in (r.1, contains_at (pairs S) r.0 r.1 r.2, r.4, (r.5, zip_at lists (pairs S) ids taken.each r.0 r.1 p.1 r.2 r.3)));
 }
-
--- a pair of that prefix and source stands at the place that is found
-pub place_has : (e : Prefix) (s : FibSource) (xs : List Pair) (k : ℕ) → position (λ x. same_prefix e x.prefix && same_source s x.source) xs ≡ Some k → (x : Pair) × Contains xs x × (e ≡ x.prefix) × (s ≡ x.source)
-place_has e s xs k at =
-    let f = position-Some (λ x. same_prefix e x.prefix && same_source s x.source) xs k (record { prefix = e; source = s; paths = [] }) at in
-    let both = and_both (same_prefix e (get_or xs k (record { prefix = e; source = s; paths = [] })).prefix) (same_source s (get_or xs k (record { prefix = e; source = s; paths = [] })).source) f.1 in (
-      get_or xs k (record { prefix = e; source = s; paths = [] }),
-      contains_at xs k (get_or xs k (record { prefix = e; source = s; paths = [] })) (slice_get-get_or xs k (record { prefix = e; source = s; paths = [] }) f.0),
-      (same_prefix-Decides e (get_or xs k (record { prefix = e; source = s; paths = [] })).prefix).0 both.0,
-      source_by_rank s (get_or xs k (record { prefix = e; source = s; paths = [] })).source ((Decides-eqb (source_rank s) (source_rank (get_or xs k (record { prefix = e; source = s; paths = [] })).source)).0 both.1),
-    )
-
--- and none where no place is found
-pub place_lacks : (e : Prefix) (s : FibSource) (xs : List Pair) → position (λ x. same_prefix e x.prefix && same_source s x.source) xs ≡ None → (x : Pair) → Contains xs x → e ≡ x.prefix → s ≡ x.source → ⊥
-place_lacks e s xs none x c own is =
-    false≢true (sym (position_none (λ y. same_prefix e y.prefix && same_source s y.source) xs none) ∙ any_in (λ y. same_prefix e y.prefix && same_source s y.source) xs x c (pair_passes e s x own is))

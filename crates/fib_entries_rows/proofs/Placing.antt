@@ -1,14 +1,11 @@
 -- Lists without one of their members, and with one more at a place.
-use Rattle.std.proofs.Common.{arith, ◌≡◌, ◌≢◌, ℕ, zero, suc, ◌+◌, ◌-◌, ◌<◌, ◌≤◌, false, ◌==◌, List, [], ◌∷◌, map, length, Option, Some, None, ◌⊎◌, inl, inr, refl, sym, ◌∙◌, ap, subst, slice_get, ◌↔◌, if◌then◌else◌}
+use Rattle.std.proofs.Common.{arith, ◌≡◌, ◌≢◌, ℕ, zero, suc, ◌-◌, ◌≤◌, false, List, [], ◌∷◌, map, length, Option, Some, None, ◌⊎◌, inl, inr, refl, sym, ◌∙◌, ap, subst, slice_get, ◌↔◌}
 use Rattle.std.specs.Prelude.{Contains, IsSome, option_map}
-use Rattle.std.specs.List.{AllByRecursion, AllZip, insert, remove}
+use Rattle.std.specs.List.{AllByRecursion, insert, remove}
 use Rattle.std.specs.List.Sorted.{IsStrictlySortedBy}
 use Rattle.std.specs.declared.cmp.Ordering.TheVariants.{Less}
-use Rattle.std.proofs.lemmas.Bool.{false≢true, cases_lt}
-use Rattle.std.proofs.lemmas.Bool.Decides.{Decides-eqb}
-use Rattle.std.proofs.lemmas.List.Edits.{length-remove}
-use Rattle.std.proofs.lemmas.Option.{slice_get_within}
-use Rattle.fib_base_list.proofs.Lists.{either, Contains-nil}
+use Rattle.std.proofs.lemmas.Bool.{false≢true}
+use Rattle.fib_base_list.proofs.Lists.{Contains-nil}
 use Rattle.fib_addr.specs.Prefixes.{Prefix}
 use Rattle.fib_cover.specs.Covers.{prefix_cmp, IsAscending}
 use Rattle.fib_cover.proofs.Order.{prefix_total}
@@ -16,11 +13,10 @@ use Rattle.fib_resolve_changes.proofs.Edits.{in_cases, in_front, in_rest}
 use Rattle.fib_base_interned.proofs.Finding.{some_is, none_some, contains_at}
 use Rattle.fib_base_interned.specs.Interned.{kept_of}
 use Rattle.fib_resolve.specs.declared.types.Path.{Path}
-use Rattle.fib_entries_rows.specs.Known.{PathKept, content_of, prefix_of}
-use Rattle.fib_entries_rows.specs.inner.Plies.{own_size, entry_at, entry_before, before_of, IsGap}
-use Rattle.fib_entries_rows.specs.Rows.{Row}
+use Rattle.fib_entries_rows.specs.Known.{PathKept, content_of}
+use Rattle.fib_entries_rows.specs.inner.Plies.{IsGap}
 use Rattle.fib_entries_rows.proofs.Looking.{never}
-use Rattle.fib_entries_rows.proofs.PlyOrder.{index_of, ordered_at}
+use Rattle.fib_entries_rows.proofs.PlyOrder.{index_of}
 
 module _ {X : Type 0} where
   pub removed_from : (xs : List X) (k : ℕ) (own s : X) → slice_get xs k ≡ Some own → Contains (remove xs k) s → (j : ℕ) × (j ≢ k) × (slice_get xs j ≡ Some s)
@@ -37,18 +33,6 @@ module _ {X : Type 0} where
   removed_in (x ∷ xs) zero (suc j) s at off = contains_at xs j s at
   removed_in (x ∷ xs) (suc k) zero s at off = in_front x s (remove xs k) (some_is x s at)
   removed_in (x ∷ xs) (suc k) (suc j) s at off = in_rest x s (remove xs k) (removed_in xs k j s at (λ e. off (omega (arith, e))))
-
-  pub get_removed_low : (xs : List X) (k j : ℕ) (own : X) → slice_get xs k ≡ Some own → j < k → slice_get (remove xs k) j ≡ slice_get xs j
-  get_removed_low [] k j own at lt = absurd (none_some own at)
-  get_removed_low (x ∷ xs) zero j own at lt = absurd (omega (arith, lt))
-  get_removed_low (x ∷ xs) (suc k) zero own at lt = refl
-  get_removed_low (x ∷ xs) (suc k) (suc j) own at lt = get_removed_low xs k j own at (omega (arith, lt))
-
-  pub get_removed_high : (xs : List X) (k j : ℕ) (own : X) → slice_get xs k ≡ Some own → k ≤ j → slice_get (remove xs k) j ≡ slice_get xs (suc j)
-  get_removed_high [] k j own at le = absurd (none_some own at)
-  get_removed_high (x ∷ xs) zero j own at le = refl
-  get_removed_high (x ∷ xs) (suc k) zero own at le = absurd (omega (arith, le))
-  get_removed_high (x ∷ xs) (suc k) (suc j) own at le = get_removed_high xs k j own at (omega (arith, le))
 
   pub removed_each : (P : X → Type 0) (xs : List X) (k : ℕ) (own : X) → slice_get xs k ≡ Some own → AllByRecursion P xs → AllByRecursion P (remove xs k)
   removed_each P [] k own at all = absurd (none_some own at)
@@ -84,12 +68,6 @@ module _ {X : Type 0} where
   insert_back [] (suc k) own le = absurd (omega (arith, le))
   insert_back (x ∷ xs) zero own le = refl
   insert_back (x ∷ xs) (suc k) own le = ap (λ l. x ∷ l) (insert_back xs k own (omega (arith, le)))
-
-  -- what went comes back
-  pub remove_back : (xs : List X) (k : ℕ) (own : X) → slice_get xs k ≡ Some own → insert (remove xs k) k own ≡ xs
-  remove_back [] k own at = absurd (none_some own at)
-  remove_back (x ∷ xs) zero own at = ap (λ y. y ∷ xs) (sym (some_is x own at))
-  remove_back (x ∷ xs) (suc k) own at = ap (λ l. x ∷ l) (remove_back xs k own at)
 
   pub each_by : (P : X → Type 0) (xs : List X) → ((j : ℕ) (x : X) → slice_get xs j ≡ Some x → P x) → AllByRecursion P xs
   each_by P [] f = tt
@@ -170,70 +148,6 @@ same_order (x ∷ xs) (y ∷ ys) a b same =
         | inr later ↦ later
       ],
     )))
-
--- where a member goes, its place is left between the others
-pub gap_removed : (order : List Prefix) → IsAscending order → (k : ℕ) (p : Prefix) → slice_get order k ≡ Some p → IsGap (remove order k) k p
-gap_removed order asc k p at =
-    let lt = slice_get_within order k p at in
-    let len = length-remove order k lt in
-    record {
-      inside = omega (arith, lt, len);
-      before = λ j q there low. ordered_at order asc j k q p low (sym (get_removed_low order k j p at low) ∙ there) at;
-      after = λ j q there high. ordered_at order asc k (suc j) p q (omega (arith, high)) at (sym (get_removed_high order k j p at high) ∙ there);
-    }
-
--- what is a member doesn't belong between members
-pub gap_absent : (order : List Prefix) (k : ℕ) (p : Prefix) → IsGap order k p → Contains order p → ⊥
-gap_absent order k p gap c =
-    let g = index_of order p c in
-    elim (cases_lt g.0 k) [ inl low ↦ never p (gap.before g.0 p g.1 low) | inr high ↦ never p (gap.after g.0 p g.1 high) ]
-
--- entries by places of rows
-entry_at_is : (rows : List Row) (k : ℕ) → entry_at rows k ≡ slice_get (map prefix_of rows) k
-entry_at_is [] k = refl
-entry_at_is (r ∷ rs) zero = refl
-entry_at_is (r ∷ rs) (suc k) = entry_at_is rs k
-
-entry_before_is : (rows : List Row) (k : ℕ) → entry_before rows k ≡ before_of (map prefix_of rows) k
-entry_before_is rows zero = refl
-entry_before_is rows (suc m) =
-    ap (λ b. if b then None else entry_at rows (suc m - 1)) (off m) ∙ (ap (entry_at rows) (less m) ∙ entry_at_is rows m)
-  where
-    off : (m : ℕ) → (suc m == 0) ≡ false
-    off m = elim (either (suc m == 0)) [ inr isnt ↦ isnt | inl is ↦ (let e = (Decides-eqb (suc m) 0).0 is in absurd (omega (arith, e))) ]
-
-    less : (m : ℕ) → suc m - 1 ≡ m
-    less m = omega arith
-
--- what a prefix that comes makes, and what one that goes made
-pub size_came : (rows : List Row) (k : ℕ) (p : Prefix) → own_size p (entry_before rows k) (entry_at rows k) ≡ own_size p (before_of (map prefix_of rows) k) (slice_get (map prefix_of rows) k)
-size_came rows k p = ap (λ o. own_size p o (entry_at rows k)) (entry_before_is rows k) ∙ ap (own_size p (before_of (map prefix_of rows) k)) (entry_at_is rows k)
-
-pub size_left : (rows : List Row) (k : ℕ) (p : Prefix) → own_size p (entry_before rows k) (entry_at rows (k + 1)) ≡ own_size p (before_of (map prefix_of rows) k) (slice_get (map prefix_of rows) (suc k))
-size_left rows k p = ap (λ o. own_size p o (entry_at rows (k + 1))) (entry_before_is rows k) ∙ ap (own_size p (before_of (map prefix_of rows) k)) (entry_at_is rows (k + 1) ∙ ap (slice_get (map prefix_of rows)) (next k))
-  where
-    next : (k : ℕ) → k + 1 ≡ suc k
-    next k = omega arith
-
-pub before_removed : (order : List Prefix) (k : ℕ) (p : Prefix) → slice_get order k ≡ Some p → before_of (remove order k) k ≡ before_of order k
-before_removed order zero p at = refl
-before_removed order (suc m) p at = get_removed_low order (suc m) m p at (omega arith)
-
-pub size_gone : (rows : List Row) (k : ℕ) (p : Prefix) → slice_get (map prefix_of rows) k ≡ Some p
-    → own_size p (entry_before rows k) (entry_at rows (k + 1)) ≡ own_size p (before_of (remove (map prefix_of rows) k) k) (slice_get (remove (map prefix_of rows) k) k)
-size_gone rows k p at =
-    ap (λ o. own_size p o (entry_at rows (k + 1))) (entry_before_is rows k ∙ sym (before_removed (map prefix_of rows) k p at))
-    ∙ ap (own_size p (before_of (remove (map prefix_of rows) k) k)) (entry_at_is rows (k + 1) ∙ (ap (slice_get (map prefix_of rows)) (next k) ∙ sym (get_removed_high (map prefix_of rows) k k p at (omega arith))))
-  where
-    next : (k : ℕ) → k + 1 ≡ suc k
-    next k = omega arith
-
-pub zip_inside : (P : Row → Row → Type 0) (xs ys : List Row) (k : ℕ) → AllZip P xs ys → k < length xs → k < length ys
-zip_inside P [] [] k a lt = lt
-zip_inside P [] (y ∷ ys) k a lt = absurd a
-zip_inside P (x ∷ xs) [] k a lt = absurd a
-zip_inside P (x ∷ xs) (y ∷ ys) zero a lt = omega arith
-zip_inside P (x ∷ xs) (y ∷ ys) (suc k) a lt = (let r = zip_inside P xs ys k a.1 (omega (arith, lt)) in omega (arith, r))
 
 -- what is kept has a content
 pub some_list : (lists : List PathKept) (id : ℕ) → IsSome (kept_of lists id) → (paths : List Path) × (content_of lists id ≡ Some paths)

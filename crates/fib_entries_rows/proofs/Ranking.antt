@@ -34,23 +34,23 @@ length_set [] i v = refl
 length_set (x ∷ xs) zero v = refl
 length_set (x ∷ xs) (suc i) v = ap suc (length_set xs i v)
 
--- the nodes of the first places have these as ranks
-pub record AreRanked (order ranks : List ℕ) (nodes done : ℕ) : Type 0 where
+-- the nodes of the first places have these as ranks, from the base up
+pub record AreRanked (base : ℕ) (order ranks : List ℕ) (nodes done : ℕ) : Type 0 where
   pub len : length ranks ≡ nodes
   pub once : AllDiffer order
   pub all : (x : ℕ) → Contains order x ↔ x < nodes
-  pub ranked : (k : ℕ) → k < done → slice_index ranks (slice_index order k) ≡ k
+  pub ranked : (k : ℕ) → k < done → slice_index ranks (slice_index order k) ≡ base + k
 
-pub none_ranked : (order ranks : List ℕ) (nodes : ℕ) (edges : List (ℕ × ℕ)) (m : Marked) → IsMarked nodes edges m → m.order ≡ order → length ranks ≡ nodes → AreRanked order ranks nodes 0
-none_ranked order ranks nodes edges m is same len = record {
+pub none_ranked : (base : ℕ) (order ranks : List ℕ) (nodes : ℕ) (edges : List (ℕ × ℕ)) (m : Marked) → IsMarked nodes edges m → m.order ≡ order → length ranks ≡ nodes → AreRanked base order ranks nodes 0
+none_ranked base order ranks nodes edges m is same len = record {
   len = len;
   once = subst AllDiffer same is.once;
   all = λ x. subst (λ l. Contains l x ↔ x < nodes) same (is.all x);
   ranked = λ k lt. absurd (omega (arith, lt));
 }
 
-pub place_fits : (order ranks : List ℕ) (nodes done : ℕ) → AreRanked order ranks nodes done → done < length order → slice_index order done < length ranks
-place_fits order ranks nodes done h lt =
+pub place_fits : (base : ℕ) (order ranks : List ℕ) (nodes done : ℕ) → AreRanked base order ranks nodes done → done < length order → slice_index order done < length ranks
+place_fits base order ranks nodes done h lt =
     let low = (h.all (slice_index order done)).0 (done, lt, same_default order done lt) in
     let len = h.len in omega (arith, low, len)
   where
@@ -59,13 +59,13 @@ place_fits order ranks nodes done h lt =
     same_default (x ∷ xs) zero lt = refl
     same_default (x ∷ xs) (suc i) lt = same_default xs i (omega (arith, lt))
 
-pub one_ranked : (order ranks : List ℕ) (nodes done rank : ℕ) → AreRanked order ranks nodes done → done < length order → rank ≡ done → AreRanked order (slice_set ranks (slice_index order done) rank) nodes (done + 1)
-one_ranked order ranks nodes done rank h lt same = record {
+pub one_ranked : (base : ℕ) (order ranks : List ℕ) (nodes done rank : ℕ) → AreRanked base order ranks nodes done → done < length order → rank ≡ base + done → AreRanked base order (slice_set ranks (slice_index order done) rank) nodes (done + 1)
+one_ranked base order ranks nodes done rank h lt same = record {
   len = length_set ranks (slice_index order done) rank ∙ h.len;
   once = h.once;
   all = h.all;
   ranked = λ k low. elim (cases_eq k done) [
-    | inl is ↦ ap (λ z. slice_index (slice_set ranks (slice_index order done) rank) (slice_index order z)) is ∙ set_there ranks (slice_index order done) rank (place_fits order ranks nodes done h lt) ∙ same ∙ sym is
+    | inl is ↦ ap (λ z. slice_index (slice_set ranks (slice_index order done) rank) (slice_index order z)) is ∙ set_there ranks (slice_index order done) rank (place_fits base order ranks nodes done h lt) ∙ same ∙ ap (λ z. base + z) (sym is)
     | inr off ↦ (let before : k < done = below k done low off in
         set_other ranks (slice_index order done) (slice_index order k) rank (differ_at order h.once k done before lt) ∙ h.ranked k before)
   ];
@@ -75,9 +75,9 @@ one_ranked order ranks nodes done rank h lt same = record {
     below k n low off = elim (cases_lt k n) [ inl l ↦ l | inr ge ↦ absurd (off (omega (arith, low, ge))) ]
 
 -- once all are ranked, ranks fall along edges that lie on no cycle
-pub ranks_fall : (order ranks : List ℕ) (nodes done : ℕ) (edges : List (ℕ × ℕ)) (m : Marked) → IsMarked nodes edges m → m.order ≡ order → AreRanked order ranks nodes done → length order ≤ done
+pub ranks_fall : (base : ℕ) (order ranks : List ℕ) (nodes done : ℕ) (edges : List (ℕ × ℕ)) (m : Marked) → IsMarked nodes edges m → m.order ≡ order → AreRanked base order ranks nodes done → length order ≤ done
     → ((d : ℕ × ℕ) → Contains edges d → IsLooped edges d → ⊥) → (d : ℕ × ℕ) → Contains edges d → slice_index ranks d.1 < slice_index ranks d.0
-ranks_fall order ranks nodes done edges m is same h full none d c =
+ranks_fall base order ranks nodes done edges m is same h full none d c =
     let quiet : slice_index_or m.looped c.0 false ≡ false = unmarked (slice_index_or m.looped c.0 false) (λ t. none d c (subst (IsLooped edges) c.2 ((is.loops c.0 d c.1).0 t))) in
     let stands = subst (λ l. StandsBefore l (slice_index_or edges c.0 d).1 (slice_index_or edges c.0 d).0) same (is.targets_first c.0 d c.1 quiet) in
     let first = h.ranked stands.0 (let lt = stands.2 in let within = stands.3 in omega (arith, lt, within, full)) in

@@ -5,7 +5,7 @@ use Rattle.std.specs.List.{AllZip}
 use Rattle.std.specs.Cmp.Lexicographic.{pointwise}
 use Rattle.std.proofs.lemmas.Bool.{cases_eq}
 use Rattle.std.proofs.lemmas.Bool.Decides.{Decides-eqb}
-use Rattle.fib_base_list.proofs.Lists.{either, Contains-nil}
+use Rattle.fib_base_list.proofs.Lists.{either}
 use Rattle.fib_resolve.specs.Keys.{same_path}
 use Rattle.fib_resolve.specs.declared.pairs.Pair.{Pair}
 use Rattle.fib_resolve.specs.declared.types.Path.{Path}
@@ -116,9 +116,6 @@ module _ (old new : List PathKept) (content : List Path) (id : ℕ) (t : Takes o
         | inr isnt ↦ isnt
         | inl same ↦ absurd (off (one_number new apart k.id id content (ap (option_map (λ z. z.content)) (found_by new apart k c) ∙ ap Some (sym (list_is x.paths k.content same) ∙ is)) content_new))
       ]
-
-pub none_taken : AreTaken [] [] []
-none_taken = record { each = tt; users = λ k c. absurd (Contains-nil k c) }
 
 pub few_users : (lists : List PathKept) (xs : List Pair) (ids : List ℕ) (content : List Path) (most : ℕ) → AreTaken lists xs ids → length xs < most → IsUsedLess lists content most
 few_users lists xs ids content most h few = record { less = λ k c _. (let n = h.users k c in let le = count_by-le-length (λ x. pointwise same_path x.paths k.content) xs in omega (arith, n, le, few)) }

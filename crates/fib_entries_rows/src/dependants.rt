@@ -1,6 +1,5 @@
 // The entries with an edge to one, found without a search.
-ghost use Rattle.std.specs.Prelude.{◌≡◌, ◌↔◌, ◌-◌, ◌++◌, ◌∷◌, [], false, length, take, IfOk, OnOk, OnErr, IsTrue};
-ghost use Rattle.std.specs.List.{position};
+ghost use Rattle.std.specs.Prelude.{◌≡◌, ◌-◌, ◌++◌, ◌∷◌, [], false, length, take, IfOk, OnOk, OnErr};
 ghost use Rattle.std.specs.Set.{is_member};
 ghost use Rattle.fib_addr.specs.Prefixes.{same_prefix};
 ghost use Rattle.fib_reach.specs.Walks.{AllDiffer};
@@ -61,25 +60,11 @@ impl Dependants {
         self.held.as_slice()
     }
 
-    /// Whether there is none.
-    pub fn is_empty(&self) -> bool
-        ensures { IsTrue result ↔ (self.now ≡ []) }
-    {
-        self.as_slice().is_empty()
-    }
-
     /// Whether the prefix is among them.
     pub fn has(&self, p: Prefix) -> bool
         ensures { result ≡ is_member same_prefix self.now p }
     {
         self.held.contains(&p)
-    }
-
-    /// The place of the prefix in their order.
-    pub fn place(&self, p: Prefix) -> Option<usize>
-        ensures { result ≡ position (same_prefix p) self.now }
-    {
-        self.held.get_index_of(&p)
     }
 
     /// The prefix becomes the last.

@@ -11,10 +11,10 @@ use Rattle.fib_resolve.specs.Pairs.{cover, entries, is_short}
 use Rattle.fib_resolve.specs.declared.types.Tables.{Tables}
 use Rattle.fib_resolve.proofs.Covering.{cover_longest, filter_from, filter_in}
 
-whole_prefix : IsPrefix everything
+pub whole_prefix : IsPrefix everything
 whole_prefix = record { short = omega arith; fits = omega arith; cleared = refl }
 
-short_in : (p : Prefix) → p.len < 32 → is_short p ≡ true
+pub short_in : (p : Prefix) → p.len < 32 → is_short p ≡ true
 short_in p lt = grind (arith, nat_tests)
 
 -- the longest match of a set

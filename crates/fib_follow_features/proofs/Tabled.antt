@@ -33,7 +33,7 @@ use Rattle.fib_resolve_changes.specs.Ranks.{has_entry}
 use Rattle.fib_resolve_changes.proofs.CauseLaws.{any_from}
 use Rattle.fib_resolve_changes.proofs.Edits.{any_in, in_cases, in_front}
 use Rattle.fib_resolve_changes.proofs.SamePairs.{base, derived, derived_host, flat_map_from, from_origin, map_from, map_in, neighbor}
-use Rattle.fib_resolve_changes.proofs.Targets.{pair_entry}
+use Rattle.fib_resolve_changes.proofs.Targets.{near_there, pair_entry}
 use Rattle.fib_resolve_pairs.proofs.Members.{filter_map_from}
 use Rattle.fib_base_interned.proofs.Finding.{none_some, some_is}
 use Rattle.fib_entries_rows.specs.Known.{ArePairs, IsHeld, Known, StandsFor, content_of, prefix_of}
@@ -45,7 +45,6 @@ use Rattle.fib_follow_features.specs.Holders.{Holders, IsFound, holders}
 use Rattle.fib_follow_features.specs.declared.feature.Feature.{Feature}
 use Rattle.fib_follow_features.specs.declared.feature.Feature.TheVariants as features
 use Rattle.fib_follow_features.proofs.Covered.{cover_told}
-use Rattle.fib_follow_features.proofs.Same.{number_self}
 
 some_in : {X : Type 0} (o : Option X) (x : X) → o ≡ Some x → Contains (option_to_list o) x
 some_in o x is = subst (λ z. Contains (option_to_list z) x) (sym is) (0, omega arith, refl)
@@ -102,17 +101,6 @@ hop_is kinds.Cover a is = absurd (none_some a is)
 derived_by_cover : (S : Tables) (a : ℕ) → is_by_cover (derived_pair S a).source ≡ true
 unfolding derived_pair
 derived_by_cover S a = refl
-
--- the pair of a neighbor that is attached
-near_there : (S : Tables) (n : Neighbor) (i : ℕ) → n.interface ≡ i → attached_by S n.addr ≡ Some i
-    → Contains (neighbor_pairs S n) (one (host n.addr) sources.Adjacency (kinds.Hop n.addr n.interface))
-unfolding neighbor_pairs
-near_there S n i same at =
-    let is : is_interface (attached_by S n.addr) n.interface ≡ true = ap (λ o. is_interface o n.interface) (at ∙ ap Some (sym same))
-    ∙ number_self n.interface in
-    subst (λ b. Contains (cond b (one (host n.addr) sources.Adjacency (kinds.Hop n.addr n.interface) ∷ []) [])
-    (one (host n.addr) sources.Adjacency (kinds.Hop n.addr n.interface)))
-    (sym is) (0, omega arith, refl)
 
 base_route : (S : Tables) (r : Route) → Contains S.routes r → Contains (base_pairs S) (route_pair r)
 unfolding base_pairs

@@ -1,6 +1,7 @@
 // By what an entry is found.
 ghost use Rattle.std.specs.Prelude.{◌≡◌, ◌++◌, List, OnOk, IfOk, flat_map, map, option_to_list};
 ghost use Rattle.std.specs.List.{list_any};
+ghost use Rattle.fib_addr.specs.Prefixes.{Prefix as PrefixValue};
 ghost use Rattle.fib_entries_rows.specs.Known.{PathKept};
 ghost use Rattle.fib_entries_rows.specs.inner.Compare.{AreKept};
 ghost use Rattle.fib_follow_features.specs.FoundBy.{chosen_list, cover_among, end_of, features_of, held_list, host_under, is_by_cover};
@@ -252,6 +253,36 @@ fn pair_under(e: Prefix, cover: Prefix, pairs: &[Pair]) -> Option<Feature>
     }
 }
 
+/// The same where that is its cover.
+fn under_cover(e: Prefix, cover: Prefix, held: &[(FibSource, PathListId)]) -> Option<Feature>
+    ensures { (lists : List PathKept) → result ≡ under_of e cover (map (held_list lists) held.now) }
+{
+    if has_by_cover(held) {
+        host_under(e, cover)
+    } else {
+        None
+    }
+}
+
+/// By what an entry is found that has these lists, and that feature by its cover.
+fn list_features(
+    alloc: Global,
+    lists: &PathLists,
+    e: Prefix,
+    held: &[(FibSource, PathListId)],
+    under: Option<Feature>,
+) -> Result<Vec<Feature>, AllocError>
+    requires { AreKept lists.now held.now }
+    ensures { IfOk result (λ v. (cover : PrefixValue) → under ≡ under_of e cover (map (held_list lists.now) held.now)
+        → v.items ≡ features_of e cover (map (held_list lists.now) held.now)) }
+{
+    let mut out = Vec::new(alloc);
+    add_paths(&mut out, e, first_held(lists, held))?;
+    add_held(&mut out, lists, held)?;
+    add(&mut out, under)?;
+    Ok(out)
+}
+
 /// By what an entry is found that has these lists.
 fn held_features(
     alloc: Global,
@@ -263,11 +294,7 @@ fn held_features(
     requires { AreKept lists.now held.now }
     ensures { IfOk result (λ v. v.items ≡ features_of e (cover_among order.now e) (map (held_list lists.now) held.now)) }
 {
-    let mut out = Vec::new(alloc);
-    add_paths(&mut out, e, first_held(lists, held))?;
-    add_held(&mut out, lists, held)?;
-    add(&mut out, held_under(order, e, held))?;
-    Ok(out)
+    list_features(alloc, lists, e, held, held_under(order, e, held))
 }
 
 /// By what the entry of a row is found. Its cover is the longest of the prefixes below 32 that contains it.
@@ -281,6 +308,20 @@ pub fn row_features(
     ensures { IfOk result (λ v. v.items ≡ row_features lists.now order.now row.now) }
 {
     held_features(alloc, lists, order, row.prefix, row.pairs())
+}
+
+/// By what the entry of a row is found where that is its cover, which is of no meaning for a prefix shorter than 32.
+pub fn features_under(
+    alloc: Global,
+    lists: &PathLists,
+    cover: Prefix,
+    row: &Row,
+) -> Result<Vec<Feature>, AllocError>
+    requires { AreKept lists.now row.now.pairs }
+    ensures { IfOk result (λ v. v.items ≡ features_of row.now.prefix cover (map (held_list lists.now) row.now.pairs)) }
+{
+    let under = under_cover(row.prefix, cover, row.pairs());
+    list_features(alloc, lists, row.prefix, row.pairs(), under)
 }
 
 /// By what an entry with that cover and these pairs is found, the best of which stands first. The cover is of no meaning for a prefix

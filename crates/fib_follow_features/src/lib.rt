@@ -12,4 +12,4 @@ pub mod laws;
 
 pub use feature::Feature;
 pub use features::Features;
-pub use found_by::{cover_among, pair_features, row_features};
+pub use found_by::{cover_among, features_under, pair_features, row_features};

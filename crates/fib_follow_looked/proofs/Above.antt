@@ -43,13 +43,13 @@ match_moves xs ys limit a le same = by
       λ q m. h.1 q (back q m),
     )
 
-beside_test : (others : List Prefix) (q : Prefix) → (Contains others q → ⊥) → is_beside others q ≡ true
+pub beside_test : (others : List Prefix) (q : Prefix) → (Contains others q → ⊥) → is_beside others q ≡ true
 beside_test others q off = elim (either (is_member same_prefix others q)) [
   | inl is ↦ absurd (off (is_member_in others q is))
   | inr isnt ↦ ap not isnt
 ]
 
-test_beside : (others : List Prefix) (q : Prefix) → is_beside others q ≡ true → Contains others q → ⊥
+pub test_beside : (others : List Prefix) (q : Prefix) → is_beside others q ≡ true → Contains others q → ⊥
 test_beside others q h c = false≢true (ap not (sym (member_is others q c)) ∙ h)
 
 -- the longest match, where it is one of the others, is passed over
@@ -109,7 +109,7 @@ module _ (xs ys : List Prefix) (limit a : ℕ) where
     | inr c ↦ inr (record { prefix = m.prefix; member = c; short = m.short; matches = m.matches })
   ]
 
-  longest_both : (p q : Option Prefix) → IsLongestMatch xs limit a p → IsLongestMatch ys limit a q → IsLongestMatch (xs ++ ys) limit a (longer_match p q)
+  pub longest_both : (p q : Option Prefix) → IsLongestMatch xs limit a p → IsLongestMatch ys limit a q → IsLongestMatch (xs ++ ys) limit a (longer_match p q)
   longest_both None None h k = λ r m. elim (in_one r m) [ inl x ↦ h r x | inr y ↦ k r y ]
   longest_both None (Some q) h k = (in_right q k.0, λ r m. elim (in_one r m) [ inl x ↦ absurd (h r x) | inr y ↦ k.1 r y ])
   longest_both (Some p) None h k = (in_left p h.0, λ r m. elim (in_one r m) [ inl x ↦ h.1 r x | inr y ↦ absurd (k r y) ])

@@ -17,4 +17,4 @@ pub use ask::{Ask, asks};
 pub use look::looked;
 pub use named::{Named, is_hop_after};
 pub use other::{Around, changed};
-pub use shorts::{Shorts, Turn, Turned};
+pub use shorts::{Shorts, Turn, Turned, longer, longest_beside};

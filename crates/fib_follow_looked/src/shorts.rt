@@ -192,7 +192,7 @@ fn that_turn(alloc: Global, turned: &[Turned], how: Turn) -> Result<PrefixSet, A
 }
 
 /// The longest member below the limit that contains the address and isn't one of the others.
-fn longest_beside(order: &PrefixSet, others: &PrefixSet, addr: Addr, limit: u8) -> Option<Prefix>
+pub fn longest_beside(order: &PrefixSet, others: &PrefixSet, addr: Addr, limit: u8) -> Option<Prefix>
     requires { limit ≤ 32 }
     ensures { IsLongestMatch (filter (is_beside others.now) order.now) limit addr result }
 {
@@ -208,7 +208,7 @@ fn longest_beside(order: &PrefixSet, others: &PrefixSet, addr: Addr, limit: u8) 
 }
 
 /// The longer of two.
-fn longer(a: Option<Prefix>, b: Option<Prefix>) -> Option<Prefix>
+pub fn longer(a: Option<Prefix>, b: Option<Prefix>) -> Option<Prefix>
     ensures { result ≡ longer_match a b }
 {
     match a {

@@ -26,14 +26,14 @@ each_in P [] h = tt
 each_in P (x ∷ xs) h = (h x (in_front x x xs refl), each_in P xs (λ y c. h y (in_rest x y xs c)))
 
 -- an order that has each node once is no longer than they are many
-order_short : (order ranks : List ℕ) (nodes done : ℕ) → AreRanked order ranks nodes done → length order ≤ nodes
+order_short : (order ranks : List ℕ) (nodes done : ℕ) → AreRanked 0 order ranks nodes done → length order ≤ nodes
 order_short order ranks nodes done h =
     let le = length-le_from_differ order (upto nodes) h.once (each_in (Contains (upto nodes)) order (λ x c. upto_has nodes x ((h.all x).0 c))) in
     let n = upto_length nodes in
     omega (arith, le, n)
 
 -- once all are numbered each number is below their count
-pub numbers_below : (order ranks : List ℕ) (nodes done : ℕ) → AreRanked order ranks nodes done → length order ≤ done → (n : ℕ) → Contains ranks n → n < nodes
+pub numbers_below : (order ranks : List ℕ) (nodes done : ℕ) → AreRanked 0 order ranks nodes done → length order ≤ done → (n : ℕ) → Contains ranks n → n < nodes
 numbers_below order ranks nodes done h full n (i, lt, is) =
     let len = h.len in
     let x = (h.all i).1 (omega (arith, lt, len)) in
@@ -42,7 +42,7 @@ numbers_below order ranks nodes done h full n (i, lt, is) =
     let ranked = h.ranked k (omega (arith, inside, full)) in
     let here : slice_index order k ≡ i = index_is order k i inside x.2 in
     let value : slice_index ranks i ≡ n = index_is ranks i n lt is in
-    let own : n ≡ k = sym value ∙ (ap (slice_index ranks) (sym here) ∙ ranked) in
+    let own : n ≡ 0 + k = sym value ∙ (ap (slice_index ranks) (sym here) ∙ ranked) in
     let short = order_short order ranks nodes done h in
     omega (arith, own, inside, short)
   where

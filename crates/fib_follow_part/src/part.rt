@@ -1,5 +1,6 @@
 // The part of the entries to which changed ones lead.
-ghost use Rattle.std.specs.Prelude.{◌≡◌, true, map, IfOk};
+ghost use Rattle.std.specs.Prelude.{◌≡◌, true, map, IfOk, position};
+ghost use Rattle.fib_addr.specs.Prefixes.{same_prefix};
 ghost use Rattle.fib_resolve.specs.Loops.{looped_kind};
 ghost use Rattle.fib_resolve.specs.Pairs.{chosen};
 ghost use Rattle.fib_resolve.specs.declared.types.Tables.{Tables as TablesValue};
@@ -103,6 +104,13 @@ impl Part {
         ensures { result ≡ in_part self.now e }
     {
         self.seen.has(e)
+    }
+
+    /// The place of the prefix among them, or None where it isn't one.
+    pub fn place(&self, e: Prefix) -> Option<usize>
+        ensures { result ≡ position (same_prefix e) self.now.members }
+    {
+        self.seen.place(e)
     }
 
     /// The edges that are left without looped paths, by places among the members.

@@ -1,5 +1,5 @@
 -- The plan of what entries become: what was made anew comes, goes or gets its pairs, and the rows that are written get their marks and ranks.
-use Rattle.std.specs.Prelude.{ℕ, ◌&&◌, not, Bool, false, List, map, filter, Option, Some, None}
+use Rattle.std.specs.Prelude.{ℕ, ◌&&◌, not, Bool, false, List, [], ◌∷◌, map, filter, Option, Some, None, if◌then◌else◌}
 use Rattle.std.specs.Set.{is_member}
 use Rattle.fib_addr.specs.Prefixes.{Prefix, same_prefix}
 use Rattle.fib_resolve.specs.declared.pairs.Pair.{Pair}
@@ -16,6 +16,10 @@ use Rattle.fib_follow_write.specs.declared.plan.Listed.{Listed}
 use Rattle.fib_follow_write.specs.declared.plan.Marks.{Marks}
 use Rattle.fib_follow_write.specs.declared.plan.Paired.{Paired}
 use Rattle.fib_follow_write.specs.declared.writing.Plan.{Plan}
+
+-- that one, where it passes
+abbrev pub only : {X : Type 0} → Bool → X → List X
+only b x = if b then x ∷ [] else []
 
 -- the prefix is an entry after the change
 abbrev pub has_pairs : Anew → Bool

@@ -42,6 +42,21 @@ impl Drop for Body {
     }
 }
 
+impl Body {
+    /// The looped, the met and the marked list, taken out of the body: with a Drop of its own it comes apart here alone.
+    pub fn into_lists(self) -> (List<bool>, List<bool>, List<Marked>)
+        ensures { result ≡ (self.looped, self.met, self.marked) }
+    {
+        let Body {
+            prefix: _,
+            looped,
+            met,
+            marked,
+        } = self;
+        (looped, met, marked)
+    }
+}
+
 /// For each path of the chosen list that the prefix had, whether it was looped.
 fn looped_before(alloc: Global, view: &View<'_>, e: Prefix) -> Result<Vec<bool>, AllocError>
     ensures { IfOk result (λ v. v.items ≡ looped_row (row_of view.now.before.rows e)) }

@@ -1,5 +1,6 @@
 // The edges that come and go.
 ghost use Rattle.std.specs.Prelude.{◌≡◌, ◌++◌, [], OnOk, IfOk, flat_map};
+ghost use Rattle.fib_reach.specs.Walks.{AllDiffer};
 ghost use Rattle.fib_resolve.specs.declared.types.Tables.{Tables as TablesValue};
 ghost use Rattle.fib_follow_view.specs.Views.{IsAfter};
 ghost use Rattle.fib_follow_view.specs.inner.Told.{next_before, next_in};
@@ -95,7 +96,8 @@ fn add_both(
 
 /// The edges that come with the change and those that go with it, each once. An error means that memory ran out.
 pub fn edges_of(alloc: Global, view: &View<'_>) -> Result<Edges, AllocError>
-    ensures { IfOk result (λ x. (S T : TablesValue) → IsAfter view.now S T → AreEdges S T x) }
+    ensures edges { IfOk result (λ x. (S T : TablesValue) → IsAfter view.now S T → AreEdges S T x) }
+    ensures once { IfOk result (λ x. AllDiffer x.come) }
 {
     let mut come = List::new(alloc);
     let mut go = List::new(alloc);

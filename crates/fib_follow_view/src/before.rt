@@ -74,6 +74,15 @@ impl<'a> Before<'a> {
         }
     }
 
+    /// The rows of the entries before, in order of bits, then length.
+    pub fn rows(&self) -> &'a Blocks<Row>
+        ensures rows { result.now ≡ self.now.rows }
+        ensures held { AreHeld self.now.rows self.now.lists }
+        ensures ordered { IsAscending (map prefix_of self.now.rows) }
+    {
+        self.rows
+    }
+
     /// The path-lists that the rows name.
     pub fn lists(&self) -> &'a PathLists
         ensures { result.now ≡ self.now.lists }

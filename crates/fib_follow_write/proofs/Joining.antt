@@ -27,7 +27,7 @@ use Rattle.fib_entries_rows.proofs.PlyOrder.{index_of}
 use Rattle.fib_entries_rows.proofs.Standing.{row_there}
 use Rattle.fib_entries_rows.proofs.Taking.{list_self}
 use Rattle.fib_entries_rows.proofs.Using.{recounted}
-use Rattle.fib_follow_write.specs.Plans.{IsPlan, IsWritten, renewed}
+use Rattle.fib_follow_write.specs.Plans.{IsBase, IsPlan, IsWritten, renewed}
 use Rattle.fib_follow_write.specs.Steps.{AreTaken}
 use Rattle.fib_follow_write.specs.Written.{AreKept, AreUnled, GivesPairs, HaveCome, HaveGone, HaveJoined, HaveLeft, IsNumbered, IsSourced, IsSpent, IsUnled}
 use Rattle.fib_follow_write.specs.Written.{blank, changed, is_list, led, lists_of, marked, paired_prefix, pairs_at, pairs_in, sourced, upon, with_marks}
@@ -70,7 +70,8 @@ sourced_names ss r = changed_field sourced prefix_of (λ s q. upon_field s.prefi
 pub marked_names : (ms : List Marks) (r : Row) → (changed marked ms r).prefix ≡ r.prefix
 marked_names ms r = changed_field marked prefix_of (λ m q. upon_field m.prefix (with_marks m) prefix_of (λ z. refl) q) ms r
 
-marked_pairs : (ms : List Marks) (r : Row) → (changed marked ms r).pairs ≡ r.pairs
+-- marks leave a row's pairs as they are
+pub marked_pairs : (ms : List Marks) (r : Row) → (changed marked ms r).pairs ≡ r.pairs
 marked_pairs ms r = changed_field marked pairs_of (λ m q. upon_field m.prefix (with_marks m) pairs_of (λ z. refl) q) ms r
 
 -- a row's pairs are its own or those that it got
@@ -116,7 +117,8 @@ zip_pairs_at (x ∷ xs) (y ∷ ys) a q = elim (either (same_prefix q x.prefix)) 
   | inr isnt ↦ ap pairs_in (found_later y ys q (ap (same_prefix q) a.0.0 ∙ isnt)) ∙ (zip_pairs_at xs ys a.1 q ∙ ap pairs_in (sym (found_later x xs q isnt)))
 ]
 
-zip_in : (P : Row → Row → Type 0) (xs ys : List Row) → AllZip P xs ys → (x : Row) → Contains xs x → (y : Row) × Contains ys y × P x y
+-- a row of the first list has its partner in the second
+pub zip_in : (P : Row → Row → Type 0) (xs ys : List Row) → AllZip P xs ys → (x : Row) → Contains xs x → (y : Row) × Contains ys y × P x y
 zip_in P [] [] a x c = absurd (Contains-nil x c)
 zip_in P [] (y ∷ ys) a x c = absurd a
 zip_in P (z ∷ xs) [] a x c = absurd a
@@ -140,13 +142,15 @@ pairs_at_off (s ∷ ss) rows q off =
     twice [] = refl
     twice (r ∷ rows) = ap (λ l. changed sourced ss (sourced s r) ∷ l) (twice rows)
 
-changed_off : (ss : List Sourced) (y : Row) → (Contains (map (λ s. s.prefix) ss) y.prefix → ⊥) → (changed sourced ss y).pairs ≡ y.pairs
+-- a row keeps its pairs where none of the changes is of its prefix
+pub changed_off : (ss : List Sourced) (y : Row) → (Contains (map (λ s. s.prefix) ss) y.prefix → ⊥) → (changed sourced ss y).pairs ≡ y.pairs
 changed_off [] y off = refl
 changed_off (s ∷ ss) y off =
     ap (λ z. (changed sourced ss z).pairs) (upon_off s.prefix (with_pairs s.pairs) y (λ is. off (in_front s.prefix y.prefix (map (λ z. z.prefix) ss) is)))
     ∙ changed_off ss y (λ c. off (in_rest s.prefix y.prefix (map (λ z. z.prefix) ss) c))
 
-changed_own : (ss : List Sourced) (y : Row) (z : Sourced) → AllDiffer (map (λ s. s.prefix) ss) → Contains ss z → z.prefix ≡ y.prefix
+-- a row gets the pairs of the one change that is of its prefix
+pub changed_own : (ss : List Sourced) (y : Row) (z : Sourced) → AllDiffer (map (λ s. s.prefix) ss) → Contains ss z → z.prefix ≡ y.prefix
     → (changed sourced ss y).pairs ≡ z.pairs
 changed_own [] y z once c own = absurd (Contains-nil z c)
 changed_own (s ∷ ss) y z once c own =
@@ -189,7 +193,8 @@ module _ (lists : List PathKept) (paths : List Path) where
       ∙ (ap₂ (λ m n. m + n) (numbered_pairs b.pairs s.pairs a.0.1) (numbered_all bs ss a.1)
       ∙ sym (count_append (is_list paths) b.pairs (lists_of bs)))
 
-numbered_prefixes : (lists : List PathKept) (bs : List Paired) (ss : List Sourced) → AllZip (IsSourced lists) bs ss
+-- the entries have the prefixes of what they were made of
+pub numbered_prefixes : (lists : List PathKept) (bs : List Paired) (ss : List Sourced) → AllZip (IsSourced lists) bs ss
     → map (λ s. s.prefix) ss ≡ map paired_prefix bs
 numbered_prefixes lists [] [] a = refl
 numbered_prefixes lists [] (s ∷ ss) a = absurd a
@@ -476,6 +481,28 @@ module _ (plan : Plan) (entries : List Sourced) (old rows : List Row) (before li
       renewed_prefix x = marked_names plan.marks (changed sourced entries (changed led plan.edges_in x))
           ∙ (sourced_names entries (changed led plan.edges_in x) ∙ led_field prefix_of (λ e q. refl) plan.edges_in x)
 
+      base_pairs : (x : Row) → (Contains (map paired_prefix plan.paired) x.prefix → ⊥) → (renewed plan entries x).pairs ≡ x.pairs
+      base_pairs x off =
+          let led_x = changed led plan.edges_in x in
+          marked_pairs plan.marks (changed sourced entries led_x)
+          ∙ (changed_off entries led_x (λ c. off (subst (Contains (map paired_prefix plan.paired)) (led_field prefix_of (λ e q. refl) plan.edges_in x)
+          (subst (λ l. Contains l led_x.prefix) entries_prefixes c)))
+          ∙ led_field pairs_of (λ e q. refl) plan.edges_in x)
+
+      found_new : (x : Row) → IsBase old plan x → (Contains plan.gone x.prefix → ⊥) → (y : Row) × Contains new y
+          × IsUnled plan.edges_out (renewed plan entries x) y
+      found_new x base off =
+          let y = zip_in (IsUnled plan.edges_out) low high unled (renewed plan entries x) (low_in x ((came.rows x).1 base)) in
+          (y.0, (went.rows y.0).1 (y.1, λ d. off (subst (Contains plan.gone) (y.2.prefix ∙ renewed_prefix x) d)), y.2)
+
+      names_still : (x : Row) (q : FibSource × ℕ) → Contains old x → Contains x.pairs q → (Contains (map paired_prefix plan.paired) x.prefix → ⊥)
+          → (Contains plan.gone x.prefix → ⊥) → content_of later q.1 ≡ content_of before q.1
+      names_still x q there c off stays =
+          let y = found_new x (inl there) stays in
+          let has : Contains y.0.pairs q = subst (λ l. Contains l q) (sym (y.2.pairs ∙ base_pairs x off)) c in
+          let k = some_list before q.1 (u.held x q there c) in
+          new_later y.0 q y.1 has ∙ (sym (new_kept y.0 q y.1 has).1 ∙ (r.taken.takes.stays u.used q.1 k.0 k.1 ∙ sym k.1))
+
       -- all was written
       pub written : IsWritten plan old new before later set
       written = record {
@@ -483,8 +510,8 @@ module _ (plan : Plan) (entries : List Sourced) (old rows : List Row) (before li
         numbered = numbered_on lists later plan.paired entries r.taken.numbered entry_later;
         rows = λ z c. (let w = (went.rows z).0 c in let y = zip_from (IsUnled plan.edges_out) low high unled z w.0 in let x = low_from y.0 y.1 in
             (w.1, x.0, (came.rows x.0).0 x.1, subst (λ a. IsUnled plan.edges_out a z) (sym x.2) y.2));
-        found = λ x base off. (let y = zip_in (IsUnled plan.edges_out) low high unled (renewed plan entries x) (low_in x ((came.rows x).1 base)) in
-            (y.0, (went.rows y.0).1 (y.1, λ d. off (subst (Contains plan.gone) (y.2.prefix ∙ renewed_prefix x) d)), y.2));
+        found = found_new;
         stays = λ id paths pos is. gives.stays id paths (subst (λ n. 0 < n) (sym (later_count paths)) pos) (r.taken.takes.stays u.used id paths is);
+        names = names_still;
         used = used;
       }

@@ -3,6 +3,7 @@ use Rattle.std.specs.Prelude.{◌≡◌, ◌⊎◌, ◌<◌, ℕ, List, Some, Co
 use Rattle.std.specs.List.{AllZip}
 use Rattle.fib_reach.specs.Walks.{AllDiffer}
 use Rattle.fib_addr.specs.Prefixes.{Prefix}
+use Rattle.fib_resolve.specs.declared.types.FibSource.{FibSource}
 use Rattle.fib_resolve.specs.declared.types.Path.{Path}
 use Rattle.fib_entries_rows.specs.Known.{PathKept, content_of, prefix_of}
 use Rattle.fib_entries_rows.specs.Rows.{Row}
@@ -41,4 +42,7 @@ pub record IsWritten (plan : Plan) (old new : List Row) (lists later : List Path
       × IsUnled plan.edges_out (renewed plan entries r) s
   pub stays : (id : ℕ) (paths : List Path) → 0 < named_count later new paths → content_of lists id ≡ Some paths
       → content_of later id ≡ Some paths
+  -- a row that gets no other pairs and stays names the lists that it named
+  pub names : (r : Row) (q : FibSource × ℕ) → Contains old r → Contains r.pairs q → (Contains (map paired_prefix plan.paired) r.prefix → ⊥)
+      → (Contains plan.gone r.prefix → ⊥) → content_of later q.1 ≡ content_of lists q.1
   pub used : AreUsed new later order

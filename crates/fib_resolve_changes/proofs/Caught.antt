@@ -151,7 +151,7 @@ hosted_known S a = elim (either (list_any (λ b. b == a) (all_hops S))) [
         some_is : (m n : ℕ) → Some m ≡ Some n → m ≡ n
         some_is m n e = (cc)
 
-module _ (list : List Change) (S T : Tables) (looked changed : Prefix → Bool) (sound_before : IsSound S) (sound : IsSound T) (d : Differ list S T) (good_before : ArePrefixes S) (good : ArePrefixes T) (small : AreAddresses S)
+module _ (list : List Change) (S T : Tables) (looked changed : Prefix → Bool) (sound_before : IsSound S) (sound : IsSound T) (d : Differ list S T) (good_before : ArePrefixes S) (good : ArePrefixes T) (small : AreAddresses S T)
     (h : AreLooked list S T looked changed) where
   not_own : (q : Prefix) → looked q ≡ false → own_in list q ≡ false
   not_own q off = elim (either (own_in list q)) [ inl is ↦ absurd (clash (looked q) (h.own q is) off) | inr isnt ↦ isnt ]
@@ -179,11 +179,11 @@ module _ (list : List Change) (S T : Tables) (looked changed : Prefix → Bool) 
   -- numbers that are no address
   far_before : (a : ℕ) → 2 ^ 32 ≤ a → IsHosted S a → ⊥
   far_before a far (inl hop) = (let lt = small.hops a hop in omega (arith, lt, far))
-  far_before a far (inr w) = (let lt = small.near w.0 a w.1 in omega (arith, lt, far))
+  far_before a far (inr w) = (let lt = small.near w.0 a w.1 w.2 in omega (arith, lt, far))
 
   far_after : (a : ℕ) → 2 ^ 32 ≤ a → looked (host a) ≡ false → IsHosted T a → ⊥
   far_after a far off (inl hop) = (let lt = small.hops a ((hops_same a off).1 hop) in omega (arith, lt, far))
-  far_after a far off (inr w) = (let lt = small.near w.0 a ((near_same a w.0 off).1 w.1) in omega (arith, lt, far))
+  far_after a far off (inr w) = (let lt = small.near_after w.0 a w.1 w.2 in omega (arith, lt, far))
 
   at_host : (a : ℕ) → looked (host a) ≡ false → SameEntry S T (host a)
   at_host a off = elim (either (nat_lt a (2 ^ 32))) [
@@ -225,5 +225,5 @@ module _ (list : List Change) (S T : Tables) (looked changed : Prefix → Bool) 
           with_len : ℕ → ℕ → Prefix
           with_len b n = record { bits = b; len = n }
 
-pub looks_catch : (list : List Change) (S T : Tables) (looked changed : Prefix → Bool) → IsSound S → IsSound T → Differ list S T → ArePrefixes S → ArePrefixes T → AreAddresses S → AreLooked list S T looked changed → IsCaught S T changed
+pub looks_catch : (list : List Change) (S T : Tables) (looked changed : Prefix → Bool) → IsSound S → IsSound T → Differ list S T → ArePrefixes S → ArePrefixes T → AreAddresses S T → AreLooked list S T looked changed → IsCaught S T changed
 looks_catch = caught

@@ -1,9 +1,10 @@
 -- Each edge leads to an entry.
-use Rattle.std.proofs.Common.{is_some, arith, ◌≡◌, ℕ, suc, true, List, [], ◌∷◌, Option, Some, None, inl, inr, refl, sym, ◌∙◌, ap, subst}
+use Rattle.std.proofs.Common.{is_some, arith, ◌≡◌, ℕ, suc, true, cond, List, [], ◌∷◌, Option, Some, None, inl, inr, refl, sym, ◌∙◌, ap, subst}
 use Rattle.std.specs.Prelude.{Contains, nat_lt, IfSome, filter_map}
 use Rattle.std.specs.List.{AllByRecursion}
 use Rattle.std.specs.Set.{is_member}
 use Rattle.std.proofs.lemmas.Bool.{false≢true}
+use Rattle.std.proofs.lemmas.Bool.Decides.{Decides-eqb}
 use Rattle.std.proofs.lemmas.Map.Views.{Contains-from_any}
 use Rattle.fib_base_list.proofs.Lists.{Contains-flat_map, Contains-nil}
 use Rattle.fib_addr.specs.Prefixes.{Prefix, host, masked, same_prefix}
@@ -25,8 +26,8 @@ use Rattle.fib_resolve.proofs.Entries.{is_entry}
 use Rattle.fib_resolve.proofs.OneList.{groups_have, one_if, one_unless}
 use Rattle.fib_resolve.proofs.PairLaws.{best_has, longest_has, each-all}
 use Rattle.fib_base_list.proofs.Lists.{each-flat_map, each-append}
-use Rattle.fib_resolve_changes.specs.Sources.{all_hops}
-use Rattle.fib_resolve_changes.proofs.SamePairs.{from_origin, base, derived, flat_map_from}
+use Rattle.fib_resolve_changes.specs.Sources.{HasNeighbor, all_hops}
+use Rattle.fib_resolve_changes.proofs.SamePairs.{from_origin, base, derived, flat_map_from, neighbor}
 use Rattle.fib_resolve_changes.proofs.Edits.{any_in, in_cases}
 use Rattle.fib_resolve_changes.proofs.Covers.{short_from, whole_there}
 
@@ -120,6 +121,26 @@ pair_entry S x e c is = is_entry S e ∙ any_in (λ y. same_prefix e y.prefix) (
 pub hop_entry : (S : Tables) (a : ℕ) → Contains (all_hops S) a → is_member same_prefix (entries S) (host a) ≡ true
 unfolding derived_pair
 hop_entry S a c = pair_entry S (derived_pair S a) (host a) (from_origin S (derived_pair S a) (derived a c refl)) refl
+
+-- the pair of a neighbor that is attached
+pub near_there : (S : Tables) (n : Neighbor) (i : ℕ) → n.interface ≡ i → attached_by S n.addr ≡ Some i
+    → Contains (neighbor_pairs S n) (one (host n.addr) sources.Adjacency (kinds.Hop n.addr n.interface))
+unfolding neighbor_pairs
+near_there S n i same at =
+    let is : is_interface (attached_by S n.addr) n.interface ≡ true = ap (λ o. is_interface o n.interface) (at ∙ ap Some (sym same))
+    ∙ (Decides-eqb n.interface n.interface).1 refl in
+    subst (λ b. Contains (cond b (one (host n.addr) sources.Adjacency (kinds.Hop n.addr n.interface) ∷ []) [])
+    (one (host n.addr) sources.Adjacency (kinds.Hop n.addr n.interface)))
+    (sym is) (0, omega arith, refl)
+
+-- its host is an entry
+pub near_entry : (S : Tables) (i a : ℕ) → HasNeighbor S i a → attached_by S a ≡ Some i → Contains (entries S) (host a)
+near_entry S i a near at =
+    let n = near.0 in
+    let x = one (host n.addr) sources.Adjacency (kinds.Hop n.addr n.interface) in
+    let there = near_there S n i near.2 (ap (attached_by S) near.3 ∙ at) in
+    Contains-from_any (λ x y. (same_prefix-Decides x y).0) (host a) (entries S)
+    (pair_entry S x (host a) (from_origin S x (neighbor n near.1 there)) (ap host near.3))
 
 pub cover_entry : (S : Tables) (a : ℕ) → is_member same_prefix (entries S) (cover S a) ≡ true
 unfolding cover

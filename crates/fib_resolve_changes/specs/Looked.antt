@@ -55,7 +55,8 @@ pub record AreLooked (list : List Change) (S T : Tables) (looked changed : Prefi
   pub went : (a : ℕ) → looked (host a) ≡ false → (q c : Prefix) (i : ℕ) → Contains (short_prefixes S) q
       → (Contains (short_prefixes T) q → ⊥) → contains q a ≡ true → IsAbove T q c → attached_at T c ≡ Some i → HasNeighbor T i a → ⊥
 
--- next hops and neighbors are addresses
-pub record AreAddresses (S : Tables) : Type 0 where
+-- next hops are addresses, and so are neighbors on the interface to which their cover attaches them
+pub record AreAddresses (S T : Tables) : Type 0 where
   pub hops : (a : ℕ) → Contains (all_hops S) a → a < 2 ^ 32
-  pub near : (i a : ℕ) → HasNeighbor S i a → a < 2 ^ 32
+  pub near : (i a : ℕ) → HasNeighbor S i a → attached_by S a ≡ Some i → a < 2 ^ 32
+  pub near_after : (i a : ℕ) → HasNeighbor T i a → attached_by T a ≡ Some i → a < 2 ^ 32

@@ -151,7 +151,7 @@ pub fn changes_name_sources()
 /// What is looked at, as the changes and the covers name it, has each entry that is another.
 pub fn looks_catch_changes()
     ensures { (list : List Change) (S T : Tables) (looked changed : Prefix → Bool) → IsSound S → IsSound T → Differ list S T →
-        ArePrefixes S → ArePrefixes T → AreAddresses S → AreLooked list S T looked changed → IsCaught S T changed }
+        ArePrefixes S → ArePrefixes T → AreAddresses S T → AreLooked list S T looked changed → IsCaught S T changed }
 {}
 
 /// How much larger tables are after a change is told by what comes, goes and changes: by how many of these are objects of each.

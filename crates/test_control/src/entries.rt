@@ -323,6 +323,37 @@ fn follows_ends(alloc: Global, entries: &mut Entries, config: &mut Config) -> Re
     Ok(true)
 }
 
+/// Whether the entries that follow an edit and the next one at once are as if made anew.
+fn follows_both(
+    alloc: Global,
+    entries: &mut Entries,
+    config: &mut Config,
+    number: u32,
+) -> Result<bool, Fail>
+    requires { number < 9 }
+{
+    let first = config.change(&edit_of_end(alloc, number)?)?;
+    let second = config.change(&edit_of_end(alloc, number + 1)?)?;
+    entries.follow_changes(config, &[first.change, second.change], 1000)?;
+    Ok(are_as_anew(alloc, entries, config)?)
+}
+
+fn follows_batches(
+    alloc: Global,
+    entries: &mut Entries,
+    config: &mut Config,
+) -> Result<bool, Fail> {
+    if !has_four(alloc, entries, config)? {
+        return Ok(false);
+    }
+    for pair in 0..5u32 {
+        if !follows_both(alloc, entries, config, 2 * pair)? {
+            return Ok(false);
+        }
+    }
+    Ok(true)
+}
+
 fn is_right(
     alloc: Global,
     entries: &mut Entries,
@@ -331,6 +362,7 @@ fn is_right(
 ) -> Result<bool, Fail> {
     match scene {
         0 => makes_a_host(alloc, entries, config),
+        1 => follows_batches(alloc, entries, config),
         _ => Ok(follows_all(alloc, entries, config)? && follows_ends(alloc, entries, config)?),
     }
 }
@@ -347,10 +379,10 @@ fn plays(alloc: Global, scene: u32) -> Result<bool, Fail> {
 }
 
 // A recursive route makes a host; each of the five changes of the second route is followed in its row, and then what becomes of a link and of
-// routes over it.
+// routes over it, one edit at a time and two at once.
 #[test]
 fn what_entries_follow(rt: HostRuntime) -> Result<(), Fail> {
-    for scene in 0..2 {
+    for scene in 0..3 {
         if !plays(rt.alloc(), scene)? {
             return Err("a scene went otherwise".into());
         }

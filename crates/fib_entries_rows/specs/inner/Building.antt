@@ -1,5 +1,5 @@
 -- What stands while entries are made anew. No contract of a public call rests on this.
-use Rattle.std.specs.Prelude.{◌≡◌, ◌↔◌, ◌⊎◌, true, ◌<◌, ℕ, Bool, List, length, count_by, Contains, Option, Some, None, IsSome, slice_get, slice_index}
+use Rattle.std.specs.Prelude.{◌≡◌, ◌↔◌, true, ◌<◌, ℕ, Bool, List, length, count_by, Contains, Option, Some, None, IsSome, slice_get, slice_index}
 use Rattle.std.specs.Prelude.{slice_index_or, slice_set, option_map, position, ◌&&◌, ◌+◌, ◌*◌}
 use Rattle.std.specs.List.{AllZip, list_any, position_from}
 use Rattle.std.specs.Set.{is_member}
@@ -76,10 +76,6 @@ IsKeptEdge S order d = (e : Prefix) × (t : Prefix) × (slice_get order d.0 ≡ 
 -- those of the first places
 abbrev pub AreKeptEdges : Tables → List Prefix → ℕ → List (ℕ × ℕ) → Type 0
 AreKeptEdges S order done edges = (d : ℕ × ℕ) → Contains edges d ↔ (d.0 < done) × IsKeptEdge S order d
-
--- those of one place to the first places are added
-abbrev pub AddsEdges : Tables → List Prefix → ℕ → ℕ → List (ℕ × ℕ) → List (ℕ × ℕ) → Type 0
-AddsEdges S order from done old new = (d : ℕ × ℕ) → Contains new d ↔ Contains old d ⊎ ((d.0 ≡ from) × (d.1 < done) × IsKeptEdge S order d)
 
 -- the rows of the first entries in order
 pub record AreRows (lists : List PathKept) (S : Tables) (order : List Prefix) (ranks : List ℕ) (done : ℕ) (rows : List Row) : Type 0 where

@@ -1,11 +1,9 @@
 -- The plies that an entry alone makes, told by the entries before and after it in order. No contract of a public call rests on this.
-use Rattle.std.specs.Prelude.{◌≡◌, ℕ, ◌+◌, ◌-◌, ◌*◌, ◌/◌, ◌==◌, ◌<◌, ◌≤◌, Bool, ◌&&◌, ◌||◌, not, cond, zero, suc, false, List, Option, Some, None}
-use Rattle.std.specs.Prelude.{slice_get, nat_lt, length, option_map, if◌then◌else◌}
+use Rattle.std.specs.Prelude.{◌≡◌, ℕ, ◌+◌, ◌-◌, ◌*◌, ◌<◌, ◌≤◌, Bool, ◌&&◌, ◌||◌, not, cond, zero, suc, false, List, Option, Some, None}
+use Rattle.std.specs.Prelude.{slice_get, nat_lt, length}
 use Rattle.std.specs.declared.cmp.Ordering.TheVariants.{Less}
 use Rattle.fib_addr.specs.Prefixes.{Prefix, masked, same_prefix}
 use Rattle.fib_cover.specs.Covers.{prefix_cmp}
-use Rattle.fib_entries_rows.specs.Known.{prefix_of}
-use Rattle.fib_entries_rows.specs.Rows.{Row}
 
 -- the ply at that depth on the way to the first is on the way to the second too
 abbrev pub is_on_way : Prefix → ℕ → Option Prefix → Bool
@@ -20,17 +18,6 @@ is_own p before after depth = nat_lt 0 depth && not (is_on_way p depth before ||
 abbrev pub own_below : Prefix → Option Prefix → Option Prefix → ℕ → ℕ
 own_below p before after zero = 0
 own_below p before after (suc n) = own_below p before after n + cond (is_own p before after n) 1 0
-
--- how many objects the entry of p makes in plies of its own and itself
-abbrev pub own_size : Prefix → Option Prefix → Option Prefix → ℕ
-own_size p before after = own_below p before after ((p.len + 3) / 4) + 1
-
--- the entry at that place, and that before it
-abbrev pub entry_at : List Row → ℕ → Option Prefix
-entry_at rows place = option_map prefix_of (slice_get rows place)
-
-abbrev pub entry_before : List Row → ℕ → Option Prefix
-entry_before rows place = if place == 0 then None else entry_at rows (place - 1)
 
 -- the prefix before a place in order
 abbrev pub before_of : List Prefix → ℕ → Option Prefix

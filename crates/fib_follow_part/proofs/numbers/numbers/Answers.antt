@@ -5,15 +5,15 @@ use Rattle.fib_follow_part.proofs.Numbering.{numbers_below}
 use Rattle.fib_follow_part.proofs.numbers.numbers.Goals as goal
 
 pub loop-place-init : goal.loop-place-init
-loop-place-init c = none_ranked c.order-order.result.now c.in_ok-out.out.items c.args.nodes c.args.edges.now c.in_ok-marks.marks c.in_ok-marks.ensures (sym c.order-order.ensures) (let a = c.in_ok-out.ensures.len in let b = c.in_ok-out.out.ok in search (a, b))
+loop-place-init c = none_ranked 0 c.order-order.result.now c.in_ok-out.out.items c.args.nodes c.args.edges.now c.in_ok-marks.marks c.in_ok-marks.ensures (sym c.order-order.ensures) (let a = c.in_ok-out.ensures.len in let b = c.in_ok-out.out.ok in search (a, b))
 
 pub index_mut-requires : goal.index_mut-requires
 index_mut-requires c = let p =
-    place_fits c.order-order.result.now c.loop-place.out.items c.args.nodes c.loop-place.place c.loop-place.invariant c.loop-place-test.true
+    place_fits 0 c.order-order.result.now c.loop-place.out.items c.args.nodes c.loop-place.place c.loop-place.invariant c.loop-place-test.true
     in subst (λ n. slice_index c.order-order.result.now c.loop-place.place < n) (sym c.loop-place.out.ok.0) p
 
 pub loop-place-preserved : goal.loop-place-preserved
-loop-place-preserved c = one_ranked c.order-order.result.now c.loop-place.out.items c.args.nodes c.loop-place.place c.in-Ok.number c.loop-place.invariant c.loop-place-test.true c.in-Ok.ensures.1
+loop-place-preserved c = one_ranked 0 c.order-order.result.now c.loop-place.out.items c.args.nodes c.loop-place.place c.in-Ok.number c.loop-place.invariant c.loop-place-test.true c.in-Ok.ensures.1
 
 pub returns-clause-len : goal.returns-clause-len
 returns-clause-len c = c.loop-place.invariant.len
@@ -22,4 +22,4 @@ pub returns-clause-below : goal.returns-clause-below
 returns-clause-below c = numbers_below c.order-order.result.now c.loop-place.out.items c.args.nodes c.loop-place.place c.loop-place.invariant c.loop-place-test.false
 
 pub returns-clause-falls : goal.returns-clause-falls
-returns-clause-falls c = ranks_fall c.order-order.result.now c.loop-place.out.items c.args.nodes c.loop-place.place c.args.edges.now c.in_ok-marks.marks c.in_ok-marks.ensures (sym c.order-order.ensures) c.loop-place.invariant c.loop-place-test.false
+returns-clause-falls c = ranks_fall 0 c.order-order.result.now c.loop-place.out.items c.args.nodes c.loop-place.place c.args.edges.now c.in_ok-marks.marks c.in_ok-marks.ensures (sym c.order-order.ensures) c.loop-place.invariant c.loop-place-test.false

@@ -32,8 +32,8 @@ changed-preserved c =
       edges_step (Goes v) from place x.prefix c.changed.go c.add_both.new.go here c.changed.invariant.1 c.in_ok-add_both.ensures.go differ,
     )
 
-pub returns : goal.returns
-returns c = λ S T h.
+pub returns-clause-edges : goal.returns-clause-edges
+returns-clause-edges c = λ S T h.
     let v = c.args.view.now in
     let is = c.changed-changed.ensures.changed in
     let over = c.changed-test.false in
@@ -43,3 +43,6 @@ returns c = λ S T h.
     edges_are v S T h c.changed.place (omega (arith, over, n, m, k)) (record { come = c.changed.come; go = c.changed.go })
     (subst (λ l. AreEdgesFrom (Comes v) (map anew_prefix l) c.changed.place c.changed.come) is c.changed.invariant.0)
     (subst (λ l. AreEdgesFrom (Goes v) (map anew_prefix l) c.changed.place c.changed.go) is c.changed.invariant.1)
+
+pub returns-clause-once : goal.returns-clause-once
+returns-clause-once c = c.changed.invariant.0.once

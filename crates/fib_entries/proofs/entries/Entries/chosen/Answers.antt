@@ -17,7 +17,7 @@ pub content-requires : goal.content-requires
 content-requires c =
     let at = sym c.in-Some.ensures in
     let t = row_there c.self.inside.rows c.args.prefix c.in-Some.r.now at in
-    c.self.invariant.held c.in-Some.r.now c.in-Some-first.field-0.now t.0
+    c.self.invariant.used.held c.in-Some.r.now c.in-Some-first.field-0.now t.0
     (contains_at c.in-Some.r.now.pairs 0 c.in-Some-first.field-0.now (ap (λ l. slice_get l 0) (sym c.pairs.ensures) ∙ sym c.in-Some-first.ensures.value))
 
 pub returns-in-Some-first : goal.returns-in-Some-first

@@ -20,7 +20,7 @@ pub returns-in-Some-clause-kept : goal.returns-in-Some-clause-kept
 returns-in-Some-clause-kept c = λ p k.
     let at = sym c.in-Some.ensures in
     let t = row_there c.self.inside.rows c.args.prefix c.in-Some.r.now at in
-    let held = c.self.invariant.held c.in-Some.r.now p t.0 (subst (λ l. Contains l p) c.pairs.ensures k) in
+    let held = c.self.invariant.used.held c.in-Some.r.now p t.0 (subst (λ l. Contains l p) c.pairs.ensures k) in
     subst (λ z. IsSome (kept_of z.lists p.1)) c.self.view_is held
 
 pub returns-in-None-clause-kept : goal.returns-in-None-clause-kept

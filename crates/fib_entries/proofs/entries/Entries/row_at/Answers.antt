@@ -8,10 +8,10 @@ pub returns-clause-found : goal.returns-clause-found
 returns-clause-found c =
     let lt = subst (λ (v : Known). c.args.place < length v.rows) (sym c.self.view_is) c.requires in
     subst (λ (v : Known). row_of v.rows c.index.result.now.prefix ≡ Some c.index.result.now) c.self.view_is
-    (row_is c.self.inside.rows c.self.invariant.ordered c.index.result.now (c.args.place, lt, sym c.index.ensures))
+    (row_is c.self.inside.rows c.self.invariant.used.ordered c.index.result.now (c.args.place, lt, sym c.index.ensures))
 
 pub returns-clause-held : goal.returns-clause-held
 returns-clause-held c =
     let lt = subst (λ (v : Known). c.args.place < length v.rows) (sym c.self.view_is) c.requires in
     subst (λ (v : Known). AreKept v.lists c.index.result.now.pairs) c.self.view_is
-    (λ p k. c.self.invariant.held c.index.result.now p (c.args.place, lt, sym c.index.ensures) k)
+    (λ p k. c.self.invariant.used.held c.index.result.now p (c.args.place, lt, sym c.index.ensures) k)

@@ -15,4 +15,4 @@ kept_here rows lists e (Some r) held is = λ p c. held r.now p (row_there rows e
 pub returns-clause-held : goal.returns-clause-held
 returns-clause-held c =
     subst (λ (v : Known). IfSome c.row.result (λ r. AreKept v.lists r.now.pairs)) c.self.view_is
-    (kept_here c.self.inside.rows c.self.inside.lists c.args.prefix c.row.result c.self.invariant.held (c.row.ensures))
+    (kept_here c.self.inside.rows c.self.inside.lists c.args.prefix c.row.result c.self.invariant.used.held (c.row.ensures))

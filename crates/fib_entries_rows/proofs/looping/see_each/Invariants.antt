@@ -1,5 +1,0 @@
-use Rattle.fib_entries_rows.proofs.Loopings.{SeesFirst}
-use Rattle.fib_entries_rows.proofs.looping.see_each.Given as goal
-
-abbrev pub invariant-list : goal.invariant-list
-invariant-list l = SeesFirst l.list l.place l.fn.seen l.seen
