@@ -109,10 +109,13 @@ module _ (v : Seen) (S T : Tables) (sets : List Holders) (h : IsAfter v S T)
       let w = any_from (is_beside v x) (holders sets (features.End x)) t in
       let e = w.0 in
       let b = and_both (not (is_changed v.changed e)) (has_end x e (row_list e)) w.2 in
-      let p = any_from (λ q. is_end x e q.kind) (row_list e) b.1 in
-      (e, not_true (is_changed v.changed e) b.0, Contains-flat_map (λ q. kind_adjacency e q.kind) (chosen S e) p.0 x
-      (subst (λ l. Contains l p.0) (row_chosen v.before S h.stands e) p.1)
-      (Contains-from_any adjacency_is x (kind_adjacency e p.0.kind) p.2))
+      let p = any_from (λ q. is_end x e q.kind) (row_list e) b.1 in (
+        e,
+        not_true (is_changed v.changed e) b.0,
+        Contains-flat_map (λ q. kind_adjacency e q.kind) (chosen S e) p.0 x
+            (subst (λ l. Contains l p.0) (row_chosen v.before S h.stands e) p.1)
+            (Contains-from_any adjacency_is x (kind_adjacency e p.0.kind) p.2),
+      )
 
   held_there : (x : Adjacency) → IsBeside v S x → is_held v sets x ≡ true
   held_there x (e, isnt, c) =

@@ -28,10 +28,10 @@ pub hosts_step : (sets : List Holders) (asks : List Ask) (k : ℕ) (ask : Ask) (
 hosts_step sets asks k ask old found new here before short is grown x c = elim ((take_in asks k ask x here).0 c) [
   | inl early ↦ ((before x early).0, λ e d. subst (λ l. Contains l e) (sym grown) (Contains-append_left old found e ((before x early).1 e d)))
   | inr same ↦ (
-      subst IsShortAsk same short,
-      λ e d. subst (λ l. Contains l e) (sym grown)
-          (Contains-append_right old found e (subst (λ l. Contains l e) (sym is) (subst (λ z. Contains (hosts_of sets z) e) (sym same) d))),
-    )
+    subst IsShortAsk same short,
+    λ e d. subst (λ l. Contains l e) (sym grown)
+        (Contains-append_right old found e (subst (λ l. Contains l e) (sym is) (subst (λ z. Contains (hosts_of sets z) e) (sym same) d))),
+  )
 ]
 
 pub hosts_whole : (sets : List Holders) (asks : List Ask) (k : ℕ) (hosts : List Prefix) → length asks ≤ k → AreHostsOf sets (take k asks) hosts

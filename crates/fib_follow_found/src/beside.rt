@@ -44,11 +44,7 @@ fn all_needing(
 }
 
 /// The entries over a changed interface, and those with the Hop end of a changed neighbor.
-fn over_or_at(
-    alloc: Global,
-    features: &Features,
-    change: Change,
-) -> Result<Vec<Prefix>, AllocError>
+fn over_or_at(alloc: Global, features: &Features, change: Change) -> Result<Vec<Prefix>, AllocError>
     ensures { IfOk result (λ v. v.items ≡ over_or_at features.now change) }
 {
     match change {

@@ -49,11 +49,11 @@ fn are_some_beside(view: &View<'_>, end: Adjacency, found: &PrefixSet) -> bool
 }
 
 /// Whether an entry beside the changed ones has that Hop end.
-fn is_held(view: &View<'_>, features: &Features, end: Adjacency) -> bool
-    ensures { result ≡ is_held view.now features.now end }
+fn is_held(view: &View<'_>, features: &Features, end: &Adjacency) -> bool
+    ensures { result ≡ is_held view.now features.now end.now }
 {
-    match features.holders(Feature::End(end)) {
-        Some(found) => are_some_beside(view, end, found),
+    match features.holders(Feature::End(*end)) {
+        Some(found) => are_some_beside(view, *end, found),
         None => false,
     }
 }
@@ -79,8 +79,8 @@ fn held_among(
 {
     let mut held = HashSet::new(alloc);
     'ends: for place in 0..ends.len() {
-        let end = ends[place];
-        add_if(&mut held, is_held(view, features, end), end)?;
+        let end = &ends[place];
+        add_if(&mut held, is_held(view, features, end), *end)?;
     }
     Ok(held)
 }

@@ -12,6 +12,6 @@ mod hops;
 mod listed;
 
 pub use asked::answered;
+pub use beside::others;
 pub use ends::held_ends;
 pub use hops::hops_after;
-pub use beside::others;
