@@ -192,7 +192,12 @@ fn that_turn(alloc: Global, turned: &[Turned], how: Turn) -> Result<PrefixSet, A
 }
 
 /// The longest member below the limit that contains the address and isn't one of the others.
-pub fn longest_beside(order: &PrefixSet, others: &PrefixSet, addr: Addr, limit: u8) -> Option<Prefix>
+pub fn longest_beside(
+    order: &PrefixSet,
+    others: &PrefixSet,
+    addr: Addr,
+    limit: u8,
+) -> Option<Prefix>
     requires { limit ≤ 32 }
     ensures { IsLongestMatch (filter (is_beside others.now) order.now) limit addr result }
 {

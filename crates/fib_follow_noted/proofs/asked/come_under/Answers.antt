@@ -8,9 +8,9 @@ use Rattle.fib_follow_noted.proofs.asked.come_under.Goals as goal
 pub returns-then-is_entry : goal.returns-then-is_entry
 returns-then-is_entry c = λ z new h.
     absurd (new (entry_there c.args.view.now.before.rows c.args.q
-    (sym (c.is_entry.ensures.value ∙ ap (λ b. is_row (row_of b.rows c.args.q)) c.before.ensures) ∙ c.if-is_entry.true)))
+    (sym (c.is_entry.ensures.value ∙ ap (λ b. is_row (row_of b.rows c.args.q)) c.before-2.ensures) ∙ c.if-is_entry.true)))
 
 pub returns : goal.returns
 returns c = λ z new h.
     ap Some (c.above.ensures z (subst (λ l. IsNearest l c.args.q z)
-    (sym (c.order.ensures.same ∙ ap (λ b. map prefix_of b.rows) c.before-2.ensures)) h))
+    (sym (c.order.ensures.same ∙ ap (λ b. map prefix_of b.rows) c.before-3.ensures)) h))

@@ -14,14 +14,14 @@ returns-then-is_changed-clause-seen c = λ r off at. absurd (false≢true (sym o
 
 pub returns-in-Some-clause-grows : goal.returns-in-Some-clause-grows
 returns-in-Some-clause-grows c =
-    let at = ap (λ b. row_of b.rows c.args.e) (sym c.before.ensures) ∙ sym c.in-Some.ensures.value in
+    let at = ap (λ b. row_of b.rows c.args.e) (sym c.before-2.ensures) ∙ sym c.in-Some.ensures.value in
     on_ok_weaker c.push_row.result
     (λ y. (row_grows c.args.view.now c.args.covers.now c.args.out.now.items c.push_row.new.out.items c.in-Some.row.now c.args.e at
     (sym c.is_changed.ensures ∙ c.if-is_changed.false) y).0) c.push_row.ensures
 
 pub returns-in-Some-clause-seen : goal.returns-in-Some-clause-seen
 returns-in-Some-clause-seen c =
-    let at = ap (λ b. row_of b.rows c.args.e) (sym c.before.ensures) ∙ sym c.in-Some.ensures.value in
+    let at = ap (λ b. row_of b.rows c.args.e) (sym c.before-2.ensures) ∙ sym c.in-Some.ensures.value in
     on_ok_weaker c.push_row.result
     (λ y r off there. (row_grows c.args.view.now c.args.covers.now c.args.out.now.items c.push_row.new.out.items c.in-Some.row.now c.args.e at
     (sym c.is_changed.ensures ∙ c.if-is_changed.false) y).1) c.push_row.ensures
@@ -31,4 +31,4 @@ returns-in-None-clause-grows c = grows_none c.args.view.now c.args.covers.now c.
 
 pub returns-in-None-clause-seen : goal.returns-in-None-clause-seen
 returns-in-None-clause-seen c = λ r off at.
-    absurd (none_some r (c.in-None.ensures.value ∙ (ap (λ b. row_of b.rows c.args.e) c.before.ensures ∙ at)))
+    absurd (none_some r (c.in-None.ensures.value ∙ (ap (λ b. row_of b.rows c.args.e) c.before-2.ensures ∙ at)))

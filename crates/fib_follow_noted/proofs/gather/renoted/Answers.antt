@@ -16,8 +16,8 @@ returns c = λ p ranks bodies x noted fits.
     let early = c.in_ok-add_changed.ensures.grows in
     let late = c.in_ok-add_all_asked.ensures.grows in
     are_told v covers c.args.features.now list
-    (subst (λ b. IsAscending (map prefix_of b.rows)) c.before.ensures c.order.ensures.ordered)
-    (subst ArePrefixes (c.order.ensures.same ∙ ap (λ b. map prefix_of b.rows) c.before.ensures) c.len-count.ensures.prefixes)
+    (subst (λ b. IsAscending (map prefix_of b.rows)) c.before-2.ensures c.order.ensures.ordered)
+    (subst ArePrefixes (c.order.ensures.same ∙ ap (λ b. map prefix_of b.rows) c.before-2.ensures) c.len-count.ensures.prefixes)
     c.in_ok-covers.ensures.prefixes c.in_ok-covers.ensures.come c.in_ok-covers.ensures.gone
     (λ y k. elim (late.good y k) [
       | inl old ↦ elim (early.good y old) [

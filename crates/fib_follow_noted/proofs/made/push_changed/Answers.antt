@@ -11,6 +11,6 @@ returns c = (
   refl,
   λ after h. c.in_ok-new.ensures
       ∙ ap₂ (λ cover l. pair_features c.args.x.now.prefix cover l)
-      (c.cover-cover.ensures after (subst (λ l. IsMerged l c.args.covers.now after) (sym (c.order.ensures.same ∙ ap (λ b. map prefix_of b.rows) c.before.ensures)) h))
-      c.as_slice.ensures.value,
+      (c.cover-cover.ensures after (subst (λ l. IsMerged l c.args.covers.now after) (sym (c.order.ensures.same ∙ ap (λ b. map prefix_of b.rows) c.before-2.ensures)) h))
+      c.as_slice.ensures,
 )

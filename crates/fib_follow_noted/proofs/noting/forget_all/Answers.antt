@@ -11,8 +11,8 @@ loop-x-preserved c =
     let x = c.x-item.result in
     keeps_more c.args.list.now x c.args.features.now c.loop-x.features c.forget.new.self
     (c.loop-x.x-index, c.loop-x-test.true, sym c.x-item.is) c.loop-x.invariant
-    (subst (Forgets c.loop-x.features c.forget.new.self x.prefix x.old.items) c.as_slice-2.ensures.value
-    (subst (λ l. Forgets c.loop-x.features c.forget.new.self x.prefix l c.as_slice-2.result.now) c.as_slice.ensures.value c.forget.ensures))
+    (subst (Forgets c.loop-x.features c.forget.new.self x.prefix x.old.items) c.as_slice-in-loop-x.ensures.value
+    (subst (λ l. Forgets c.loop-x.features c.forget.new.self x.prefix l c.as_slice-in-loop-x.result.now) c.as_slice.ensures.value c.forget.ensures))
 
 pub returns : goal.returns
 returns c = c.loop-x.invariant
