@@ -25,6 +25,9 @@ use Rattle.fib_follow_write.specs.declared.writing.Plan.{Plan}
 use Rattle.fib_follow_plan.specs.Made.{listed_of, paired_of}
 use Rattle.fib_follow_stands.proofs.Stepped.{changed_off, changed_own, led_keep, marked_keep, sourced_keep, zip_back, zip_to}
 
+less : (i j m n : ℕ) → i < j → m ≡ i → n ≡ j → m < n
+less i j m n lt e f = omega (arith, lt, e, f)
+
 module _ (T : Tables) (later : List PathKept) where
   best_numbered : (xs : List Pair) (qs : List (FibSource × ℕ)) → AllZip (IsNumbered later) (map listed_of xs) qs → AreBetterFirst xs → AreBestFirst qs
   best_numbered [] [] a b = tt
@@ -38,10 +41,8 @@ module _ (T : Tables) (later : List PathKept) where
       each [] (p ∷ ps) z l = absurd z
       each (y ∷ ys) [] z l = absurd z
       each (y ∷ ys) (p ∷ ps) z l =
-          (less (source_rank x.source) (source_rank y.source) (source_rank q.0) (source_rank p.0) l.0 (ap source_rank a.0.0) (ap source_rank z.0.0), each ys ps z.1 l.1)
-        where
-          less : (i j m n : ℕ) → i < j → m ≡ i → n ≡ j → m < n
-          less i j m n lt e f = omega (arith, lt, e, f)
+          (less (source_rank x.source) (source_rank y.source) (source_rank q.0) (source_rank p.0) l.0 (ap source_rank a.0.0) (ap source_rank z.0.0),
+          each ys ps z.1 l.1)
 
   -- the numbers of the pairs of what was made anew
   pub made_pairs : (y : Anew) (qs : List (FibSource × ℕ)) → IsMade T y → AllZip (IsNumbered later) (map listed_of y.pairs) qs
@@ -60,8 +61,8 @@ module _ (T : Tables) (later : List PathKept) where
       → ((q : FibSource × ℕ) → Contains qs q → content_of later q.1 ≡ content_of lists q.1) → ArePairs later T e qs
   kept_pairs lists S e qs a same on = record {
     best_first = a.best_first;
-    found = λ z c own. (let f = a.found z ((same z own).1 c) own in (f.0, f.1, f.2.0, on f.0 f.1 ∙ f.2.1));
-    real = λ q c. (let z = a.real q c in (z.0, (same z.0 z.2).0 z.1, z.2, z.3.0, on q c ∙ z.3.1));
+    found = λ z c own. (let f = a.found z ((same z own).1 c) own in (f.0, f.1, (f.2.0, on f.0 f.1 ∙ f.2.1)));
+    real = λ q c. (let z = a.real q c in (z.0, (same z.0 z.2).0 z.1, z.2, (z.3.0, on q c ∙ z.3.1)));
   }
 
 sourced_names : (later : List PathKept) (bs : List Paired) (ss : List Sourced) → AllZip (IsSourced later) bs ss

@@ -50,7 +50,7 @@ use Rattle.fib_reach.specs.Walks.{AllDiffer}
 use Rattle.fib_follow_stands.specs.Stands.{IsWorkedOut}
 use Rattle.fib_follow_stands.proofs.Leading.{dependants_are, dependants_once}
 use Rattle.fib_follow_stands.proofs.Marking.{body_at, marked_off, marked_own}
-use Rattle.fib_follow_stands.proofs.Pairing.{kept_pairs, led_name, made_pairs, row_paired, row_unpaired}
+use Rattle.fib_follow_stands.proofs.Pairing.{kept_pairs, made_pairs, row_paired, row_unpaired}
 use Rattle.fib_follow_stands.proofs.Stepped.{led_keep, marked_keep, sourced_keep}
 use Rattle.fib_follow_stands.proofs.Which.{base_entry, came_from, changed_in, entry_base, entry_stays, gone_in, made_at, paired_from}
 
@@ -151,12 +151,12 @@ module _ (v : Seen) (S T : Tables) (p : Part) (ranks : List ℕ) (list : List Pr
         → ((z : Sourced) (q : Row) → get (with_pairs z.pairs q) ≡ get q) → ((e : Edge) (q : Row) → get (pushed e.from q) ≡ get q)
         → ((b : Body) → Contains bodies b → of (marks_of v p ranks b) ≡ want b.prefix)
         → (is_member same_prefix list r.prefix ≡ false → get r ≡ want r.prefix) → get (made_row r) ≡ want r.prefix
-    field_is get of want gives paired leading each else = elim (either (is_member same_prefix list r.prefix)) [
+    field_is get of want gives paired leading each beside = elim (either (is_member same_prefix list r.prefix)) [
       | inl is ↦ (let b = body_at v T p ranks list bodies w.bodies r.prefix (among list r.prefix is) in
           marked_own v T p ranks list bodies w.bodies get of gives w.once (mid_row r) b.0 b.1 (b.2 ∙ sym (mid_name r)) ∙ (each b.0 b.1 ∙ ap want b.2))
       | inr off ↦ (let out : Contains list (mid_row r).prefix → ⊥ = λ c. false≢true (sym off ∙ member_of list r.prefix (subst (Contains list) (mid_name r) c)) in
           ap get (marked_off v T p ranks list bodies w.bodies (mid_row r) out)
-          ∙ (sourced_keep get paired h.entries (changed led plan.edges_in r) ∙ (led_keep get leading plan.edges_in r ∙ else off)))
+          ∙ (sourced_keep get paired h.entries (changed led plan.edges_in r) ∙ (led_keep get leading plan.edges_in r ∙ beside off)))
     ]
 
     looped_is : (made_row r).looped ≡ map (λ q. looped_kind T r.prefix q.kind) (chosen T r.prefix)

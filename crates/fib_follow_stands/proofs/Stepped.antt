@@ -120,10 +120,10 @@ led_all (e ∷ es) r d =
 pub led_once : (es : List Edge) (r : Row) → AllDiffer es → AllDiffer r.dependants
     → ((e : Edge) → Contains es e → e.to ≡ r.prefix → Contains r.dependants e.from → ⊥) → AllDiffer (changed led es r).dependants
 led_once [] r once differ absent = differ
-led_once (e ∷ es) r once differ absent = led_once es (led e r) once.1 first later
+led_once (e ∷ es) r once differ absent = led_once es (led e r) once.1 differs later
   where
-    first : AllDiffer (led e r).dependants
-    first = elim (either (same_prefix e.to r.prefix)) [
+    differs : AllDiffer (led e r).dependants
+    differs = elim (either (same_prefix e.to r.prefix)) [
       | inl is ↦ (let own = (same_prefix-Decides e.to r.prefix).0 is in
           subst (λ (z : Row). AllDiffer z.dependants) (sym (upon_own e.to (pushed e.from) r own))
           (append_differ r.dependants (e.from ∷ []) differ (tt, tt)
