@@ -85,13 +85,13 @@ module _ (rows : List Row) (changed : List Anew) (ordered : IsAscending (map pre
   pub paired_is_there : (p : Prefix) → Contains (map paired_prefix (map paired_of (filter has_pairs changed))) p
       → Contains (map prefix_of rows) p ⊎ Contains (map anew_prefix (filter (comes rows) changed)) p
   paired_is_there p c = (
-    let a = paired_at p c in
-    elim (either (is_row (row_of rows a.0.prefix))) [
-      | inl is ↦ inl (subst (Contains (map prefix_of rows)) a.3 (row_has a.0.prefix is))
-      | inr isnt ↦ inr (subst (Contains (map anew_prefix (filter (comes rows) changed))) a.3
-          (map_in anew_prefix (filter (comes rows) changed) a.0 (filter_in (comes rows) changed a.0 a.1 (rw a.2 (is_not (is_row (row_of rows a.0.prefix)) isnt)))))
-    ]
-  )
+      let a = paired_at p c in
+      elim (either (is_row (row_of rows a.0.prefix))) [
+        | inl is ↦ inl (subst (Contains (map prefix_of rows)) a.3 (row_has a.0.prefix is))
+        | inr isnt ↦ inr (subst (Contains (map anew_prefix (filter (comes rows) changed))) a.3
+            (map_in anew_prefix (filter (comes rows) changed) a.0 (filter_in (comes rows) changed a.0 a.1 (rw a.2 (is_not (is_row (row_of rows a.0.prefix)) isnt)))))
+      ]
+      )
 
   pub paired_stays : (p : Prefix) → Contains (map paired_prefix (map paired_of (filter has_pairs changed))) p
       → Contains (map anew_prefix (filter goes changed)) p → ⊥
@@ -112,7 +112,7 @@ module _ (rows : List Row) (changed : List Anew) (ordered : IsAscending (map pre
         let at : e.to ≡ m.0.1 = ap (λ (z : Edge). z.to) (sym m.2) in
         let from : e.from ≡ m.0.0 = ap (λ (z : Edge). z.from) (sym m.2) in
         not_both (leads_in (row_of rows m.0.1) m.0.0) (subst (λ q. leads_in (row_of rows q) m.0.0 ≡ true) at
-          (led_row e.to r there to m.0.0 (subst (Contains r.dependants) from has))) f.1;
+        (led_row e.to r there to m.0.0 (subst (Contains r.dependants) from has))) f.1;
   }
     where
       led_row : (p : Prefix) (r : Row) → Contains rows r → p ≡ r.prefix → (d : Prefix) → Contains r.dependants d → leads_in (row_of rows p) d ≡ true

@@ -40,9 +40,10 @@ module _ (T : Tables) (later : List PathKept) where
       each [] [] z l = tt
       each [] (p ∷ ps) z l = absurd z
       each (y ∷ ys) [] z l = absurd z
-      each (y ∷ ys) (p ∷ ps) z l =
-          (less (source_rank x.source) (source_rank y.source) (source_rank q.0) (source_rank p.0) l.0 (ap source_rank a.0.0) (ap source_rank z.0.0),
-          each ys ps z.1 l.1)
+      each (y ∷ ys) (p ∷ ps) z l = (
+        less (source_rank x.source) (source_rank y.source) (source_rank q.0) (source_rank p.0) l.0 (ap source_rank a.0.0) (ap source_rank z.0.0),
+        each ys ps z.1 l.1,
+      )
 
   -- the numbers of the pairs of what was made anew
   pub made_pairs : (y : Anew) (qs : List (FibSource × ℕ)) → IsMade T y → AllZip (IsNumbered later) (map listed_of y.pairs) qs
@@ -85,8 +86,8 @@ module _ (plan : Plan) (entries : List Sourced) (later : List PathKept) (numbere
   row_paired once b r c own =
       let z = zip_to (IsSourced later) plan.paired entries numbered b c in
       let got : (changed sourced entries (changed led plan.edges_in r)).pairs ≡ z.0.pairs = changed_own (λ (s : Sourced). s.prefix)
-          (λ (s : Sourced). with_pairs s.pairs) (λ s q. refl) pairs_of (λ (s : Sourced). s.pairs) (λ s q. refl) entries (changed led plan.edges_in r) z.0
-          (subst AllDiffer (sym (sourced_names later plan.paired entries numbered)) once) z.1 (z.2.0 ∙ (own ∙ sym (led_name r))) in
+      (λ (s : Sourced). with_pairs s.pairs) (λ s q. refl) pairs_of (λ (s : Sourced). s.pairs) (λ s q. refl) entries (changed led plan.edges_in r) z.0
+      (subst AllDiffer (sym (sourced_names later plan.paired entries numbered)) once) z.1 (z.2.0 ∙ (own ∙ sym (led_name r))) in
       subst (AllZip (IsNumbered later) b.pairs) (sym (renewed_pairs r ∙ got)) z.2.1
 
   -- or keeps its own

@@ -46,7 +46,6 @@ use Rattle.fib_follow_write.specs.declared.plan.Sourced.{Sourced}
 use Rattle.fib_follow_write.specs.declared.writing.Plan.{Plan}
 use Rattle.fib_follow_plan.specs.Made.{has_pairs, marks_of, paired_of, plan_of}
 use Rattle.fib_reach.specs.Walks.{AllDiffer}
-
 use Rattle.fib_follow_stands.specs.Stands.{IsWorkedOut}
 use Rattle.fib_follow_stands.proofs.Leading.{dependants_are, dependants_once}
 use Rattle.fib_follow_stands.proofs.Marking.{body_at, marked_off, marked_own}
@@ -132,7 +131,7 @@ module _ (v : Seen) (S T : Tables) (p : Part) (ranks : List ℕ) (list : List Pr
     same_pairs off =
         let was = was_there off in
         let unpaired : Contains (map paired_prefix plan.paired) r.prefix → ⊥ = λ c. (let y = paired_from v S T w.after r.prefix c in
-            false≢true (sym off ∙ changed_in v S T w.after y.0 r.prefix y.1 y.2)) in
+        false≢true (sym off ∙ changed_in v S T w.after y.0 r.prefix y.1 y.2)) in
         subst (ArePairs later T r.prefix) (sym (row_unpaired plan h.entries later h.numbered r unpaired))
         (kept_pairs T later v.before.lists S r.prefix r.pairs (w.after.stands.rows r was).pairs (w.after.caught r.prefix off).pairs
         (λ q d. h.names r q was d unpaired stays))

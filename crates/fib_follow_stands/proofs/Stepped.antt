@@ -88,12 +88,12 @@ led_one e r d = elim (either (same_prefix e.to r.prefix)) [
   ))
   | inr isnt ↦ (let off : e.to ≢ r.prefix = λ own. false≢true (sym isnt ∙ (same_prefix-Decides e.to r.prefix).1 own) in
       let made = upon_off e.to (pushed e.from) r off in (
-    λ c. inl (subst (λ (z : Row). Contains z.dependants d) made c),
-    λ k. subst (λ (z : Row). Contains z.dependants d) (sym made) (elim k [
-      | inl was ↦ was
-      | inr it ↦ absurd (off (ap (λ (z : Edge). z.to) it))
-    ]),
-  ))
+        λ c. inl (subst (λ (z : Row). Contains z.dependants d) made c),
+        λ k. subst (λ (z : Row). Contains z.dependants d) (sym made) (elim k [
+          | inl was ↦ was
+          | inr it ↦ absurd (off (ap (λ (z : Edge). z.to) it))
+        ]),
+      ))
 ]
 
 -- the dependants are those of before and those that the edges lead from
