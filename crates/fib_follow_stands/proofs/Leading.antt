@@ -1,5 +1,5 @@
 -- The dependants of a row after: who has an edge to it in the tables after.
-use Rattle.std.proofs.Common.{◌≡◌, Bool, true, false, not, List, [], ◌∷◌, map, filter, Option, Some, None, ◌⊎◌, inl, inr, refl, sym, ◌∙◌, ap, subst, ◌↔◌}
+use Rattle.std.proofs.Common.{◌≡◌, true, not, List, map, filter, Option, Some, None, inl, inr, refl, sym, ◌∙◌, ap, subst, ◌↔◌}
 use Rattle.std.specs.Prelude.{Contains}
 use Rattle.std.specs.Set.{is_member}
 use Rattle.std.proofs.lemmas.Bool.{false≢true}
@@ -11,7 +11,7 @@ use Rattle.fib_resolve.specs.declared.types.Tables.{Tables}
 use Rattle.fib_resolve.proofs.Covering.{filter_from, filter_in}
 use Rattle.fib_resolve_changes.proofs.SamePairs.{map_from, map_in}
 use Rattle.fib_resolve_changes.proofs.Targets.{edge_entry}
-use Rattle.fib_entries_rows.specs.Known.{Known, StandsFor, prefix_of, row_of}
+use Rattle.fib_entries_rows.specs.Known.{Known, StandsFor, row_of}
 use Rattle.fib_entries_rows.specs.Rows.{Row}
 use Rattle.fib_entries_rows.proofs.Standing.{row_there}
 use Rattle.fib_follow_part.proofs.Parting.{among, member_of}

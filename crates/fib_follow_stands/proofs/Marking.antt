@@ -1,5 +1,5 @@
 -- The marks and the rank of a row after: those of its body, or those that it had.
-use Rattle.std.proofs.Common.{◌≡◌, ℕ, List, map, refl, sym, ◌∙◌, ap, subst}
+use Rattle.std.proofs.Common.{◌≡◌, ℕ, List, map, refl, sym, ◌∙◌, subst}
 use Rattle.std.specs.Prelude.{Contains}
 use Rattle.fib_addr.specs.Prefixes.{Prefix}
 use Rattle.fib_reach.specs.Walks.{AllDiffer}

@@ -22,8 +22,8 @@ use Rattle.fib_follow_write.specs.declared.plan.Listed.{Listed}
 use Rattle.fib_follow_write.specs.declared.plan.Paired.{Paired}
 use Rattle.fib_follow_write.specs.declared.plan.Sourced.{Sourced}
 use Rattle.fib_follow_write.specs.declared.writing.Plan.{Plan}
-use Rattle.fib_follow_plan.specs.Made.{listed_of, paired_of}
-use Rattle.fib_follow_stands.proofs.Stepped.{changed_off, changed_own, led_keep, marked_keep, sourced_keep, zip_back, zip_to}
+use Rattle.fib_follow_plan.specs.Made.{listed_of}
+use Rattle.fib_follow_stands.proofs.Stepped.{changed_off, changed_own, led_keep, marked_keep, zip_back, zip_to}
 
 less : (i j m n : ℕ) → i < j → m ≡ i → n ≡ j → m < n
 less i j m n lt e f = omega (arith, lt, e, f)

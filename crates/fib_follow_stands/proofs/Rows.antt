@@ -1,5 +1,5 @@
 -- The rows after are those of the tables after, with their ranks and the users of their lists.
-use Rattle.std.proofs.Common.{◌≡◌, ◌<◌, ◌^◌, ◌-◌, ℕ, Bool, true, false, List, map, Option, Some, None, inl, inr, refl, sym, ◌∙◌, ap, subst, ◌↔◌}
+use Rattle.std.proofs.Common.{◌≡◌, ◌<◌, ◌^◌, ◌-◌, ℕ, true, false, List, map, Option, Some, None, inl, inr, refl, sym, ◌∙◌, ap, subst, ◌↔◌}
 use Rattle.std.proofs.Common.{if◌then◌else◌}
 use Rattle.std.specs.Prelude.{Contains, filter, min, position}
 use Rattle.std.specs.Set.{is_member}
@@ -12,7 +12,6 @@ use Rattle.fib_resolve.specs.Loops.{Kept, kind_targets, looped_kind, targets}
 use Rattle.fib_resolve.specs.Pairs.{chosen, entries}
 use Rattle.fib_resolve.specs.Sizes.{size}
 use Rattle.fib_resolve.specs.Touched.{is_touched}
-use Rattle.fib_resolve.specs.declared.aims.Marked.{Marked}
 use Rattle.fib_resolve.specs.declared.types.Tables.{Tables}
 use Rattle.fib_resolve.proofs.Covering.{filter_in}
 use Rattle.fib_resolve.proofs.Entries.{targets_from_entries}
@@ -153,7 +152,8 @@ module _ (v : Seen) (S T : Tables) (p : Part) (ranks : List ℕ) (list : List Pr
     field_is get of want gives paired leading each beside = elim (either (is_member same_prefix list r.prefix)) [
       | inl is ↦ (let b = body_at v T p ranks list bodies w.bodies r.prefix (among list r.prefix is) in
           marked_own v T p ranks list bodies w.bodies get of gives w.once (mid_row r) b.0 b.1 (b.2 ∙ sym (mid_name r)) ∙ (each b.0 b.1 ∙ ap want b.2))
-      | inr off ↦ (let out : Contains list (mid_row r).prefix → ⊥ = λ c. false≢true (sym off ∙ member_of list r.prefix (subst (Contains list) (mid_name r) c)) in
+      | inr off ↦ (let out : Contains list (mid_row r).prefix → ⊥ = λ c. false≢true
+          (sym off ∙ member_of list r.prefix (subst (Contains list) (mid_name r) c)) in
           ap get (marked_off v T p ranks list bodies w.bodies (mid_row r) out)
           ∙ (sourced_keep get paired h.entries (changed led plan.edges_in r) ∙ (led_keep get leading plan.edges_in r ∙ beside off)))
     ]

@@ -19,7 +19,7 @@ loop-place-preserved c = λ m k.
     elim (Contains-append_cases (take c.loop-place.place xs) (n ∷ []) m (subst (λ (l : List Neighbor). Contains l m) more k)) [
       | inl early ↦ c.loop-place.invariant m early
       | inr late ↦ elim (in_cases n m [] late) [
-        | inl same ↦ subst (λ (z : Neighbor). z.addr < 2 ^ 32) same (subst (λ a. a < 2 ^ 32) c.number_of-_number.ensures.value c.number_of-_number.ensures.small)
+        | inl same ↦ subst (λ (z : Neighbor). z.addr < 2 ^ 32) same (subst (λ a. a < 2 ^ 32) c.number_of-number.ensures.value c.number_of-number.ensures.small)
         | inr none ↦ absurd (Contains-nil m none)
       ]
     ]

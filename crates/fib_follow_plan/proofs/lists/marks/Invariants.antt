@@ -5,6 +5,6 @@ use Rattle.fib_follow_plan.proofs.lists.marks.Given as goal
 
 abbrev pub invariant-loop-body : goal.invariant-loop-body
 invariant-loop-body l = record {
-  whole : l.out ++ map (marks_of l.view l.part l.ranks) (into_iter_items l.body-iterator) ≡ map (marks_of l.view l.part l.ranks) l.bodies;
+  whole : l.out ++ map (marks_of l.view l.part l.ranks) (into_iter_items l.body-iterator) ≡ map (marks_of l.view l.part l.ranks) l.fn.bodies;
   left : into_iter_len l.body-iterator ≡ length (into_iter_items l.body-iterator);
 }
