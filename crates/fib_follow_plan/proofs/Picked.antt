@@ -1,8 +1,9 @@
 -- Elements that pass a test, and what is made of them.
-use Rattle.std.proofs.Common.{◌≡◌, ◌≢◌, ◌++◌, Bool, true, false, List, [], ◌∷◌, map, inl, inr, refl, sym, ◌∙◌, ap, subst}
+use Rattle.std.proofs.Common.{◌≡◌, ◌≢◌, ◌≤◌, ℕ, Bool, List, [], ◌∷◌, length, map, take, inl, inr, refl, sym, ◌∙◌, ap}
 use Rattle.std.specs.Prelude.{Contains, filter, flat_map}
 use Rattle.std.specs.List.{AllByRecursion}
 use Rattle.fib_base_list.proofs.Lists.{either, Contains-nil}
+use Rattle.fib_cover.proofs.Sets.{take_whole}
 use Rattle.fib_reach.specs.Walks.{AllDiffer}
 use Rattle.fib_resolve_changes.proofs.Edits.{in_cases}
 use Rattle.fib_follow_told.proofs.Gathering.{head_differs}
@@ -49,3 +50,9 @@ one_of f (z ∷ zs) d x y c k same = elim (in_cases z x zs c) [
     | inr later ↦ one_of f zs d.1 x y early later same
   ]
 ]
+
+-- the same of as many as there are
+pub picked_all : {X Y : Type 0} (test : X → Bool) (f : X → Y) (xs ys : List X) (k : ℕ) → length xs ≤ k → xs ≡ ys → (out : List Y)
+    → out ≡ flat_map (λ x. only (test x) (f x)) (take k xs) → out ≡ map f (filter test ys)
+picked_all test f xs ys k whole same out is =
+    is ∙ (ap (flat_map (λ x. only (test x) (f x))) (take_whole xs k whole ∙ same) ∙ picked test f ys)

@@ -1,9 +1,8 @@
-use Rattle.std.proofs.Common.{arith, length, ap, sym, ◌∙◌}
-use Rattle.std.proofs.lemmas.List.{take_all}
+use Rattle.std.proofs.Common.{arith}
 use Rattle.fib_follow_view.specs.Views.{anew_prefix}
 use Rattle.fib_follow_plan.specs.Made.{comes}
-use Rattle.fib_follow_plan.proofs.Picked.{picked}
+use Rattle.fib_follow_plan.proofs.Picked.{picked_all}
 use Rattle.fib_follow_plan.proofs.lists.came.Goals as goal
 
 pub returns : goal.returns
-returns c = c.nothing
+returns c = picked_all (comes c.args.view.now.before.rows) anew_prefix c.changed-changed.result.now c.args.view.now.changed c.changed.place (let over = c.changed-test.false in let n = c.len-place-end.ensures in omega (arith, over, n)) c.changed-changed.ensures.changed c.changed.out c.changed.invariant
