@@ -1,5 +1,5 @@
 -- The plan suits the rows of before.
-use Rattle.std.proofs.Common.{◌≡◌, ℕ, ◌&&◌, not, Bool, true, false, List, map, Option, Some, None, ◌⊎◌, inl, inr, refl, sym, ◌∙◌, ap, subst}
+use Rattle.std.proofs.Common.{◌≡◌, ℕ, ◌&&◌, not, Bool, true, false, List, [], ◌∷◌, map, Option, Some, None, ◌⊎◌, inl, inr, refl, sym, ◌∙◌, ap, subst}
 use Rattle.std.specs.Prelude.{Contains, filter}
 use Rattle.std.specs.Set.{is_member}
 use Rattle.std.proofs.lemmas.Bool.{false≢true}
@@ -26,7 +26,9 @@ use Rattle.fib_follow_told.proofs.Gathering.{map_differ}
 use Rattle.fib_follow_write.specs.Plans.{IsPlan}
 use Rattle.fib_follow_write.specs.Written.{AreNew, paired_prefix}
 use Rattle.fib_follow_write.specs.declared.plan.Edge.{Edge}
-use Rattle.fib_follow_plan.specs.Made.{comes, edge_of, goes, has_pairs, is_fresh, leads_in, paired_of, plan_of}
+use Rattle.fib_follow_write.specs.declared.plan.Marks.{Marks}
+use Rattle.fib_follow_write.specs.declared.plan.Paired.{Paired}
+use Rattle.fib_follow_plan.specs.Made.{comes, edge_of, goes, has_pairs, is_fresh, leads_in, marks_of, paired_of, plan_of}
 use Rattle.fib_follow_plan.proofs.Picked.{map_map, one_of, picked_differ}
 
 not_both : (b : Bool) → b ≡ true → not b ≡ true → ⊥
@@ -138,3 +140,11 @@ suits v p ranks bodies x ordered ascend differ =
       gone_once = picked_differ anew_prefix goes v.changed all;
       edges_new = fresh_new v.before.rows v.changed ordered ascend x.come differ;
     }
+
+-- so does one of equal parts
+pub suits_made : (v : Seen) (p : Part) (ranks : List ℕ) (bodies : List Body) (x : Edges) (came gone : List Prefix) (paired : List Paired) (marks : List Marks)
+    (into out : List Edge) → came ≡ map anew_prefix (filter (comes v.before.rows) v.changed) → gone ≡ map anew_prefix (filter goes v.changed)
+    → paired ≡ map paired_of (filter has_pairs v.changed) → marks ≡ map (marks_of v p ranks) bodies
+    → into ≡ map edge_of (filter (is_fresh v.before.rows) x.come) → out ≡ map edge_of x.go → IsPlan v.before.rows (plan_of v p ranks bodies x)
+    → IsPlan v.before.rows (record { came = came; paired = paired; marks = marks; gone = gone; edges_in = into; edges_out = out })
+suits_made v p ranks bodies x came gone paired marks into out a g b m i o h = rw (a, g, b, m, i, o) h

@@ -39,6 +39,12 @@ fn longest_matches(rt: HostRuntime) -> Result<(), Fail> {
     same(&rt, inside.as_slice(), [middle, narrow, host].as_slice());
     let again = PrefixSet::of(rt.alloc(), inside.as_slice())?;
     same(&rt, again.len(), 3);
+    let mut last = None;
+    for member in again.iter() {
+        holds(&rt, set.contains(*member));
+        last = Some(*member);
+    }
+    same(&rt, last, Some(host));
     holds(&rt, set.remove(host));
     holds(&rt, !set.remove(host));
     same(&rt, set.best(Addr(0x0a01_0001)), Some(narrow));
