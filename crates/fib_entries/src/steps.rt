@@ -93,15 +93,20 @@ fn look_around(alloc: Global, course: &Course<'_>) -> Result<Looked, AllocError>
     ensures around { IfOk result (λ x. (S : TablesValue) → IsFrom course.now.before course.now.changes.now S course.now.after.now.tables
         → IsAround course.now.changes.now S course.now.after.now.tables x) }
 {
-    let before = &course.before;
-    let after = course.after;
-    see_neighbors(alloc, after)?;
-    let named = Named::of(alloc, before, after, course.changes)?;
-    let shorts = Shorts::of(alloc, before, after, &named)?;
-    let asks = asks(alloc, before, &shorts)?;
+    see_neighbors(alloc, course.after)?;
+    let named = Named::of(alloc, &course.before, course.after, course.changes)?;
+    let shorts = Shorts::of(alloc, &course.before, course.after, &named)?;
+    let asks = asks(alloc, &course.before, &shorts)?;
     let hosts = answered(alloc, course.features, asks.as_slice())?;
-    let prefixes = looked(alloc, before, after, &named, &shorts, hosts.as_slice())?;
-    let hops = hops_after(alloc, after, course.features, &named, &prefixes)?;
+    let prefixes = looked(
+        alloc,
+        &course.before,
+        course.after,
+        &named,
+        &shorts,
+        hosts.as_slice(),
+    )?;
+    let hops = hops_after(alloc, course.after, course.features, &named, &prefixes)?;
     Ok(Looked {
         prefixes,
         around: Around { shorts, hops },

@@ -1,7 +1,8 @@
-use Rattle.std.proofs.Common.{map, ap, ap₂, ◌∙◌, subst}
-use Rattle.std.specs.Prelude.{filter}
+use Rattle.std.proofs.Common.{List, map, sym, ap, ap₂, ◌∙◌, subst}
+use Rattle.std.specs.Prelude.{Contains, filter}
 use Rattle.fib_cover.specs.Covers.{IsAscending}
 use Rattle.fib_entries_rows.specs.Known.{Known, prefix_of}
+use Rattle.fib_follow_view.specs.declared.view.Anew.{Anew}
 use Rattle.fib_follow_plan.specs.Made.{edge_of, is_fresh}
 use Rattle.fib_follow_plan.proofs.Suits.{suits, suits_made}
 use Rattle.fib_follow_plan.proofs.made.plan.Goals as goal
@@ -16,3 +17,6 @@ returns-clause-suits c =
     (c.in_ok-edges_in.ensures ∙ ap₂ (λ (k : Known) l. map edge_of (filter (is_fresh k.rows) l)) c.before-3.ensures c.as_slice.ensures)
     (c.in_ok-edges_out.ensures ∙ ap (map edge_of) c.as_slice-2.ensures)
     (suits v c.args.part.now c.args.ranks.now c.args.bodies c.args.edges.now ordered c.changed.ensures.ordered c.requires)
+
+pub returns-clause-prefixes : goal.returns-clause-prefixes
+returns-clause-prefixes c = λ x k. c.see_prefixes.ensures x (subst (λ (l : List Anew). Contains l x) (sym c.changed.ensures.changed) k)

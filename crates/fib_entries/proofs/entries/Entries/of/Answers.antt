@@ -63,8 +63,8 @@ size_of-requires-clause-prefixes c = subst ArePrefixes (sym c.as_slice-3.ensures
 pub size_of-requires-clause-same : goal.size_of-requires-clause-same
 size_of-requires-clause-same c = all_in c.in_ok-meaning.meaning c.as_slice-3.result.now c.in_ok-listed.listed.items c.as_slice-3.ensures.value c.in_ok-listed.ensures.all
 
-pub of-features-requires : goal.of-features-requires
-of-features-requires c =
+pub of-requires-3 : goal.of-requires-3
+of-requires-3 c =
     let S = c.in_ok-meaning.meaning in
     let lists = c.take_all.new.lists in
     let rows = c.in_ok-rows.rows in
