@@ -51,12 +51,14 @@ is_near i a (changes.Neighbor j b) = (j == i) && (b == a)
 is_near i a (changes.Route p s) = false
 
 flag_is : (i : ℕ) (c : Change) → is_flag i c ≡ true → c ≡ changes.Flag i
+unfolding is_flag
 flag_is i (changes.Flag j) h = ap changes.Flag ((Decides-eqb j i).0 h)
 flag_is i (changes.Address a) h = absurd (false≢true h)
 flag_is i (changes.Neighbor j a) h = absurd (false≢true h)
 flag_is i (changes.Route p s) h = absurd (false≢true h)
 
 near_is : (i a : ℕ) (c : Change) → is_near i a c ≡ true → c ≡ changes.Neighbor i a
+unfolding is_near
 near_is i a (changes.Flag j) h = absurd (false≢true h)
 near_is i a (changes.Address b) h = absurd (false≢true h)
 near_is i a (changes.Neighbor j b) h =
@@ -65,9 +67,11 @@ near_is i a (changes.Neighbor j b) h =
 near_is i a (changes.Route p s) h = absurd (false≢true h)
 
 flag_self : (i : ℕ) → is_flag i (changes.Flag i) ≡ true
+unfolding is_flag
 flag_self i = (Decides-eqb i i).1 refl
 
 near_self : (i a : ℕ) → is_near i a (changes.Neighbor i a) ≡ true
+unfolding is_near
 near_self i a = rw ((Decides-eqb i i).1 refl, (Decides-eqb a a).1 refl) refl
 
 differ_self : (b : Bool) → differ b b ≡ true → ⊥

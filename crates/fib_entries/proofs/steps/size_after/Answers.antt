@@ -5,7 +5,7 @@ use Rattle.fib_entries.specs.inner.Planned.{AreRowsNoted}
 use Rattle.fib_entries.proofs.steps.size_after.Goals as goal
 
 pub sized-requires : goal.sized-requires
-sized-requires c = c.rows.ensures.rows ∙ ap (λ (v : Known). v.rows) c.before.ensures
+sized-requires c = c.rows.ensures.rows ∙ ap (λ (v : Known). v.rows) c.before-2.ensures
 
 pub returns : goal.returns
 returns c =

@@ -6,13 +6,13 @@ use Rattle.fib_follow_found.proofs.ends.held_among.Goals as goal
 
 pub ends-init : goal.ends-init
 ends-init c = let test = is_held c.args.view.now c.args.features.now in
-    subst (AreEndsAmong test (take 0 c.args.ends.now)) (sym c.new-held.ensures.keys) (ends_none test c.args.ends.now)
+    subst (AreEndsAmong test (take 0 c.args.ends.now)) (sym c.new-held.ensures.empty) (ends_none test c.args.ends.now)
 
 pub ends-preserved : goal.ends-preserved
 ends-preserved c =
-    ends_step (is_held c.args.view.now c.args.features.now) c.args.ends.now c.ends.place c.index-ends-end.result c.is_held.result
+    ends_step (is_held c.args.view.now c.args.features.now) c.args.ends.now c.ends.place c.index-ends-place.result.now c.is_held.result
     c.ends.held.keys c.add_if.new.held.keys
-    (slice_get_read c.args.ends.now (length c.args.ends.now) c.ends.place c.index-ends-end.result refl c.ends-test.true c.index-ends-end.is)
+    (slice_get_read c.args.ends.now (length c.args.ends.now) c.ends.place c.index-ends-place.result.now refl c.ends-test.true c.index-ends-place.is)
     c.is_held.ensures c.ends.invariant c.in_ok-add_if.ensures
 
 pub returns : goal.returns

@@ -9,5 +9,5 @@ returns-in-Some c = hop_given c.args.after.now.tables c.args.named.now c.args.fe
     (ap (λ o. members_of (option_copied o)) (sym c.in-Some.is) ∙ c.holders.ensures) c.is_hop_after.ensures
 
 pub returns-in-None : goal.returns-in-None
-returns-in-None c = hop_given c.args.after.now.tables c.args.named.now c.args.features.now c.args.addr c.new-none.result c.is_hop_after.result
-    (c.new-none.ensures ∙ (ap (λ o. members_of (option_copied o)) (sym c.in-None.is) ∙ c.holders.ensures)) c.is_hop_after.ensures
+returns-in-None c = hop_given c.args.after.now.tables c.args.named.now c.args.features.now c.args.addr c.new-none.result c.is_hop_after-in-None.result
+    (c.new-none.ensures ∙ (ap (λ o. members_of (option_copied o)) (sym c.in-None.is) ∙ c.holders.ensures)) c.is_hop_after-in-None.ensures

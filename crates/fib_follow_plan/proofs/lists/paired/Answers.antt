@@ -1,5 +1,4 @@
 use Rattle.std.proofs.Common.{arith}
-
 use Rattle.fib_follow_plan.specs.Made.{has_pairs, paired_of}
 use Rattle.fib_follow_plan.proofs.Picked.{picked_all}
 use Rattle.fib_follow_plan.proofs.lists.paired.Goals as goal
