@@ -10,9 +10,9 @@ ends-init c = let test = is_held c.args.view.now c.args.features.now in
 
 pub ends-preserved : goal.ends-preserved
 ends-preserved c =
-    ends_step (is_held c.args.view.now c.args.features.now) c.args.ends.now c.ends.place c.index-ends-place.result.now c.is_held.result
+    ends_step (is_held c.args.view.now c.args.features.now) c.args.ends.now c.ends.place c.index-ends-place.result c.is_held.result
     c.ends.held.keys c.add_if.new.held.keys
-    (slice_get_read c.args.ends.now (length c.args.ends.now) c.ends.place c.index-ends-place.result.now refl c.ends-test.true c.index-ends-place.is)
+    (slice_get_read c.args.ends.now (length c.args.ends.now) c.ends.place c.index-ends-place.result refl c.ends-test.true c.index-ends-place.is)
     c.is_held.ensures c.ends.invariant c.in_ok-add_if.ensures
 
 pub returns : goal.returns
