@@ -6,7 +6,7 @@ use Rattle.fib_resolve.specs.Sizes.{size}
 use Rattle.fib_resolve.specs.declared.types.Tables.{Tables}
 use Rattle.fib_resolve_changes.specs.declared.change.Change.{Change}
 use Rattle.fib_entries_rows.specs.Changes.{FromBefore, IsFollowed}
-use Rattle.fib_entries_rows.specs.Known.{Known, PathKept, StandsFor}
+use Rattle.fib_entries_rows.specs.Known.{Known, PathKept}
 use Rattle.fib_entries_rows.specs.Rows.{Row}
 use Rattle.fib_follow_view.specs.Views.{Seen}
 use Rattle.fib_follow_features.specs.Holders.{Holders}

@@ -1,6 +1,6 @@
 -- Which Hop ends entries beside the changed ones have.
-use Rattle.std.proofs.Common.{arith, ◌≡◌, ◌+◌, ◌≤◌, ◌&&◌, ◌||◌, ℕ, Bool, true, false, cond, length, List, [], ◌∷◌, map, take, slice_get}
-use Rattle.std.proofs.Common.{Option, Some, None, inl, inr, ◌⊎◌, ◌↔◌, refl, sym, ◌∙◌, ap, subst}
+use Rattle.std.proofs.Common.{◌≡◌, ◌+◌, ◌≤◌, ◌||◌, ℕ, Bool, true, false, cond, length, List, [], ◌∷◌, map, take, slice_get}
+use Rattle.std.proofs.Common.{Option, Some, None, inl, inr, ◌↔◌, refl, sym, ◌∙◌, ap, subst}
 use Rattle.std.specs.Prelude.{Contains, not, option_to_list}
 use Rattle.std.specs.List.{list_any}
 use Rattle.std.specs.Set.{is_member}
@@ -11,7 +11,7 @@ use Rattle.fib_base_list.proofs.Lists.{Contains-flat_map, Contains-nil, either}
 use Rattle.fib_addr.specs.Prefixes.{Prefix}
 use Rattle.fib_cover.proofs.Sets.{take_whole}
 use Rattle.fib_resolve.specs.Pairs.{chosen}
-use Rattle.fib_resolve.specs.Sizes.{adjacencies_of, kind_adjacency, same_adjacency}
+use Rattle.fib_resolve.specs.Sizes.{kind_adjacency, same_adjacency}
 use Rattle.fib_resolve.specs.declared.pairs.Adjacency.{Adjacency}
 use Rattle.fib_resolve.specs.declared.types.Path.{Path}
 use Rattle.fib_resolve.specs.declared.types.PathKind.{PathKind}

@@ -1,5 +1,5 @@
 -- Which hosts are next hops after changes.
-use Rattle.std.proofs.Common.{arith, ◌≡◌, ◌+◌, ℕ, length, List, [], ◌∷◌, map, take, Some, inl, inr, ◌⊎◌, ◌↔◌, refl, sym, subst, ◌≤◌, ◌<◌, slice_get}
+use Rattle.std.proofs.Common.{arith, ◌≡◌, ◌+◌, ℕ, length, List, [], ◌∷◌, take, Some, inl, inr, ◌⊎◌, ◌↔◌, refl, sym, subst, ◌≤◌, ◌<◌, slice_get}
 use Rattle.std.proofs.Common.{Bool}
 use Rattle.std.specs.Prelude.{Contains, IsTrue}
 use Rattle.fib_base_list.proofs.Lists.{Contains-nil}

@@ -1,5 +1,5 @@
 -- The hosts that are found for asks answer them.
-use Rattle.std.proofs.Common.{arith, ◌≡◌, ◌+◌, ◌++◌, ℕ, length, List, [], ◌∷◌, map, take, Some, inl, inr, sym, subst, ◌≤◌, filter, slice_get}
+use Rattle.std.proofs.Common.{◌≡◌, ◌+◌, ◌++◌, ℕ, length, List, [], ◌∷◌, map, take, Some, inl, inr, sym, subst, ◌≤◌, filter, slice_get}
 use Rattle.std.specs.Prelude.{Contains}
 use Rattle.std.proofs.lemmas.List.Elements.{Contains-append_left, Contains-append_right}
 use Rattle.fib_base_list.proofs.Lists.{Contains-nil}

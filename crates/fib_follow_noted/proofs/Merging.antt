@@ -1,22 +1,19 @@
 -- What covers an entry afterwards, and by what its cover becomes another.
-use Rattle.std.proofs.Common.{arith, ◌≡◌, ◌≢◌, ◌⊎◌, ◌↔◌, ◌<◌, ◌≤◌, ◌^◌, ◌++◌, ◌&&◌, ℕ, true, false, not, List, filter, map, Option, Some, None, nat_le, inl, inr, refl, sym, ◌∙◌, ap, subst}
+use Rattle.std.proofs.Common.{arith, ◌≡◌, ◌≢◌, ◌⊎◌, ◌↔◌, ◌<◌, ◌≤◌, ◌^◌, ◌++◌, ◌&&◌, ℕ, true, List, filter, Option, Some, None, nat_le, inl, inr, refl, sym, ◌∙◌, ap, subst}
 use Rattle.std.specs.Prelude.{Contains}
-use Rattle.std.proofs.lemmas.Bool.{false≢true, cases_lt, ltb-true}
+use Rattle.std.proofs.lemmas.Bool.{cases_lt, ltb-true}
 use Rattle.std.proofs.lemmas.Bool.Decides.{nat_tests}
 use Rattle.std.proofs.lemmas.List.Elements.{Contains-append_left, Contains-append_right, Contains-append_cases}
-use Rattle.fib_base_list.proofs.Booleans.{and_both}
 use Rattle.fib_base_interned.proofs.Finding.{none_some, some_is}
-use Rattle.fib_base_list.proofs.Lists.{either}
 use Rattle.fib_addr.specs.Longest.{IsLongest, everything, longest}
-use Rattle.fib_addr.specs.Prefixes.{Prefix, IsPrefix, contains, same_prefix}
+use Rattle.fib_addr.specs.Prefixes.{Prefix, IsPrefix, contains}
 use Rattle.fib_addr.proofs.LongestLaws.{longest_is_longest}
-use Rattle.fib_addr.proofs.PrefixLaws.{same_prefix-Decides}
 use Rattle.fib_cover.specs.Covers.{ArePrefixes, IsLongestMatch, IsMatch, is_inside}
 use Rattle.fib_resolve.specs.Pairs.{is_short}
 use Rattle.fib_resolve.proofs.Covering.{filter_from, filter_in}
 use Rattle.fib_resolve_changes.proofs.Unlooked.{block_same}
 use Rattle.fib_follow_features.specs.FoundBy.{cover_among}
-use Rattle.fib_follow_features.proofs.Covered.{found_cover, no_cover, short_in, whole_prefix}
+use Rattle.fib_follow_features.proofs.Covered.{short_in, whole_prefix}
 use Rattle.fib_follow_looked.specs.inner.Turning.{is_beside, longer_match}
 use Rattle.fib_follow_looked.proofs.Above.{beside_test, longest_both, match_moves, one_match, test_beside}
 use Rattle.fib_follow_noted.specs.declared.covers.Covers.{Covers}

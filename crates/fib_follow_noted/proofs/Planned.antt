@@ -1,23 +1,18 @@
 -- The rows that a plan of entries made anew makes.
-use Rattle.std.proofs.Common.{◌≡◌, ◌≢◌, ◌⊎◌, ◌↔◌, ◌&&◌, true, false, not, ℕ, List, [], ◌∷◌, map, filter, Option, Some, None, inl, inr, refl, sym, ◌∙◌, ap, ap₂, subst}
+use Rattle.std.proofs.Common.{◌≡◌, ◌≢◌, true, false, not, ℕ, List, [], ◌∷◌, map, filter, Option, Some, None, inl, inr, refl, sym, ◌∙◌, ap, ap₂, subst}
 use Rattle.std.specs.Prelude.{Contains, unwrap_or}
 use Rattle.std.specs.List.{AllZip}
 use Rattle.std.proofs.lemmas.Bool.{false≢true}
 use Rattle.fib_base_list.proofs.Booleans.{and_both}
 use Rattle.fib_base_list.proofs.Lists.{either}
 use Rattle.fib_reach.specs.Walks.{AllDiffer}
-use Rattle.fib_addr.specs.Prefixes.{Prefix, same_prefix}
-use Rattle.fib_addr.proofs.PrefixLaws.{same_prefix-Decides}
-use Rattle.fib_cover.specs.Covers.{IsAscending}
-use Rattle.fib_resolve.specs.declared.pairs.Pair.{Pair}
+use Rattle.fib_addr.specs.Prefixes.{Prefix}
 use Rattle.fib_resolve.specs.declared.types.FibSource.{FibSource}
 use Rattle.fib_resolve.proofs.Covering.{filter_in, filter_from}
-use Rattle.fib_resolve_changes.proofs.Edits.{any_in, in_front, in_rest}
+use Rattle.fib_resolve_changes.proofs.Edits.{in_front, in_rest}
 use Rattle.fib_resolve_changes.proofs.SamePairs.{map_in, map_from}
 use Rattle.fib_entries_rows.specs.Known.{IsHeld, PathKept, content_of, prefix_of, row_of}
 use Rattle.fib_entries_rows.specs.Rows.{Row}
-use Rattle.fib_entries_rows.proofs.PartRows.{listed_row, no_row, row_by}
-use Rattle.fib_entries_rows.proofs.Standing.{row_there}
 use Rattle.fib_follow_features.specs.FoundBy.{cover_among, held_list, pair_features, row_features}
 use Rattle.fib_follow_features.proofs.Gathered.{pairs_tell}
 use Rattle.fib_follow_view.specs.Views.{Seen, anew_prefix, is_changed}
@@ -27,13 +22,13 @@ use Rattle.fib_follow_looked.proofs.Growth.{is_member_in, member_is}
 use Rattle.fib_follow_part.specs.Parts.{Part}
 use Rattle.fib_follow_told.specs.declared.body.Body.{Body}
 use Rattle.fib_follow_told.specs.declared.edges.Edges.{Edges}
-use Rattle.fib_follow_write.specs.Plans.{IsBase, IsPlan, IsWritten, renewed}
+use Rattle.fib_follow_write.specs.Plans.{IsBase, IsPlan, IsWritten}
 use Rattle.fib_follow_write.specs.Written.{blank, paired_prefix}
 use Rattle.fib_follow_write.specs.declared.plan.Sourced.{Sourced}
 use Rattle.fib_follow_write.specs.declared.writing.Plan.{Plan}
 use Rattle.fib_follow_plan.specs.Made.{comes, goes, has_pairs, paired_of, plan_of}
 use Rattle.fib_follow_noted.specs.declared.covers.Covers.{Covers}
-use Rattle.fib_follow_noted.specs.inner.Telling.{AreSo, IsMerged, IsOrder}
+use Rattle.fib_follow_noted.specs.inner.Telling.{AreSo, IsOrder}
 use Rattle.fib_follow_noted.proofs.Sourcing.{numbered_held, renewed_off, renewed_own, renewed_prefix, same_names, sourced_of}
 
 -- the entries that were made anew, by their prefixes

@@ -5,7 +5,7 @@ use Rattle.std.specs.List.{AllZip}
 use Rattle.std.proofs.lemmas.List.Elements.{All-contains, All-from_recursion}
 use Rattle.fib_base_list.proofs.Lists.{either, Contains-nil}
 use Rattle.fib_reach.specs.Walks.{AllDiffer}
-use Rattle.fib_addr.specs.Prefixes.{Prefix, same_prefix}
+use Rattle.fib_addr.specs.Prefixes.{same_prefix}
 use Rattle.fib_resolve.specs.declared.pairs.Pair.{Pair}
 use Rattle.fib_resolve.specs.declared.types.FibSource.{FibSource}
 use Rattle.fib_resolve_changes.proofs.Edits.{in_cases, in_front, in_rest}
@@ -14,7 +14,7 @@ use Rattle.fib_entries_rows.specs.Known.{IsHeld, PathKept}
 use Rattle.fib_entries_rows.specs.Rows.{Row}
 use Rattle.fib_entries_rows.specs.inner.Coming.{with_pairs}
 use Rattle.fib_follow_write.specs.Plans.{renewed}
-use Rattle.fib_follow_write.specs.Written.{IsNumbered, IsSourced, changed, led, marked, paired_prefix, sourced, upon, with_marks}
+use Rattle.fib_follow_write.specs.Written.{IsNumbered, IsSourced, changed, led, marked, paired_prefix, sourced, with_marks}
 use Rattle.fib_follow_write.specs.declared.plan.Edge.{Edge}
 use Rattle.fib_follow_write.specs.declared.plan.Marks.{Marks}
 use Rattle.fib_follow_write.specs.declared.plan.Paired.{Paired}

@@ -1,5 +1,5 @@
 -- What is gathered tells all.
-use Rattle.std.proofs.Common.{◌≡◌, ◌≢◌, ◌⊎◌, ◌<◌, ◌++◌, ◌==◌, ℕ, true, false, List, [], ◌∷◌, map, Option, Some, None, inl, inr, refl, sym, ◌∙◌, ap, ap₂, subst}
+use Rattle.std.proofs.Common.{◌≡◌, ◌≢◌, ◌⊎◌, ◌<◌, ◌++◌, ◌==◌, ℕ, true, false, List, [], map, Some, None, inl, inr, refl, sym, ◌∙◌, ap, ap₂, subst}
 use Rattle.std.specs.Prelude.{Contains, flat_map, option_to_list, if◌then◌else◌}
 use Rattle.std.specs.List.{list_any}
 use Rattle.std.specs.Set.{is_member}
@@ -17,9 +17,8 @@ use Rattle.fib_entries_rows.specs.Known.{PathKept, prefix_of, row_of}
 use Rattle.fib_entries_rows.specs.Rows.{Row}
 use Rattle.fib_entries_rows.proofs.PartRows.{row_by}
 use Rattle.fib_follow_features.specs.FoundBy.{AreNoted, HasStayed, Listed, chosen_list, cover_among, features_of, held_list, host_under, is_by_cover}
-use Rattle.fib_follow_features.specs.FoundBy.{pair_features, path_features, row_features, under_of, written_features}
+use Rattle.fib_follow_features.specs.FoundBy.{path_features, row_features, under_of, written_features}
 use Rattle.fib_follow_features.specs.Holders.{Holders, IsFound}
-use Rattle.fib_follow_features.specs.declared.feature.Feature.{Feature}
 use Rattle.fib_follow_features.specs.declared.feature.Feature.TheVariants as features
 use Rattle.fib_follow_view.specs.Views.{Seen, is_changed}
 use Rattle.fib_follow_view.specs.declared.view.Anew.{Anew}
@@ -34,9 +33,9 @@ use Rattle.fib_follow_plan.specs.Made.{plan_of}
 use Rattle.fib_follow_noted.specs.Noted.{AreFull, AreTold, IsListed}
 use Rattle.fib_follow_noted.specs.declared.covers.Covers.{Covers}
 use Rattle.fib_follow_noted.specs.declared.entry.Renoted.{Renoted}
-use Rattle.fib_follow_noted.specs.inner.Telling.{AreAnew, AreAsked, AreSo, IsGood, IsNearest, IsOfAnew, IsOfRow, IsOrder, IsUnder}
-use Rattle.fib_follow_noted.proofs.Merging.{comes, comes_inside, comes_new, comes_short, inside_was, merged_good, nearest, short_was}
-use Rattle.fib_follow_noted.proofs.Planned.{anew_in, anew_row, changed_is, merged, other_row}
+use Rattle.fib_follow_noted.specs.inner.Telling.{AreAnew, AreAsked, AreSo, IsGood, IsNearest, IsOrder}
+use Rattle.fib_follow_noted.proofs.Merging.{comes, comes_inside, comes_new, comes_short, inside_was, nearest, short_was}
+use Rattle.fib_follow_noted.proofs.Planned.{anew_in, anew_row, merged, other_row}
 
 -- a cover tells of an entry, or it doesn't
 under_cases : (e : Prefix) (ls : List Listed)

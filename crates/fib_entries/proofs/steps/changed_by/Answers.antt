@@ -1,8 +1,5 @@
-use Rattle.std.proofs.Common.{List}
 use Rattle.std.proofs.lemmas.Result.{IfOk-weaker}
-use Rattle.fib_resolve.specs.declared.types.Tables.{Tables}
 use Rattle.fib_follow_looked.specs.Looks.{IsBefore}
-use Rattle.fib_entries.specs.inner.Planned.{IsFrom}
 use Rattle.fib_entries.proofs.steps.changed_by.Goals as goal
 
 pub returns-clause-after : goal.returns-clause-after

@@ -1,4 +1,4 @@
-use Rattle.std.proofs.Common.{◌≡◌, List, map, sym, ap, ◌∙◌, subst}
+use Rattle.std.proofs.Common.{◌≡◌, List, map, sym, subst}
 use Rattle.std.specs.Set.{is_member}
 use Rattle.fib_addr.specs.Prefixes.{Prefix, same_prefix}
 use Rattle.fib_reach.specs.Walks.{AllDiffer}
@@ -8,10 +8,8 @@ use Rattle.fib_follow_view.specs.Views.{is_changed}
 use Rattle.fib_follow_view.specs.declared.view.Anew.{Anew}
 use Rattle.fib_follow_part.specs.Parts.{in_part}
 use Rattle.fib_follow_told.specs.Told.{AreBodies, AreOthers}
-use Rattle.fib_follow_told.specs.declared.body.Body.{Body}
 use Rattle.fib_follow_write.specs.Plans.{IsPlan}
 use Rattle.fib_follow_write.specs.declared.writing.Plan.{Plan}
-use Rattle.fib_follow_plan.specs.Made.{plan_of}
 use Rattle.fib_follow_noted.specs.Noted.{AreTold}
 use Rattle.fib_entries.specs.inner.Planned.{AreRowsNoted}
 use Rattle.fib_entries.proofs.steps.planned_with.Goals as goal

@@ -1,4 +1,4 @@
-use Rattle.std.proofs.Common.{◌↔◌, subst, sym, ◌∙◌}
+use Rattle.std.proofs.Common.{◌↔◌, subst, sym}
 use Rattle.std.specs.Prelude.{Contains, map}
 use Rattle.std.proofs.lemmas.Result.{IfOk-weaker}
 use Rattle.fib_resolve.specs.declared.pairs.Adjacency.{Adjacency}

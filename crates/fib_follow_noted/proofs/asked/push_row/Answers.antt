@@ -1,4 +1,4 @@
-use Rattle.std.proofs.Common.{map, refl, sym, ap, ap₂, subst, ◌∙◌}
+use Rattle.std.proofs.Common.{map, sym, ap, ap₂, subst, ◌∙◌}
 use Rattle.fib_entries_rows.specs.Known.{prefix_of}
 use Rattle.fib_follow_features.specs.FoundBy.{cover_among, features_of, held_list}
 use Rattle.fib_follow_noted.specs.inner.Telling.{IsMerged}

@@ -1,6 +1,6 @@
-use Rattle.std.proofs.Common.{take, subst}
+use Rattle.std.proofs.Common.{subst}
 use Rattle.fib_cover.proofs.Sets.{take_whole}
-use Rattle.fib_follow_features.specs.Holders.{Notes, NotesSome}
+use Rattle.fib_follow_features.specs.Holders.{Notes}
 use Rattle.fib_follow_noted.specs.Noted.{AreFoundAll}
 use Rattle.fib_follow_noted.proofs.Growing.{take_none}
 use Rattle.fib_follow_noted.proofs.Keeping.{found_more, stays_noted, stays_notes, stays_some}
