@@ -10,7 +10,7 @@
 # the gate; it is proved and built.
 set -e
 . "$(dirname "$0")/beside.sh"
-beside fib_commands fib_entries_following fib_urpf
+beside fib_commands fib_entries fib_urpf
 rig="$top/crates/test_urpf"
 mkdir -p "$work/crates/measure/specs" "$work/crates/measure/proofs/rig/turns" "$work/crates/measure/proofs/rig/settle" "$work/crates/measure/proofs/load" "$work/crates/measure/proofs/flap" "$work/crates/measure/proofs/make_all"
 sed 's/test_urpf/measure/g; s/8192/1073741824/g; s/10_000/1_000_000/; s/10,000/1,000,000/' "$rig/src/rig.rt" > "$work/crates/measure/src/rig.rt"

@@ -1,14 +1,15 @@
 #!/usr/bin/env python3
 """Refuses each allocation of whole runs in turn, and judges what the program does then.
 
-    tests/refused.py PROGRAM [--workers N] [--pairs N] [--on]
+    tests/refused.py PROGRAM [--workers N] [--pairs N] [--on] [--commands FILE..]
 
 PROGRAM is one of the built programs, by whose name the runs are chosen: fib_tool, fib_frames, fib_tracer, fib_checker or fib_counter; or
-trial_refused, which makes each call that wants memory once more. A small C library is compiled with `cc` and loaded beside it, which refuses the
-call of the given number among the program's calls of `malloc` and `realloc`, and every other one passes; with --pairs so many times two calls of
-one run, and with --on that call and every later one. For fib_tool three runs are gone through, each with as many refusals as it makes calls: a few routes (the first path), an interface with a neighbor and a
-capture of one packet, and 200 routes over two uplinks whose packets are forwarded in three rounds, one of which takes an uplink down (the
-realistic script).
+trial_refused, which makes each call that wants memory once more. A small C library is compiled with `cc` and loaded beside it, which
+refuses the call of the given number among the program's calls of `malloc` and `realloc`, and every other one passes; with --pairs so many
+times two calls of one run, and with --on that call and every later one. With --commands the runs are over these command files in place of
+the program's own, with no capture. For fib_tool three runs are gone through, each with as many refusals as it makes calls: a few routes
+(the first path), an interface with a neighbor and a capture of one packet, and 200 routes over two uplinks whose packets are forwarded in
+three rounds, one of which takes an uplink down (the realistic script).
 
 A run whose allocation is refused must end with status 6 and have written a first part of what the whole run writes, or have done without that
 memory: status 0 and all of it. Where the words themselves can't be had the status is 1, and nothing is written. The first run that does anything
@@ -143,8 +144,8 @@ def refusals(asked, calls):
     return [tuple(sorted(rng.sample(range(1, calls + 1), 2))) for _ in range(asked.pairs)]
 
 
-def sweep(asked, library, folder, name):
-    lines, packets = RUNS[asked.kind][name]
+def sweep(asked, library, folder, name, told):
+    lines, packets = told
     commands, counted = folder / "commands", folder / "counted"
     commands.write_text("".join(line + "\n" for line in lines))
     files = [str(commands)]
@@ -174,14 +175,16 @@ def main():
     parser.add_argument("--workers", type=int, default=1)
     parser.add_argument("--pairs", type=int, default=0)
     parser.add_argument("--on", action="store_true")
+    parser.add_argument("--commands", nargs="+", default=[])
     asked = parser.parse_args()
     asked.kind = pathlib.Path(asked.program).name
+    files = {name: (pathlib.Path(name).read_text().splitlines(), None) for name in asked.commands}
     with tempfile.TemporaryDirectory() as place:
         folder = pathlib.Path(place)
         library = str(folder / "refused.so")
         (folder / "refused.c").write_text(LIBRARY)
         subprocess.run(["cc", "-O1", "-shared", "-fPIC", "-o", library, str(folder / "refused.c"), "-ldl"], check=True)
-        return 0 if all(sweep(asked, library, folder, name) for name in RUNS[asked.kind]) else 1
+        return 0 if all(sweep(asked, library, folder, name, told) for name, told in (files or RUNS[asked.kind]).items()) else 1
 
 
 if __name__ == "__main__":

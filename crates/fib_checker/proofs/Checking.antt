@@ -4,8 +4,8 @@ use Rattle.std.specs.Prelude.{Some}
 use Rattle.fib_config.proofs.Made.{made_large}
 use Rattle.fib_config.specs.Config.{Setup}
 use Rattle.fib_entries_rows.specs.Known.{Known}
-use Rattle.fib_entries_following.specs.Following.{TellsChange}
-use Rattle.fib_entries_following.specs.declared.errors.ChangeError.TheVariants as changes
+use Rattle.fib_entries.specs.Following.{TellsChange}
+use Rattle.fib_entries.specs.declared.errors.ChangeError.TheVariants as changes
 use Rattle.fib_resolve.specs.Edits.{edited}
 use Rattle.fib_resolve.specs.Refusals.{refused}
 use Rattle.fib_resolve.specs.declared.types.Edit.{Edit}

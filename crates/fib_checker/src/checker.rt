@@ -12,8 +12,7 @@ ghost use Rattle.fib_checker.specs.Ready.{IsChanged, IsReady};
 
 use fib_addr::Addr;
 use fib_config::Config;
-use fib_entries::Entries;
-use fib_entries_following::{ChangeError, change_tables};
+use fib_entries::{ChangeError, Entries, change_tables};
 use fib_resolve::{Edit, Refusal, Tables};
 use fib_urpf::Urpf;
 use std::alloc::{AllocError, Global};

@@ -10,8 +10,8 @@ use Rattle.fib_resolve.specs.declared.types.Tables.{Tables}
 use Rattle.fib_config.proofs.Made.{made_fits, made_large}
 use Rattle.fib_resolve.specs.declared.types.Refusal.TheVariants as refusals
 use Rattle.fib_resolve.proofs.Refused.{none_own, refused_size}
-use Rattle.fib_entries_following.specs.Following.{IsAbove, TellsChange}
-use Rattle.fib_entries_following.specs.declared.errors.ChangeError.TheVariants as changes
+use Rattle.fib_entries.specs.Following.{IsAbove, TellsChange}
+use Rattle.fib_entries.specs.declared.errors.ChangeError.TheVariants as changes
 use Rattle.fib_control.specs.Controls.{IsBatchNotCrowded, IsNotCrowded, IsTooMuch, TellsBatch, TellsEdit, WantsMore}
 use Rattle.fib_control.specs.declared.errors.ApplyError.{ApplyError}
 use Rattle.fib_control.specs.declared.errors.ApplyError.TheVariants as errors

@@ -13,7 +13,7 @@ use Rattle.fib_follow_features.specs.Holders.{Holders}
 use Rattle.fib_follow_write.specs.Plans.{IsPlan, IsWritten}
 use Rattle.fib_follow_write.specs.declared.writing.Plan.{Plan}
 use Rattle.fib_follow_plan.specs.Made.{plan_of}
-use Rattle.fib_follow_stands.proofs.Rows.{moved_after, stands_after}
+use Rattle.fib_follow_plan.proofs.Rows.{moved_after, stands_after}
 use Rattle.fib_entries.specs.inner.Kept.{AreKept}
 use Rattle.fib_entries.specs.inner.Planned.{HasWritten, IsFrom, IsMadeFor, IsPlanned, IsSize}
 use Rattle.fib_entries.specs.declared.steps.Planned.{Planned}

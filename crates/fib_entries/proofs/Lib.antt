@@ -1,3 +1,4 @@
 pub mod Covering
 pub mod Moving
 pub mod Carrying
+pub mod Follows

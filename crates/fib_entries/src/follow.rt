@@ -5,7 +5,7 @@ ghost use Rattle.fib_resolve.specs.declared.types.Tables.{Tables as TablesValue}
 ghost use Rattle.fib_entries_rows.specs.Changes.{FromBefore, IsFollowed, IsTooMany};
 ghost use Rattle.fib_entries_rows.specs.Known.{prefix_of};
 ghost use Rattle.fib_follow_write.specs.Plans.{IsPlan};
-ghost use Rattle.fib_follow_noted.specs.Noted.{AreTold};
+ghost use Rattle.fib_follow_plan.specs.Noted.{AreTold};
 ghost use Rattle.fib_entries.specs.inner.Planned.{HasWritten, IsFrom, IsPlanned};
 
 use crate::entries::Entries;
@@ -13,7 +13,7 @@ use crate::steps::{Course, Planned, plan_for};
 use fib_config::Config;
 use fib_entries_rows::changes::{FollowError, Followed};
 use fib_follow_looked::are_short;
-use fib_follow_noted::{Renoted, forget_all, note_all};
+use fib_follow_plan::{Renoted, forget_all, note_all};
 use fib_follow_view::Before;
 use fib_follow_write::{Plan, write};
 use fib_resolve_changes::Change;

@@ -33,10 +33,6 @@ picked_differ f test (x ∷ xs) d = elim (either (test x)) [
   | inr isnt ↦ rw isnt (picked_differ f test xs d.1)
 ]
 
-pub map_map : {X Y Z : Type 0} (g : Y → Z) (f : X → Y) (xs : List X) → map g (map f xs) ≡ map (λ x. g (f x)) xs
-map_map g f [] = refl
-map_map g f (x ∷ xs) = ap (λ l. g (f x) ∷ l) (map_map g f xs)
-
 -- of those that differ by f, two that are the same by it are one
 pub one_of : {X Y : Type 0} (f : X → Y) (xs : List X) → AllDiffer (map f xs) → (x y : X) → Contains xs x → Contains xs y → f x ≡ f y → x ≡ y
 one_of f [] d x y c k same = absurd (Contains-nil x c)

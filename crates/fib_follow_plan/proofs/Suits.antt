@@ -28,7 +28,8 @@ use Rattle.fib_follow_write.specs.declared.plan.Edge.{Edge}
 use Rattle.fib_follow_write.specs.declared.plan.Marks.{Marks}
 use Rattle.fib_follow_write.specs.declared.plan.Paired.{Paired}
 use Rattle.fib_follow_plan.specs.Made.{comes, edge_of, goes, has_pairs, is_fresh, leads_in, marks_of, paired_of, plan_of}
-use Rattle.fib_follow_plan.proofs.Picked.{map_map, one_of, picked_differ}
+use Rattle.fib_follow_view.proofs.Told.{map_map}
+use Rattle.fib_follow_plan.proofs.Picked.{one_of, picked_differ}
 
 not_both : (b : Bool) → b ≡ true → not b ≡ true → ⊥
 not_both true is isnt = false≢true isnt
@@ -79,7 +80,7 @@ module _ (rows : List Row) (changed : List Anew) (ordered : IsAscending (map pre
   paired_at : (p : Prefix) → Contains (map paired_prefix (map paired_of (filter has_pairs changed))) p
       → (x : Anew) × Contains changed x × (has_pairs x ≡ true) × (x.prefix ≡ p)
   paired_at p c =
-      let m = map_from anew_prefix (filter has_pairs changed) p (subst (λ l. Contains l p) (map_map paired_prefix paired_of (filter has_pairs changed)) c) in
+      let m = map_from anew_prefix (filter has_pairs changed) p (subst (λ l. Contains l p) (map_map paired_of paired_prefix (filter has_pairs changed)) c) in
       let f = filter_from has_pairs changed m.0 m.1 in
       (m.0, f.0, f.1, m.2)
 
@@ -133,7 +134,7 @@ suits v p ranks bodies x ordered ascend differ =
     record {
       came_once = picked_differ anew_prefix (comes v.before.rows) v.changed all;
       came_new = came_is_new v.before.rows v.changed ordered ascend;
-      paired_once = subst AllDiffer (sym (map_map paired_prefix paired_of (filter has_pairs v.changed))) (picked_differ anew_prefix has_pairs v.changed all);
+      paired_once = subst AllDiffer (sym (map_map paired_of paired_prefix (filter has_pairs v.changed))) (picked_differ anew_prefix has_pairs v.changed all);
       paired_there = paired_is_there v.before.rows v.changed ordered ascend;
       paired_stay = paired_stays v.before.rows v.changed ordered ascend;
       gone_once = picked_differ anew_prefix goes v.changed all;

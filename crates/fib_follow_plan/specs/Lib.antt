@@ -1,1 +1,4 @@
 pub mod Made
+pub mod Noted
+pub mod Stands
+pub mod inner

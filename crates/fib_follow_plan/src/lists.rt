@@ -27,7 +27,7 @@ pub fn see_prefixes(changed: &Blocks<Anew>)
 }
 
 /// Whether the prefix is an entry after the change.
-fn has_pairs(x: &Anew) -> bool
+pub fn has_pairs(x: &Anew) -> bool
     ensures { result ≡ has_pairs x.now }
 {
     match x.pairs.as_slice() {

@@ -49,13 +49,13 @@ use Rattle.fib_follow_write.proofs.Upon.{mapped_names, mapped_ordered, upon_off,
 
 -- fields that changes keep
 
-upon_field : {Y : Type 0} (p : Prefix) (f : Row → Row) (get : Row → Y) → ((r : Row) → get (f r) ≡ get r) → (r : Row) → get (upon p f r) ≡ get r
+pub upon_field : {Y : Type 0} (p : Prefix) (f : Row → Row) (get : Row → Y) → ((r : Row) → get (f r) ≡ get r) → (r : Row) → get (upon p f r) ≡ get r
 upon_field p f get same r = elim (either (same_prefix p r.prefix)) [
   | inl is ↦ ap (λ b. get (if b then f r else r)) is ∙ same r
   | inr isnt ↦ ap (λ b. get (if b then f r else r)) isnt
 ]
 
-changed_field : {X Y : Type 0} (f : X → Row → Row) (get : Row → Y) → ((x : X) (r : Row) → get (f x r) ≡ get r) → (xs : List X) (r : Row)
+pub changed_field : {X Y : Type 0} (f : X → Row → Row) (get : Row → Y) → ((x : X) (r : Row) → get (f x r) ≡ get r) → (xs : List X) (r : Row)
     → get (changed f xs r) ≡ get r
 changed_field f get same [] r = refl
 changed_field f get same (x ∷ xs) r = changed_field f get same xs (f x r) ∙ same x r

@@ -1,5 +1,5 @@
 -- Changes of one row each, as maps over all rows.
-use Rattle.std.proofs.Common.{arith, ◌≡◌, ◌≢◌, ℕ, zero, suc, ◌+◌, ◌<◌, get_or, take, drop, true, false, List, [], ◌∷◌, ◌++◌, map, length, Some, None, Result}
+use Rattle.std.proofs.Common.{arith, ◌≡◌, ◌≢◌, ℕ, zero, suc, ◌+◌, ◌<◌, get_or, take, drop, false, List, [], ◌∷◌, ◌++◌, map, length, Some, None, Result}
 use Rattle.std.proofs.Common.{Ok, Err, inl, inr, refl, sym, ◌∙◌, ap, ap₂, subst, slice_get, if◌then◌else◌}
 use Rattle.std.specs.Prelude.{Contains, OnOk, slice_set}
 use Rattle.std.specs.List.{AllZip}

@@ -6,6 +6,8 @@ mod features;
 #[cfg(test)]
 mod held;
 #[cfg(test)]
+mod looked;
+#[cfg(test)]
 mod sized;
 #[cfg(test)]
 mod steps;

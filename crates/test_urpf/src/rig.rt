@@ -5,8 +5,7 @@ ghost use Rattle.test_urpf.specs.Rigs.{IsRigged};
 
 use fib_commands::{Line, read_line};
 use fib_config::Config;
-use fib_entries::Entries;
-use fib_entries_following::{ChangeError, change_tables};
+use fib_entries::{ChangeError, Entries, change_tables};
 use fib_resolve::Edit;
 use fib_urpf::Urpf;
 use std::alloc::{AllocError, Global};

@@ -17,8 +17,8 @@ use Rattle.fib_follow_told.specs.declared.edges.Edges.{Edges}
 use Rattle.fib_follow_write.specs.Plans.{IsPlan, IsWritten}
 use Rattle.fib_follow_write.specs.declared.writing.Plan.{Plan}
 use Rattle.fib_follow_plan.specs.Made.{plan_of}
-use Rattle.fib_follow_noted.specs.Noted.{AreTold}
-use Rattle.fib_follow_stands.specs.Stands.{IsWorkedOut}
+use Rattle.fib_follow_plan.specs.Noted.{AreTold}
+use Rattle.fib_follow_plan.specs.Stands.{IsWorkedOut}
 use Rattle.fib_entries.specs.declared.steps.Looked.{Looked}
 use Rattle.fib_entries.specs.declared.steps.Planned.{Planned}
 

@@ -1,7 +1,7 @@
 use Rattle.std.proofs.Common.{subst}
 use Rattle.fib_config.proofs.Made.{made_refused}
-use Rattle.fib_entries_following.specs.Following.{TellsChange}
-use Rattle.fib_entries_following.specs.declared.errors.ChangeError.{ChangeError}
+use Rattle.fib_entries.specs.Following.{TellsChange}
+use Rattle.fib_entries.specs.declared.errors.ChangeError.{ChangeError}
 use Rattle.fib_checker.proofs.Checking.{same_ready, too_large}
 use Rattle.fib_checker.proofs.checker.change.Goals as goal
 

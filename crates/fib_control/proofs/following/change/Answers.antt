@@ -6,7 +6,7 @@ use Rattle.fib_stack_queue.specs.Queues.{rank_in}
 use Rattle.fib_stack_queue.specs.declared.order.Queued.{Queued}
 use Rattle.fib_stack_waking.specs.Waking.{is_among}
 use Rattle.fib_stack_waking.proofs.Woken.{among_touched}
-use Rattle.fib_entries_following.specs.Following.{TellsChange}
+use Rattle.fib_entries.specs.Following.{TellsChange}
 use Rattle.fib_control.proofs.Few.{moved_few, touched_few}
 use Rattle.fib_control.proofs.Telling.{accepted}
 use Rattle.fib_control.proofs.following.change.Goals as goal

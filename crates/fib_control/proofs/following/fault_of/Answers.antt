@@ -1,8 +1,8 @@
 use Rattle.std.proofs.Common.{subst}
 use Rattle.std.specs.Prelude.{min}
 use Rattle.fib_config.proofs.Made.{made_refused}
-use Rattle.fib_entries_following.specs.Following.{TellsChange}
-use Rattle.fib_entries_following.specs.declared.errors.ChangeError.{ChangeError}
+use Rattle.fib_entries.specs.Following.{TellsChange}
+use Rattle.fib_entries.specs.declared.errors.ChangeError.{ChangeError}
 use Rattle.fib_control.proofs.Telling.{tells_size}
 use Rattle.fib_control.proofs.following.fault_of.Goals as goal
 

@@ -10,7 +10,7 @@ use Rattle.fib_follow_part.specs.Parts.{in_part}
 use Rattle.fib_follow_told.specs.Told.{AreBodies, AreOthers}
 use Rattle.fib_follow_write.specs.Plans.{IsPlan}
 use Rattle.fib_follow_write.specs.declared.writing.Plan.{Plan}
-use Rattle.fib_follow_noted.specs.Noted.{AreTold}
+use Rattle.fib_follow_plan.specs.Noted.{AreTold}
 use Rattle.fib_entries.specs.inner.Planned.{AreRowsNoted}
 use Rattle.fib_entries.proofs.steps.planned_with.Goals as goal
 
@@ -22,7 +22,7 @@ returns-clause-noted c =
     let v = c.args.view.now in
     let plan = c.in_ok-plan.plan in
     let noted = subst (λ (k : Known). AreRowsNoted k c.args.course.now.features.now) (sym c.requires.same) c.requires.noted in
-    let told = c.in_ok-renoted.ensures c.args.part.now c.args.ranks.now c.in_ok-bodies.bodies c.in_ok-edges.edges noted
+    let told = c.in_ok-renoted.ensures.told c.args.part.now c.args.ranks.now c.in_ok-bodies.bodies c.in_ok-edges.edges noted
     (subst (λ (p : Plan). IsPlan v.before.rows p) c.in_ok-plan.ensures.value c.in_ok-plan.ensures.suits) in
     subst (λ (k : Known). AreTold k.rows k.lists (map prefix_of k.rows) plan c.in_ok-renoted.renoted.items) c.requires.same
     (subst (λ (p : Plan). AreTold v.before.rows v.before.lists (map prefix_of v.before.rows) p c.in_ok-renoted.renoted.items)

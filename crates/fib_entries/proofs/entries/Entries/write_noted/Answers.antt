@@ -1,8 +1,8 @@
 use Rattle.std.proofs.Common.{List, map, sym, subst}
 use Rattle.fib_addr.specs.Prefixes.{Prefix}
 use Rattle.fib_entries_rows.specs.Known.{Known, prefix_of}
-use Rattle.fib_follow_noted.specs.Noted.{AreTold}
-use Rattle.fib_follow_noted.proofs.Keeping.{written_noted}
+use Rattle.fib_follow_plan.specs.Noted.{AreTold}
+use Rattle.fib_follow_plan.proofs.Keeping.{written_noted}
 use Rattle.fib_entries.proofs.Carrying.{kept_of}
 use Rattle.fib_entries.proofs.entries.Entries.write_noted.Goals as goal
 
@@ -34,7 +34,7 @@ invariant_of-self-2 c =
     let noted = c.note_all.ensures.stays lists order rows c.self.invariant.noted in
     record {
       used = written.used;
-      noted = c.forget_all.ensures c.write.new.lists c.write.new.order c.write.new.rows
+      noted = c.forget_all.ensures.stays c.write.new.lists c.write.new.order c.write.new.rows
           (told.full c.write.new.rows c.write.new.lists c.write.new.order written)
           (written_noted rows c.write.new.rows lists c.write.new.lists order c.write.new.order plan list c.note_all.new.features noted
           c.in_ok-note_all.ensures.noted told written);

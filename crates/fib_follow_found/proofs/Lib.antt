@@ -1,4 +1,0 @@
-pub mod Hosting
-pub mod Hopping
-pub mod Othering
-pub mod Ending

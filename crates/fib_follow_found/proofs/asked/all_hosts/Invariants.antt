@@ -1,6 +1,0 @@
-use Rattle.std.proofs.Common.{take}
-use Rattle.fib_follow_found.specs.inner.Hosts.{AreHostsOf}
-use Rattle.fib_follow_found.proofs.asked.all_hosts.Given as goal
-
-abbrev pub invariant-asks : goal.invariant-asks
-invariant-asks l = AreHostsOf l.features (take l.place l.asks) l.out.items

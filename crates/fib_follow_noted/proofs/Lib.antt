@@ -1,6 +1,0 @@
-pub mod Growing
-pub mod Sourcing
-pub mod Planned
-pub mod Merging
-pub mod Telling
-pub mod Keeping

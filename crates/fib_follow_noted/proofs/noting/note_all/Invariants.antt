@@ -1,7 +1,0 @@
-use Rattle.std.proofs.Common.{take}
-use Rattle.fib_follow_noted.specs.Noted.{AreFoundAll}
-use Rattle.fib_follow_noted.proofs.Keeping.{Stays}
-use Rattle.fib_follow_noted.proofs.noting.note_all.Given as goal
-
-abbrev pub invariant-loop-x : goal.invariant-loop-x
-invariant-loop-x l = Stays l.fn.features l.features × AreFoundAll (take l.x-index l.list) l.features
