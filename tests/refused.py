@@ -147,7 +147,7 @@ def refusals(asked, calls):
 def sweep(asked, library, folder, name, told):
     lines, packets = told
     commands, counted = folder / "commands", folder / "counted"
-    commands.write_text("".join(line + "\n" for line in lines))
+    commands.write_text("".join(line + "\n" for line in lines), "latin-1")
     files = [str(commands)]
     if packets:
         (folder / "capture").write_bytes(capture(packets))
@@ -178,7 +178,7 @@ def main():
     parser.add_argument("--commands", nargs="+", default=[])
     asked = parser.parse_args()
     asked.kind = pathlib.Path(asked.program).name
-    files = {name: (pathlib.Path(name).read_text().splitlines(), None) for name in asked.commands}
+    files = {name: (pathlib.Path(name).read_text("latin-1").split("\n"), None) for name in asked.commands}
     with tempfile.TemporaryDirectory() as place:
         folder = pathlib.Path(place)
         library = str(folder / "refused.so")

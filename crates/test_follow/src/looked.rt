@@ -1,4 +1,8 @@
 // A route comes by way of an address that is no entry yet: who is looked at, what is found by features, and what is planned and noted.
+ghost use Rattle.std.specs.Prelude.{IfOk, map};
+ghost use Rattle.fib_cover.specs.Covers.{IsAscending};
+ghost use Rattle.fib_follow_view.specs.Views.{anew_prefix};
+
 use crate::held::HeldRows;
 use crate::steps::{next_hop, recursive_route, route};
 use fib_addr::{Addr, Prefix};
@@ -10,7 +14,7 @@ use fib_follow_looked::{
 };
 use fib_follow_part::{Part, ranks};
 use fib_follow_plan::{
-    Renoted, answered, forget_all, held_ends, hops_after, note_all, others, plan, renoted,
+    answered, forget_all, held_ends, hops_after, note_all, others, plan, renoted,
 };
 use fib_follow_told::{Written, bodies, edges_of};
 use fib_follow_view::{Anew, View};
@@ -26,7 +30,9 @@ fn look(
     held: &HeldRows,
     features: &Features,
     changes: &[Change],
-) -> Result<Blocks<Anew>, Fail> {
+) -> Result<Blocks<Anew>, Fail>
+    ensures { IfOk result (λ l. IsAscending (map anew_prefix l)) }
+{
     if !are_short(changes) {
         return Err("an address that is too long".into());
     }
