@@ -172,7 +172,35 @@ fn planned_with(
     })
 }
 
-/// The same, where the tables after it take so many objects; None where a rank would fall below 0.
+/// The same, where the part has ranks; None where it has none.
+fn planned_by(
+    alloc: Global,
+    course: &Course<'_>,
+    view: &View<'_>,
+    part: &Part,
+    objects: u32,
+) -> Result<Option<Planned>, AllocError>
+    requires same { view.now.before ≡ course.now.before }
+    requires noted { AreRowsNoted course.now.before course.now.features.now }
+    ensures suits { IfOk result (λ o. IfSome o (λ x. IsPlan course.now.before.rows x.plan)) }
+    ensures noted { IfOk result (λ o. IfSome o (IsRenoted course.now.before)) }
+    ensures objects { IfOk result (λ o. IfSome o (λ x. x.objects ≡ objects)) }
+    ensures works { IfOk result (λ o. IfSome o (λ x. (S : TablesValue)
+        → IsFrom course.now.before course.now.changes.now S course.now.after.now.tables
+        → IsAfter view.now S course.now.after.now.tables → IsPart view.now S course.now.after.now.tables part.now
+        → IsMadeFor view.now S course.now.after.now.tables x)) }
+{
+    match ranks(alloc, view, part)? {
+        Some(ranks) => {
+            let planned = planned_with(alloc, course, view, part, ranks.as_slice(), objects)?;
+            Ok(Some(planned))
+        }
+        None => Ok(None),
+    }
+}
+
+/// What is to be written of a change, where the tables after it take so many objects: by the small part where that has ranks, else by the
+/// whole one. None where a rank would fall below 0.
 fn planned_at(
     alloc: Global,
     course: &Course<'_>,
@@ -188,14 +216,13 @@ fn planned_at(
         → IsFrom course.now.before course.now.changes.now S course.now.after.now.tables
         → IsAfter view.now S course.now.after.now.tables → IsMadeFor view.now S course.now.after.now.tables x)) }
 {
-    let part = Part::of(alloc, view)?;
-    match ranks(alloc, view, &part)? {
-        Some(ranks) => {
-            let planned = planned_with(alloc, course, view, &part, ranks.as_slice(), objects)?;
-            Ok(Some(planned))
-        }
-        None => Ok(None),
+    let short = Part::of(alloc, view)?;
+    if let Some(planned) = planned_by(alloc, course, view, &short, objects)? {
+        return Ok(Some(planned));
     }
+    let whole = Part::whole(alloc, view)?;
+    let found = planned_by(alloc, course, view, &whole, objects)?;
+    Ok(found)
 }
 
 /// What is to be written of a change. None where a rank would fall below 0; `TooMany` where the tables after it take more objects than are

@@ -13,7 +13,8 @@ use Rattle.std.proofs.lemmas.Option.{slice_get_within, slice_get-get_or}
 use Rattle.fib_addr.specs.Prefixes.{Prefix, same_prefix}
 use Rattle.fib_addr.proofs.PrefixLaws.{same_prefix-Decides}
 use Rattle.fib_base_list.proofs.Lists.{Contains-nil}
-use Rattle.fib_reach.specs.Walks.{AllDiffer, Among, Next, Walk}
+use Rattle.fib_reach.specs.Walks.{AllDiffer, Among, Leads, Next, Walk}
+use Rattle.fib_reach.proofs.Walking.{edge_leads, leads_then}
 use Rattle.fib_loops.specs.Loops.{AreEdges, IsLooped, IsMarked}
 use Rattle.fib_loops.specs.Loops.{Marked as Marks}
 use Rattle.fib_base_list.proofs.Booleans.{and_both}
@@ -187,7 +188,7 @@ module _ (next : Prefix → List Prefix) (order : List Prefix) where
   pub among_join : (n : ℕ) (edges : List (ℕ × ℕ)) → AreEdgesAmong next order n edges → AreEdges (length order) edges
   among_join n edges are = places_join order edges (λ d c. (let r = (are d).0 c in (slice_get_within order d.0 r.1.0 r.1.2, slice_get_within order d.1 r.1.1 r.1.3)))
 
-  module _ (edges : List (ℕ × ℕ)) (once : AllDiffer order) (closed : (e t : Prefix) → Contains order e → Contains (next e) t → Contains order t) (are : AreEdgesAmong next order (length order) edges) where
+  module _ (edges : List (ℕ × ℕ)) (once : AllDiffer order) (closed : (e t : Prefix) → Contains order e → Contains (next e) t → Leads (Next next) t e → Contains order t) (are : AreEdgesAmong next order (length order) edges) where
     walk_back : (n i j : ℕ) (a b : Prefix) → slice_get order i ≡ Some a → slice_get order j ≡ Some b → Walk (Among edges) n i j → Walk (Next next) n a b
     walk_back zero i j a b at_i at_j w = some_is a b (sym at_i ∙ (ap (slice_get order) w ∙ at_j))
     walk_back (suc n) i j a b at_i at_j w =
@@ -195,18 +196,22 @@ module _ (next : Prefix → List Prefix) (order : List Prefix) where
         let own = some_is r.0 a (sym r.2 ∙ at_i) in
         (r.1, subst (λ z. Contains (next z) r.1) own r.4, walk_back n w.0 j r.1 b r.3 at_j w.2)
 
-    walk_on : (n i j : ℕ) (a b : Prefix) → slice_get order i ≡ Some a → slice_get order j ≡ Some b → Walk (Next next) n a b → Walk (Among edges) n i j
-    walk_on zero i j a b at_i at_j w = once_in order once i j b (at_i ∙ ap Some w) at_j
-    walk_on (suc n) i j a b at_i at_j w =
-        let k = index_of order w.0 (closed a w.0 (contains_at order i a at_i) w.1) in
-        (k.0, (are (i, k.0)).1 (slice_get_within order i a at_i, (a, w.0, at_i, k.1, w.1)), walk_on n k.0 j w.0 b k.1 at_j w.2)
+    -- along a walk whose end leads back to its start
+    walk_on : (n i j : ℕ) (a b : Prefix) → slice_get order i ≡ Some a → slice_get order j ≡ Some b → Leads (Next next) b a → Walk (Next next) n a b → Walk (Among edges) n i j
+    walk_on zero i j a b at_i at_j back w = once_in order once i j b (at_i ∙ ap Some w) at_j
+    walk_on (suc n) i j a b at_i at_j back w =
+        let k = index_of order w.0 (closed a w.0 (contains_at order i a at_i) w.1 (leads_then (Next next) w.0 b a (n, w.2) back)) in (
+          k.0,
+          (are (i, k.0)).1 (slice_get_within order i a at_i, (a, w.0, at_i, k.1, w.1)),
+          walk_on n k.0 j w.0 b k.1 at_j (leads_then (Next next) b a w.0 back (edge_leads (Next next) a w.0 w.1)) w.2,
+        )
 
     pub loops_are : (found : List (Prefix × Prefix)) → AreLoopedEnds order edges found → AreLoops next order found
     loops_are found ends e t there ahead = (
       λ h. (let r = (ends e t).0 h in (r.2.0, walk_back r.2.0 r.0.1 r.0.0 t e r.3.1 r.3.0 r.2.1)),
       λ w. (let i = index_of order e there in
-          let j = index_of order t (closed e t there ahead) in
-          (ends e t).1 ((i.0, j.0), (are (i.0, j.0)).1 (slice_get_within order i.0 e i.1, (e, t, i.1, j.1, ahead)), (w.0, walk_on w.0 j.0 i.0 t e j.1 i.1 w.1), (i.1, j.1))),
+          let j = index_of order t (closed e t there ahead w) in
+          (ends e t).1 ((i.0, j.0), (are (i.0, j.0)).1 (slice_get_within order i.0 e i.1, (e, t, i.1, j.1, ahead)), (w.0, walk_on w.0 j.0 i.0 t e j.1 i.1 (edge_leads (Next next) e t ahead) w.1), (i.1, j.1))),
     )
 
 -- marked edges by their ends

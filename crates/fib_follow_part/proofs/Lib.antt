@@ -1,4 +1,5 @@
 pub mod Searching
+mod Leaving
 pub mod Parting
 pub mod Numbering
 pub mod Fallen

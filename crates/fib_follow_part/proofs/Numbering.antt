@@ -1,9 +1,15 @@
 -- Places in an order as numbers that fall along edges.
-use Rattle.std.proofs.Common.{arith, ◌+◌, ◌≡◌, ℕ, zero, suc, ◌<◌, ◌≤◌, List, [], ◌∷◌, length, inl, inr, refl, sym, ◌∙◌, ap}
-use Rattle.std.specs.Prelude.{Contains, slice_index, slice_index_or}
+use Rattle.std.proofs.Common.{arith, ◌+◌, ◌≡◌, ℕ, zero, suc, ◌<◌, ◌≤◌, Bool, true, false, List, [], ◌∷◌, length, get_or, inl, inr, refl, sym, ◌∙◌, ap}
+use Rattle.std.proofs.Common.{subst}
+use Rattle.std.specs.Prelude.{Contains, filter, slice_index, slice_index_or}
 use Rattle.std.specs.List.{AllByRecursion}
 use Rattle.std.proofs.lemmas.Bool.{cases_eq}
+use Rattle.std.proofs.lemmas.List.Elements.{All-contains}
+use Rattle.std.proofs.lemmas.Option.{slice_get-get_or}
+use Rattle.fib_base_interned.proofs.Finding.{contains_at}
+use Rattle.fib_loops.specs.Loops.{AreEdges}
 use Rattle.fib_reach.proofs.Places.{length-le_from_differ}
+use Rattle.fib_resolve.proofs.Covering.{filter_from}
 use Rattle.fib_resolve_changes.proofs.Edits.{in_front, in_rest}
 use Rattle.fib_entries_rows.proofs.Ranking.{AreRanked}
 
@@ -50,3 +56,28 @@ numbers_below order ranks nodes done h full n (i, lt, is) =
     index_is [] i n lt is = absurd (omega (arith, lt))
     index_is (x ∷ xs) zero n lt is = is
     index_is (x ∷ xs) (suc i) n lt is = index_is xs i n (omega (arith, lt)) is
+
+filter_short : {X : Type 0} (test : X → Bool) (xs : List X) → length (filter test xs) ≤ length xs
+filter_short test [] = omega arith
+filter_short test (x ∷ xs) = by (filter_short test xs) (test x) refl
+  where
+    by : length (filter test xs) ≤ length xs → (b : Bool) → test x ≡ b → length (filter test (x ∷ xs)) ≤ suc (length xs)
+    by le true is = rw is (omega (arith, le))
+    by le false is = rw is (omega (arith, le))
+
+-- a filter that makes a list no shorter leaves all of it
+pub filter_whole : {X : Type 0} (test : X → Bool) (xs : List X) → length (filter test xs) ≡ length xs → filter test xs ≡ xs
+filter_whole test [] same = refl
+filter_whole test (x ∷ xs) same = by (filter_short test xs) (filter_whole test xs) (test x) refl same
+  where
+    by : length (filter test xs) ≤ length xs → (length (filter test xs) ≡ length xs → filter test xs ≡ xs) → (b : Bool) → test x ≡ b
+        → length (filter test (x ∷ xs)) ≡ suc (length xs) → filter test (x ∷ xs) ≡ x ∷ xs
+    by le rest true is = rw is (λ all. ap (λ l. x ∷ l) (rest (omega (arith, all))))
+    by le rest false is = rw is (λ short. absurd (omega (arith, le, short)))
+
+-- edges that are left join nodes
+pub filter_edges : (nodes : ℕ) (test : ℕ × ℕ → Bool) (edges left : List (ℕ × ℕ)) → left ≡ filter test edges → AreEdges nodes edges → AreEdges nodes left
+filter_edges nodes test edges left is all k d lt =
+    let x = get_or left k d in
+    All-contains (λ (e : ℕ × ℕ). (e.0 < nodes) × (e.1 < nodes)) edges x all
+    (filter_from test edges x (subst (λ l. Contains l x) is (contains_at left k x (slice_get-get_or left k d lt)))).0

@@ -44,13 +44,13 @@ module _ (v : Seen) (S T : Tables) (h : IsAfter v S T) (p : Part) (is : IsPart v
   same_list : chosen S e ≡ chosen T e
   same_list = same_chosen S T e h.sound same_entry.pairs
 
-  same_loop : (kind : PathKind) → looped_kind S e kind ≡ looped_kind T e kind
-  same_loop (kinds.Recursive a) = looped_beside S T (is_changed v.changed) (in_part p) h.stands.sound h.sound is.reached e a off
-  same_loop kinds.Drop = refl
-  same_loop kinds.Local = refl
-  same_loop (kinds.Attached i) = refl
-  same_loop (kinds.Hop a i) = refl
-  same_loop kinds.Cover = refl
+  same_loop : (q : Path) → Contains (chosen S e) q → (kind : PathKind) → q.kind ≡ kind → looped_kind S e kind ≡ looped_kind T e kind
+  same_loop q c (kinds.Recursive a) at = looped_beside S T (is_changed v.changed) (in_part p) h.stands.sound h.sound is.reached e q a c at off
+  same_loop q c kinds.Drop at = refl
+  same_loop q c kinds.Local at = refl
+  same_loop q c (kinds.Attached i) at = refl
+  same_loop q c (kinds.Hop a i) at = refl
+  same_loop q c kinds.Cover at = refl
 
   pub loops_stay : looped_row (row_of v.before.rows e) ≡ map (λ q. looped_kind T e q.kind) (chosen T e)
   loops_stay = by (row_of v.before.rows e) refl
@@ -60,7 +60,7 @@ module _ (v : Seen) (S T : Tables) (h : IsAfter v S T) (p : Part) (is : IsPart v
       by (Some r) at = (let t = row_there v.before.rows e r at in
           (h.stands.rows r t.0).looped
           ∙ (ap (λ z. map (λ q. looped_kind S z q.kind) (chosen S z)) (sym t.1)
-          ∙ (map_same (λ q. looped_kind S e q.kind) (λ q. looped_kind T e q.kind) (chosen S e) (λ q c. same_loop q.kind)
+          ∙ (map_same (λ q. looped_kind S e q.kind) (λ q. looped_kind T e q.kind) (chosen S e) (λ q c. same_loop q c q.kind refl)
           ∙ ap (map (λ q. looped_kind T e q.kind)) same_list)))
 
 module _ (v : Seen) (S T : Tables) (h : IsAfter v S T) where

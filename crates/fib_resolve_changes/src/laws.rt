@@ -114,12 +114,12 @@ pub fn untouched_stays()
     ensures back { (S T : Tables) (e : Prefix) → is_touched S T e ≡ false → has_entry T e ≡ true → has_entry S e ≡ true }
 {}
 
-/// Ranks that are lowered in the part to which changed entries lead, and fall there, fall along all edges that are left without looped
-/// paths; outside that part none moves, and no entry of before is raised.
+/// Ranks that are others in the part to which changed entries lead alone, and fall from its entries, fall along all edges that are left
+/// without looped paths, where no entry of before is raised to which an edge leads from beside the part.
 pub fn lowered_ranks_fall()
     ensures { (S T : Tables) (changed part : Prefix → Bool) (old new : Prefix → ℕ) → IsSound S → IsSound T →
         IsReached S T changed part → Falls S old → ((e : Prefix) → part e ≡ false → new e ≡ old e) →
-        ((e : Prefix) → Contains (entries S) e → new e ≤ old e) →
+        ((x e : Prefix) → part x ≡ false → Contains (targets T x) e → Contains (entries S) e → new e ≤ old e) →
         ((e t : Prefix) → part e ≡ true → Kept T e t → new t < new e) → Falls T new }
 {}
 

@@ -76,17 +76,26 @@ fn leads_on(alloc: Global, before: &Before<'_>, view: &View<'_>) -> Result<bool,
     Ok(is_new && has_path && goals.as_slice() == [Some(next_hop())].as_slice())
 }
 
-/// Whether the part is the route with its next hop, and no path of it is looped.
+/// Whether the small part is the route alone, to which nothing leads, and its edge leaves it.
+fn is_small(part: &Part) -> bool {
+    let is_alone = part.members() == [route()].as_slice() && part.is_apart();
+    is_alone && part.left().is_empty() && part.out() == [(0, next_hop())].as_slice()
+}
+
+/// Whether the whole part is the route with its next hop, and no path of it is looped.
 fn is_part(alloc: Global, view: &View<'_>, part: &Part) -> Result<bool, AllocError> {
     let looped = part.looped(alloc, view, route())?;
     let has_both = part.has(route()) && part.has(next_hop()) && part.members().len() == 2;
-    Ok(has_both && looped.as_slice() == [false].as_slice() && part.numbers().len() == 2)
+    let is_whole = has_both && part.out().is_empty() && part.place(next_hop()) == Some(1);
+    Ok(is_whole && looped.as_slice() == [false].as_slice() && part.numbers().len() == 2)
 }
 
 /// Whether ranks were found, of which none is above what a new entry begins with.
 fn are_ranked(alloc: Global, view: &View<'_>, part: &Part) -> Result<bool, AllocError> {
     match ranks(alloc, view, part)? {
-        Some(ranks) => Ok(ranks.len() == 2 && ranks.iter().all(|rank| *rank <= TOP)),
+        Some(ranks) => Ok(
+            ranks.len() == part.members().len() && ranks.iter().all(|rank| *rank <= TOP),
+        ),
         None => Ok(false),
     }
 }
@@ -97,11 +106,14 @@ fn steps_are_right(alloc: Global, config: &Config, held: &HeldRows) -> Result<bo
     let mut changed = Blocks::new(alloc);
     changed.push(route_anew(alloc, config, &before)?)?;
     let view = View::new(held.before(), &changed);
-    let part = Part::of(alloc, &view)?;
+    let small = Part::of(alloc, &view)?;
+    let whole = Part::whole(alloc, &view)?;
     Ok(
         leads_on(alloc, &before, &view)?
-            && is_part(alloc, &view, &part)?
-            && are_ranked(alloc, &view, &part)?
+            && is_small(&small)
+            && are_ranked(alloc, &view, &small)?
+            && is_part(alloc, &view, &whole)?
+            && are_ranked(alloc, &view, &whole)?
             && has_one_pair(alloc, config)?,
     )
 }

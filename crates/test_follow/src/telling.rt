@@ -99,7 +99,7 @@ fn alone(alloc: Global, anew: Anew) -> Result<Blocks<Anew>, AllocError>
 fn comes(alloc: Global, config: &Config, held: &HeldRows) -> Result<bool, Fail> {
     let changed = alone(alloc, route_anew(alloc, config, &held.before())?)?;
     let view = View::new(held.before(), &changed);
-    let part = Part::of(alloc, &view)?;
+    let part = Part::whole(alloc, &view)?;
     let written = Written::of(alloc, &part, &[route()])?;
     let both = written.list().len() == 2 && written.has(route()) && written.has(next_hop());
     let bodies = bodies(alloc, config, &view, &part, written.list())?;

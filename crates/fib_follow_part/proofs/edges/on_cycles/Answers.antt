@@ -9,9 +9,8 @@ pub returns : goal.returns
 returns c =
     let edges = c.args.edges.now in
     let order = c.args.order.now in
-    let m = c.in_ok-marks.marks in
-    let nodes = c.in-Ok.nodes in
-    let all : c.in-Ok-try_from.count ≡ length edges = omega (arith, c.in-Ok-try_from.ensures) in
+    let m = c.args.marks.now in
+    let all : c.in-Ok.count ≡ length edges = omega (arith, c.in-Ok.ensures) in
     IfOk-weaker c.marked.result (λ s. AreMarkedEnds order edges m.looped (length edges) s.keys) (λ s. AreLoopedEnds order edges s.keys)
-    (λ s. looped_ends nodes order edges m s.keys c.in_ok-marks.ensures)
+    (λ s. looped_ends (length order) order edges m s.keys c.requires.marks)
     (subst (λ n. IfOk c.marked.result (λ s. AreMarkedEnds order edges m.looped n s.keys)) all c.marked.ensures)

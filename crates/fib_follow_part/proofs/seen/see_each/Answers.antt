@@ -10,7 +10,7 @@ pub list-preserved : goal.list-preserved
 list-preserved c =
     sees_step c.args.list.now c.list.place c.index-list-place.result c.args.seen.now c.list.seen c.see.new.seen
     (slice_get_read c.args.list.now
-    (length c.args.list.now) c.list.place c.index-list-place.result refl c.list-test.true c.index-list-place.is) c.list.invariant c.in_ok-see.ensures
+    (length c.args.list.now) c.list.place c.index-list-place.result refl c.list-test.true c.index-list-place.is) c.list.invariant c.in_ok-see.ensures.seen
 
 pub returns : goal.returns
 returns c = let over = c.list-test.false in sees_whole c.args.list.now c.list.place c.args.seen.now c.list.seen (omega (arith, over)) c.list.invariant
